@@ -8,23 +8,30 @@ ghost use Rattle.coded_programs.specs.Codes.{code_view};
 
 use crate::code::Code;
 use machine_code::Instr;
-use quick_programs::{QuickParts, QuickProgram};
+use quick_programs::{PlacedParts, QuickProgram};
 use st_words::Kind;
 use std::alloc::{AllocError, Global};
 use std::sync::Arc;
 
 /// Quick code beside these instructions.
 fn quick_beside(
+    alloc: Global,
     instrs: &Arc<Vec<Instr>>,
     kinds: &Arc<Vec<Kind>>,
     extra: usize,
-    parts: QuickParts,
+    placed: PlacedParts,
 ) -> Result<QuickProgram, AllocError>
-    requires { IsAnswering instrs.now.value.items kinds.now.value.items extra parts }
+    requires { IsAnswering instrs.now.value.items kinds.now.value.items extra placed.parts placed.window.items }
     ensures { IfOk result (λ q. (q.instrs ≡ instrs.now.value.items) × (q.kinds ≡ kinds.now.value.items)
         × (q.extra ≡ extra)) }
 {
-    Ok(QuickProgram::new(Arc::clone(instrs)?, Arc::clone(kinds)?, extra, parts))
+    Ok(QuickProgram::new(
+        alloc,
+        Arc::clone(instrs)?,
+        Arc::clone(kinds)?,
+        extra,
+        placed,
+    )?)
 }
 
 impl Code {
@@ -37,11 +44,11 @@ impl Code {
         instrs: Vec<Instr>,
         kinds: Arc<Vec<Kind>>,
         extra: usize,
-        quick: Option<QuickParts>,
+        quick: Option<PlacedParts>,
     ) -> Result<Code, AllocError>
         requires short { length instrs.items ≤ MAX_INSTRUCTIONS }
         requires numbered { length kinds.value.items + extra ≤ MAX_MEMORY }
-        requires quick { IfSome quick (IsAnswering instrs.items kinds.value.items extra) }
+        requires quick { IfSome quick (λ q. IsAnswering instrs.items kinds.value.items extra q.parts q.window.items) }
         ensures code { IfOk result (λ code. code_view code ≡ record {
           instrs = instrs.items;
           kinds = kinds.value.items;
@@ -50,7 +57,7 @@ impl Code {
     {
         let instrs = Arc::new(alloc, instrs)?;
         let quick = match quick {
-            Some(parts) => Some(quick_beside(&instrs, &kinds, extra, parts)?),
+            Some(placed) => Some(quick_beside(alloc, &instrs, &kinds, extra, placed)?),
             None => None,
         };
         Ok(Code {

@@ -1,4 +1,5 @@
 pub mod InputLemmas
 pub mod TrueLemmas
 pub mod CommitLemmas
+pub mod WindowLemmas
 pub mod QuickLemmas

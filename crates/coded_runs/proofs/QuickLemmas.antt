@@ -1,31 +1,39 @@
 -- What a run of quick code leaves is what the run of the instructions did.
-use Rattle.std.proofs.Common.{◌≡◌, ◌+◌, ◌++◌, ◌∷◌, [], ℕ, suc, List, Bool, false, length, map, take}
+use Rattle.std.proofs.Common.{◌≡◌, ◌+◌, ◌++◌, ◌∷◌, [], ℕ, zero, suc, List, Bool, true, false, length, map, take}
 use Rattle.std.proofs.Common.{if◌then◌else◌, refl, ap, sym, subst, ◌∙◌, arith}
 use Rattle.std.proofs.lemmas.List.{length-append, length-replicate}
-use Rattle.std.specs.Prelude.{replicate}
+use Rattle.std.specs.Prelude.{Some, replicate, slice_get}
 use Rattle.st_words.specs.Values.{Datum, datum_of_truth}
 use Rattle.st_types.specs.declared.outcome.Outcome.TheVariants.{Done}
 use Rattle.st_types.specs.Failures.{in_runs}
 use Rattle.machine_code.specs.declared.mark.Mark.{Mark}
-use Rattle.machine_code.specs.Machine.{Ending, finished, failed, runs}
+use Rattle.machine_code.specs.Machine.{Ending, finished, runs}
 use Rattle.machine_code.specs.Endings.{outcome_at_end}
 use Rattle.machine_code.specs.Tracking.{Tracked, tracked, tracking, are_read, are_assigned}
-use Rattle.quick_programs.specs.Quick.{EndsWith, run_of}
+use Rattle.quick_trees.specs.Windows.{IsWindow}
+use Rattle.quick_trees.proofs.Lists.{map_long}
+use Rattle.quick_programs.specs.Quick.{AreIn, EndsWith, run_of}
 use Rattle.coded_programs.specs.Codes.{CodeView}
 use Rattle.run_cells.specs.Cells.{picked}
 use Rattle.coded_runs.specs.Runs.{marked_run, reads_of, unmarked, writes_of}
+use Rattle.coded_runs.specs.Windows.{picked_in}
+use Rattle.coded_runs.proofs.WindowLemmas.{ArePicked, mapped, none_picked, picked_so}
 
 -- what is picked of the first ones hangs on as many marks
-picked_of : (f : Mark → Bool) (ms : List Mark) (k : ℕ) (vs : List Datum)
-    → picked (map f (take (length vs) ms)) k vs ≡ picked (map f ms) k vs
-picked_of f ms k [] = no_values (map f ms) k
+picked_of : (f : Mark → Bool) (ms : List Mark) (n k : ℕ) (vs : List Datum) → length vs ≡ n
+    → picked (map f (take n ms)) k vs ≡ picked (map f ms) k vs
+picked_of f ms n k [] long = no_values (map f (take n ms)) (map f ms) k
   where
-    no_values : (bs : List Bool) (k : ℕ) → picked (map f (take (length {A = Datum} []) ms)) k [] ≡ picked bs k []
-    no_values [] k = refl
-    no_values (b ∷ bs) k = refl
-picked_of f [] k (v ∷ vs) = refl
-picked_of f (m ∷ ms) k (v ∷ vs) =
-    ap (λ cells. if f m then (k, v) ∷ cells else cells) (picked_of f ms (suc k) vs)
+    no_values : (cs bs : List Bool) (k : ℕ) → picked cs k [] ≡ picked bs k []
+    no_values [] [] k = refl
+    no_values [] (b ∷ bs) k = refl
+    no_values (c ∷ cs) [] k = refl
+    no_values (c ∷ cs) (b ∷ bs) k = refl
+picked_of f [] zero k (v ∷ vs) long = absurd (omega arith)
+picked_of f [] (suc n) k (v ∷ vs) long = refl
+picked_of f (m ∷ ms) zero k (v ∷ vs) long = absurd (omega arith)
+picked_of f (m ∷ ms) (suc n) k (v ∷ vs) long =
+    ap (λ cells. if f m then (k, v) ∷ cells else cells) (picked_of f ms n (suc k) vs (omega arith))
 
 -- both runs begin with the same marks
 run_is : (code : CodeView) (now : ℕ) (vs : List Datum) (budget : ℕ)
@@ -37,27 +45,53 @@ run_is code now vs budget =
     ap (λ n. runs tracking in_runs now code.instrs (length code.instrs) []
     (tracked (vs ++ rest) (replicate n unmarked)) budget) long
 
-module _ (vs values : List Datum) (marks : List Mark) (ticks : ℕ) (many : length values ≡ length vs) where
-  pub outcome_told : (e : Ending Tracked) → EndsWith ticks values marks e → Done ≡ outcome_at_end e
-  outcome_told (finished m b) h = refl
-  outcome_told (failed m f) h = absurd h
+module _ (window : List ℕ) (vs begun values : List Datum) (marks : List Mark) (ticks : ℕ)
+    (is_window : IsWindow (length vs) window) (is_in : AreIn window vs begun) (e : Ending Tracked)
+    (h : EndsWith window vs ticks values marks e) where
+  abbrev n : ℕ
+  n = length vs
 
-  pub reads_told : (e : Ending Tracked) → EndsWith ticks values marks e → picked (are_read marks) 0 vs ≡ reads_of e vs
-  reads_told (finished m b) h =
-      ap (λ ms. picked (are_read ms) 0 vs) (sym h.2 ∙ ap (λ n. take n m.marks) many)
-      ∙ picked_of (λ (x : Mark). x.is_read) m.marks 0 vs
-  reads_told (failed m f) h = absurd h
+  abbrev all : List Mark
+  all = take n h.memory.marks
 
-  pub writes_told : (e : Ending Tracked) → EndsWith ticks values marks e
-      → picked (are_assigned marks) 0 values ≡ writes_of e vs
-  writes_told (finished m b) h =
-      ap (λ ms. picked (are_assigned ms) 0 values) (sym h.2)
-      ∙ picked_of (λ (x : Mark). x.is_assigned) m.marks 0 values
-      ∙ ap (picked (are_assigned m.marks) 0) (sym h.1 ∙ ap (λ n. take n m.values) many)
-  writes_told (failed m f) h = absurd h
+  -- slots of the window are picked by their marks, and no others
+  are_picked : (f : Mark → Bool) → f unmarked ≡ false → (slots us : List Datum) → length slots ≡ n
+      → AreIn window slots us → ArePicked 0 (map f all) slots window (map f marks) us
+  are_picked f off slots us long is = record {
+    many = map_long f all ∙ h.marked ∙ sym long;
+    picks = map_long f marks ∙ h.long;
+    values = is.long;
+    from = λ w k at. omega arith;
+    below = λ w k at. (let inside = is_window.inside w k at in omega arith);
+    increasing = is_window.increasing;
+    same = λ w d k at here. (let same : k ≡ d = omega arith in
+        mapped f marks all w d (h.told w k at ∙ ap (slice_get all) same));
+    value = λ w d k at here. (let same : k ≡ d = omega arith in is.each w k at ∙ ap (slice_get slots) same);
+    off = λ d others on.
+        none_picked f off n d
+        (sym (mapped f all (replicate n unmarked) d d (h.stays.marks d (λ w at. others w d at (omega arith)))) ∙ on);
+  }
 
-pub ends_here : (code : CodeView) (now : ℕ) (vs : List Datum) (budget ticks : ℕ) (values : List Datum)
-    (marks : List Mark) → EndsWith ticks values marks (run_of code.instrs code.extra now vs budget)
-    → EndsWith ticks values marks (marked_run code now vs budget)
-ends_here code now vs budget ticks values marks h =
-    subst (EndsWith ticks values marks) (run_is code now vs budget) h
+  pub outcome_told : Done ≡ outcome_at_end e
+  outcome_told = sym (ap outcome_at_end h.is)
+
+  pub reads_told : picked_in window (are_read marks) begun ≡ reads_of e vs
+  reads_told =
+      sym (picked_so (are_read all) vs 0 window (are_read marks) begun
+      (are_picked (λ (x : Mark). x.is_read) refl vs begun refl is_in))
+      ∙ picked_of (λ (x : Mark). x.is_read) h.memory.marks n 0 vs refl
+      ∙ sym (ap (λ e. reads_of e vs) h.is)
+
+  pub writes_told : picked_in window (are_assigned marks) values ≡ writes_of e vs
+  writes_told =
+      sym (picked_so (are_assigned all) (take n h.memory.values) 0 window (are_assigned marks) values
+      (are_picked (λ (x : Mark). x.is_assigned) refl (take n h.memory.values) values h.slots h.left))
+      ∙ picked_of (λ (x : Mark). x.is_assigned) h.memory.marks n 0 (take n h.memory.values) h.slots
+      ∙ sym (ap (λ e. writes_of e vs) h.is)
+
+pub ends_here : (code : CodeView) (now : ℕ) (vs : List Datum) (budget ticks : ℕ) (window : List ℕ)
+    (values : List Datum) (marks : List Mark)
+    → EndsWith window vs ticks values marks (run_of code.instrs code.extra now vs budget)
+    → EndsWith window vs ticks values marks (marked_run code now vs budget)
+ends_here code now vs budget ticks window values marks h =
+    subst (EndsWith window vs ticks values marks) (run_is code now vs budget) h

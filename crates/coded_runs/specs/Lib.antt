@@ -1,4 +1,5 @@
 pub mod Runs
+pub mod Windows
 pub mod Effects
 pub mod Executions
 pub mod Inputs

@@ -5,6 +5,7 @@
 #![tactic(auto)]
 
 mod execution;
+mod gathering;
 mod laws;
 mod memory;
 mod runner;

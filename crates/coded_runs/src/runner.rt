@@ -4,14 +4,16 @@ ghost use Rattle.std.specs.Prelude.{◌≡◌, [], IfOk, IfSome, length, map, re
 ghost use Rattle.st_types.specs.Failures.{in_runs};
 ghost use Rattle.machine_code.specs.Machine.{runs};
 ghost use Rattle.machine_code.specs.Tracking.{are_assigned, are_read, tracking, tracked};
-ghost use Rattle.run_cells.specs.Cells.{cut, picked};
+ghost use Rattle.run_cells.specs.Cells.{cut};
 ghost use Rattle.st_types.specs.declared.outcome.Outcome.TheVariants.{Done};
 ghost use Rattle.slot_machine.specs.Steps.{Ends};
 ghost use Rattle.coded_programs.specs.Codes.{code_view};
 ghost use Rattle.coded_runs.specs.Runs.{EndsAs, IsLong, marked_run, unmarked};
 ghost use Rattle.coded_runs.specs.Executions.{IsEffectOf, IsRunOf, run_of};
+ghost use Rattle.coded_runs.specs.Windows.{picked_in};
 
 use crate::execution::{Execution, Machine};
+use crate::gathering::{reads_in, writes_in};
 use crate::memory::{memory_over, unmarked};
 use crate::snapshot::Snapshot;
 use coded_programs::Code;
@@ -53,15 +55,19 @@ pub struct Ran {
     pub machine: Machine,
 }
 
-/// What a run of quick code did.
-fn told(alloc: Global, slots: &[Value], left: &QuickRun) -> Result<Ran, AllocError>
-    ensures reads { IfOk result (λ ran. map cut ran.reads.items ≡ picked (are_read left.now.marks.items) 0 slots.now) }
+/// What a run of quick code over the slots of a window did.
+fn told(alloc: Global, window: &[usize], left: &QuickRun) -> Result<Ran, AllocError>
+    requires begun { length left.now.begun.items ≡ length window.now }
+    requires values { length left.now.values.items ≡ length window.now }
+    requires marks { length left.now.marks.items ≡ length window.now }
+    ensures reads { IfOk result (λ ran. map cut ran.reads.items
+        ≡ picked_in window.now (are_read left.now.marks.items) left.now.begun.items) }
     ensures writes { IfOk result (λ ran. map cut ran.writes.items
-        ≡ picked (are_assigned left.now.marks.items) 0 left.now.values.items) }
+        ≡ picked_in window.now (are_assigned left.now.marks.items) left.now.values.items) }
     ensures done { IfOk result (λ ran. ran.outcome ≡ Done) }
 {
-    let reads = reads_of(alloc, slots, &left.marks)?;
-    let writes = writes_left(alloc, Outcome::Done, &left.values, &left.marks)?;
+    let reads = reads_in(alloc, window, &left.begun, &left.marks)?;
+    let writes = writes_in(alloc, window, &left.values, &left.marks)?;
     Ok(Ran {
         reads,
         writes,
@@ -89,7 +95,7 @@ fn run_quick(
         return Ok(None);
     };
     match quick.run(alloc, slots, moment, budget)? {
-        Some(left) => Ok(Some(told(alloc, slots, &left)?)),
+        Some(left) => Ok(Some(told(alloc, quick.window(), &left)?)),
         None => Ok(None),
     }
 }

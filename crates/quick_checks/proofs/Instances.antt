@@ -20,6 +20,7 @@ use Rattle.quick_trees.specs.Standing.{InputsGiven, InputsRead, IsCopied, IsGive
 use Rattle.quick_trees.specs.Standing.{OutputsCopied, QuickUnits}
 use Rattle.quick_checks.specs.declared.members.Taken.{Taken}
 use Rattle.quick_checks.specs.Checking.{input_taken, inputs_taken}
+use Rattle.quick_checks.specs.Members.{IsMember}
 
 one_further : (k j : ℕ) → suc k + j ≡ k + suc j
 one_further k j = omega arith
@@ -27,15 +28,23 @@ one_further k j = omega arith
 at_first : (k : ℕ) → k + 0 ≡ k
 at_first k = omega arith
 
--- the types of slots make them the members of a block
-pub members_stand : (f : Frame) (ms : List BlockMember) (k : ℕ)
+-- the types of slots and their words make them the members of a block
+pub members_stand : (f : Frame) (ms : List BlockMember) (k w : ℕ)
     → ((j : ℕ) (t : Kind) → slice_get (map (λ (x : BlockMember). x.1) ms) j ≡ Some t
-    → slice_get f.kinds (k + j) ≡ Some t) → AreMembers f ms k
-members_stand f [] k h = tt
-members_stand f (x ∷ ms) k h = (
-  rw (at_first k) at (h 0 x.1 refl),
-  members_stand f ms (suc k) (λ j t e. rw (one_further k j) (h (suc j) t e)),
-)
+    → IsMember f (k + j) (w + j) t) → AreMembers f ms k w
+members_stand f [] k w h = tt
+members_stand f (x ∷ ms) k w h =
+    let one : IsMember f k w x.1 =
+    subst (λ i. IsMember f i w x.1) (at_first k) (subst (λ v. IsMember f (k + 0) v x.1) (at_first w) (h 0 x.1 refl))
+    in (
+      one.of_type,
+      (
+        one.has,
+        members_stand f ms (suc k) (suc w) (λ j t e.
+            subst (λ i. IsMember f i (suc w + j) t) (sym (one_further k j))
+            (subst (λ v. IsMember f (k + suc j) v t) (sym (one_further w j)) (h (suc j) t e))),
+      ),
+    )
 
 pub change_begins : (change : Noting → Option Noting) (first count : ℕ) (start : List Noting) (k n : ℕ)
     (after : List Noting) → k ≡ first + 0 → n + 0 ≡ count → AllChange change k n start after
@@ -73,27 +82,30 @@ taken_more [] t js = refl
 taken_more (x ∷ ts) t js = ap (λ is. input_taken x ∷ is) (taken_more ts t js)
 
 module _ (f : Frame) (s : Site) (units : QuickUnits) where
-  pub given_next : (at : ℕ) (xs : List Taken) (k j : ℕ) (x : Taken) (slot : ℕ) (p r q : Point) → j ≡ k + 1
-      → slice_get xs k ≡ Some x → slot ≡ at + x.member → IsGiven f s units slot x.kind x.word p r
-      → ((m : ℕ) → j ≤ m → (i : Taken) → slice_get xs m ≡ Some i → i.word ≡ slot → ⊥)
+  pub given_next : (at : ℕ) (xs : List Taken) (k j : ℕ) (x : Taken) (slot to : ℕ) (p r q : Point) → j ≡ k + 1
+      → slice_get xs k ≡ Some x → slot ≡ at + x.member → IsGiven f s units slot x.kind x.word to p r
+      → ((m : ℕ) → j ≤ m → (i : Taken) → slice_get xs m ≡ Some i → i.word ≡ to → ⊥)
       → InputsGiven f s units at (inputs_taken (drop j xs)) r q
       → InputsGiven f s units at (inputs_taken (drop k xs)) p q
-  given_next at [] k j x slot p r q n e is one other rest = absurd (cc)
-  given_next at (y ∷ ys) zero j x slot p r q n e is one other rest =
+  given_next at [] k j x slot to p r q n e is one other rest = absurd (cc)
+  given_next at (y ∷ ys) zero j x slot to p r q n e is one other rest =
       let same : x ≡ y = cc in
       let first : j ≡ 1 = omega arith in
-      let apart = elsewhere ys slot (λ (m : ℕ) (i : Taken). other (suc m) (omega arith) i) in
+      let apart = elsewhere ys to (λ (m : ℕ) (i : Taken). other (suc m) (omega arith) i) in
       subst (λ (z : Taken). InputsGiven f s units at (input_taken z ∷ inputs_taken ys) p q) same (
-        subst (λ k. AreElsewhere k (inputs_taken ys)) is apart,
-        record {
-          middle = r;
-          first = subst (λ k. IsGiven f s units k x.kind x.word p r) is one;
-          second = rw first at rest;
-        },
+        to,
+        (
+          apart,
+          record {
+            middle = r;
+            first = subst (λ k. IsGiven f s units k x.kind x.word to p r) is one;
+            second = rw first at rest;
+          },
+        ),
       )
-  given_next at (y ∷ ys) (suc k) j x slot p r q n e is one other rest =
+  given_next at (y ∷ ys) (suc k) j x slot to p r q n e is one other rest =
       let more : j ≡ suc (k + 1) = omega arith in
-      given_next at ys k (k + 1) x slot p r q refl e is one (λ m le i. other (suc m) (omega arith) i)
+      given_next at ys k (k + 1) x slot to p r q refl e is one (λ m le i. other (suc m) (omega arith) i)
       (rw more at rest)
 
   pub given_over : (at : ℕ) (xs : List Taken) (k : ℕ) (p : Point) → length xs ≤ k

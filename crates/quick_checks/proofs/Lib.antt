@@ -15,3 +15,4 @@ pub mod ChosenArms
 pub mod Instances
 pub mod Given
 pub mod Evaluated
+mod Increasing

@@ -30,6 +30,7 @@ frame_of d now = record {
   ways = d.code.ways.items;
   now = now;
   kinds = d.kinds.items;
+  window = d.window.items;
   constants = d.constants.items;
   size = d.words;
 }
@@ -40,6 +41,7 @@ program_frame p kinds now = record {
   ways = p.code.ways.items;
   now = now;
   kinds = kinds;
+  window = p.window.items;
   constants = p.constants.items;
   size = p.words;
 }

@@ -22,8 +22,8 @@ access_instr (Store from) d word = λ i n count stride. StoreBehind d i n from w
 -- A value of a unit is of a type and has a word, and nothing is known of its note.
 pub record IsReached (f : Frame) (s : Site) (ns : List Noting) (k word : ℕ) (t : Kind) : Type 0 where
   pub of_type : slice_get (kinds_of f s) k ≡ Some t
-  pub own : HasOwnWord s k word
-  pub exact : IsExact s ns k
+  pub own : HasOwnWord f.window s k word
+  pub exact : IsExact s ns word
 
 -- the first subscript leads to an element, and further ones lead on from there
 abbrev pub AreLed : Frame → Site → QuickUnits → Subscripts → ℕ → (ℕ → ℤ → ℕ → ℕ → QuickInstr) → Part

@@ -124,7 +124,7 @@ fn check_function(
     let seats = begin(draft, at, function, read, start)?;
     let kinds = kinds_of(at.alloc, function)?;
     let values = Values::Called(kinds, seats);
-    let result = word_of(&values, function.result)?;
+    let result = word_of(draft, &values, function.result)?;
     let kind = kind_at(draft, &values, function.result)?;
     let inner = Scope { values, calls };
     let last = landing(at)?;

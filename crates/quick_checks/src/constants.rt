@@ -64,7 +64,7 @@ pub fn read_constant(draft: &QuickDraft, literal: &Literal) -> Result<Reading, R
     let mut index = 0;
     while index < draft.constants.len() {
         if draft.constants[index].is(value) {
-            let Some(place) = draft.kinds.len().checked_add(index) else {
+            let Some(place) = draft.window.len().checked_add(index) else {
                 return Err(Refusal::Other);
             };
             return Ok(Reading {

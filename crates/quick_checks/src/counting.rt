@@ -12,8 +12,8 @@ ghost use Rattle.quick_checks.specs.Checking.{Always, exits_of, frame_of, point_
 
 use crate::constants::{Reading, literal_number};
 use crate::cursor::{
-    Cursor, Leg, assign_variable, exits_in_loop, expect, go, goes_back, instr_at, is_assigned,
-    landing, leads, leg_at, mark, pass, passes_back, read_notes,
+    Cursor, Leg, assign, exits_in_loop, expect, go, goes_back, instr_at, is_assigned, landing,
+    leads, leg_at, mark, pass, passes_back, read_notes,
 };
 use crate::draft::{Exits, QuickDraft};
 use crate::expressions::{deeper, temporary};
@@ -67,10 +67,10 @@ fn turns_of(target: Reading, step: &Option<SlotExpr>) -> Result<Turns, Refusal>
 /// Whether no value of the unit that may be assigned has a word.
 fn stays(draft: &QuickDraft, values: &Values, word: u16) -> bool
     ensures { IsTrue result → (now j : ℕ) → j < length (kinds_of (frame_of draft.now now) (site_of values.now))
-        → HasOwnWord (site_of values.now) j word → ⊥ }
+        → HasOwnWord draft.now.window.items (site_of values.now) j word → ⊥ }
 {
     match values {
-        Values::Whole(_) => draft.kinds.len() <= word as usize,
+        Values::Whole(_) => draft.window.len() <= word as usize,
         Values::Called(_, seats) => none_own(seats, word),
     }
 }
@@ -275,7 +275,7 @@ pub fn check_for(
             to: target.word,
         },
     )?;
-    assign_variable(&scope.values, control, at)?;
+    assign(&scope.values, at, target.word)?;
     let first = begins_to_count(draft, at, &turns, kept.word)?;
     if !leads(at, first.way, &behind) {
         return Err(Refusal::Other);
@@ -285,7 +285,7 @@ pub fn check_for(
     let head = mark(at)?;
     let inside = deeper(below)?;
     check_stmts(draft, library, scope, body, inside, &inner, at)?;
-    if !is_assigned(&scope.values, control, at) {
+    if !is_assigned(&scope.values, target.word, at) {
         return Err(Refusal::Other);
     }
     let again = counts(draft, at, &turns, kept.word)?;

@@ -5,19 +5,16 @@ ghost use Rattle.quick_trees.specs.Notes as notes;
 ghost use Rattle.quick_trees.specs.Notes.{Changes, Tells};
 ghost use Rattle.quick_trees.specs.Pieces.{Stands};
 ghost use Rattle.quick_trees.specs.Points.{AreNoted, GoesBack, IsNoted, Joins, Meets, Note, along, next, past_branch};
-ghost use Rattle.slot_trees.specs.SlotEvaluation.{slot_at};
-ghost use Rattle.slot_bodies.specs.ExpressionViews.{anchor_view};
-ghost use Rattle.quick_trees.specs.Sites.{Touches, base_of};
+ghost use Rattle.quick_trees.specs.Sites.{Touches};
 ghost use Rattle.quick_trees.specs.Standing.{IsAssignedAt};
 ghost use Rattle.quick_checks.specs.Checking.{exits_of, frame_of, landing_of, point_of, site_of};
 
 use crate::draft::{Exits, Landing, QuickDraft};
 use crate::refusal::Refusal;
 use crate::same::is_same;
-use crate::scope::{Values, slot_of};
+use crate::scope::Values;
 use quick_code::{QuickInstr, Way};
 use quick_trees::Noting;
-use slot_bodies::Anchor;
 use std::alloc::Global;
 
 /// How far a check has come: a place of the code, how many ticks of what comes are taken there already, and what is known
@@ -276,14 +273,15 @@ pub fn landing(at: &mut Cursor) -> Result<Landing, Refusal>
     }
 }
 
-/// The slot is looked up here.
-pub fn look(values: &Values, at: &mut Cursor, slot: usize) -> Result<(), Refusal>
+/// The value of a word is looked up here.
+pub fn look(values: &Values, at: &mut Cursor, word: u16) -> Result<(), Refusal>
     ensures same { OnOk result (point_of at.new ≡ record (point_of at.old) { noted = at.new.noted.items }) }
     ensures touches { OnOk result
-        (Touches notes.at_look (site_of values.now) slot at.old.noted.items at.new.noted.items) }
+        (Touches notes.at_look (site_of values.now) word at.old.noted.items at.new.noted.items) }
 {
     match values {
         Values::Whole(_) => {
+            let slot = word as usize;
             if slot >= at.noted.len() {
                 return Err(Refusal::Other);
             }
@@ -297,14 +295,15 @@ pub fn look(values: &Values, at: &mut Cursor, slot: usize) -> Result<(), Refusal
     }
 }
 
-/// The slot is assigned here.
-pub fn assign(values: &Values, at: &mut Cursor, slot: usize) -> Result<(), Refusal>
+/// The value of a word is assigned here.
+pub fn assign(values: &Values, at: &mut Cursor, word: u16) -> Result<(), Refusal>
     ensures same { OnOk result (point_of at.new ≡ record (point_of at.old) { noted = at.new.noted.items }) }
     ensures touches { OnOk result
-        (Touches notes.at_assignment (site_of values.now) slot at.old.noted.items at.new.noted.items) }
+        (Touches notes.at_assignment (site_of values.now) word at.old.noted.items at.new.noted.items) }
 {
     match values {
         Values::Whole(_) => {
+            let slot = word as usize;
             if slot >= at.noted.len() {
                 return Err(Refusal::Other);
             }
@@ -426,26 +425,12 @@ pub fn exits_in_body(last: &Landing) -> Result<Exits, Refusal>
     })
 }
 
-/// A variable is assigned here.
-pub fn assign_variable(values: &Values, anchor: Anchor, at: &mut Cursor) -> Result<(), Refusal>
-    ensures same { OnOk result (point_of at.new ≡ record (point_of at.old) { noted = at.new.noted.items }) }
-    ensures touches { OnOk result (Touches notes.at_assignment (site_of values.now)
-        (slot_at (base_of (site_of values.now)) (anchor_view anchor)) at.old.noted.items at.new.noted.items) }
+/// Whether the value of a word is known here to have been assigned.
+pub fn is_assigned(values: &Values, word: u16, at: &Cursor) -> bool
+    ensures { IsTrue result → IsAssignedAt (site_of values.now) word at.now.noted.items }
 {
-    let slot = slot_of(values, anchor)?;
-    assign(values, at, slot)
-}
-
-/// Whether a variable is known here to have been assigned.
-pub fn is_assigned(values: &Values, anchor: Anchor, at: &Cursor) -> bool
-    ensures { IsTrue result → IsAssignedAt (site_of values.now)
-        (slot_at (base_of (site_of values.now)) (anchor_view anchor)) at.now.noted.items }
-{
-    let Ok(slot) = slot_of(values, anchor) else {
-        return false;
-    };
     match values {
-        Values::Whole(_) => match at.noted.get(slot) {
+        Values::Whole(_) => match at.noted.get(word as usize) {
             Some(Noting::Assigned) => true,
             _ => false,
         },

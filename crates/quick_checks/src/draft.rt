@@ -6,11 +6,14 @@ use quick_code::QuickCode;
 use quick_trees::Noting;
 use st_words::{Kind, Value};
 
-/// Quick code of a program, with the types of its slots, the constants that stand behind them, and how many words there
-/// are.
+/// Quick code of a program, with the types of its slots, the slots that have words, in the order of these, the
+/// constants that stand behind them, and how many words there are.
 pub struct QuickDraft {
     pub code: QuickCode,
     pub kinds: Vec<Kind>,
+    pub window: Vec<usize>,
+    /// The word of each slot that has one.
+    pub words_by_slot: Vec<u16>,
     pub constants: Vec<Value>,
     pub words: usize,
 }
@@ -20,6 +23,8 @@ impl Drop for QuickDraft {
         let Self {
             code: _,
             kinds: _,
+            window: _,
+            words_by_slot: _,
             constants: _,
             words: _,
         } = self;
@@ -27,24 +32,27 @@ impl Drop for QuickDraft {
 }
 
 impl QuickDraft {
-    /// The code, the constants, and how many words there are.
-    pub fn into_parts(self) -> (QuickCode, Vec<Value>, usize)
+    /// The code, the slots that have words, the constants, and how many words there are.
+    pub fn into_parts(self) -> (QuickCode, Vec<usize>, Vec<Value>, usize)
         ensures code { result.0 ≡ self.code }
-        ensures constants { result.1 ≡ self.constants }
-        ensures words { result.2 ≡ self.words }
+        ensures window { result.1 ≡ self.window }
+        ensures constants { result.2 ≡ self.constants }
+        ensures words { result.3 ≡ self.words }
     {
         let Self {
             code,
             kinds: _,
+            window,
+            words_by_slot: _,
             constants,
             words,
         } = self;
-        (code, constants, words)
+        (code, window, constants, words)
     }
 }
 
 /// A place of the code where runs come together, how many ticks of what comes they have taken already, and what is known
-/// of the notes of the slots.
+/// of the notes of the slots' words.
 #[derive(Drop)]
 pub struct Landing {
     pub place: usize,

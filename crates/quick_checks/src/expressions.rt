@@ -35,11 +35,11 @@ pub fn read_variable(
 ) -> Result<Reading, Refusal>
     ensures of_type { IfOk result (λ r. (now : ℕ) → slice_get (kinds_of (frame_of draft.now now) (site_of values.now))
         (slot_at (base_of (site_of values.now)) (anchor_view anchor)) ≡ Some r.kind) }
-    ensures has { IfOk result (λ r. HasWord (site_of values.now)
+    ensures has { IfOk result (λ r. HasWord draft.now.window.items (site_of values.now)
         (slot_at (base_of (site_of values.now)) (anchor_view anchor)) r.word) }
     ensures same { OnOk result (point_of at.new ≡ record (point_of at.old) { noted = at.new.noted.items }) }
-    ensures touches { OnOk result (Touches notes.at_look (site_of values.now)
-        (slot_at (base_of (site_of values.now)) (anchor_view anchor)) at.old.noted.items at.new.noted.items) }
+    ensures touches { IfOk result (λ r. Touches notes.at_look (site_of values.now) r.word at.old.noted.items
+        at.new.noted.items) }
 {
     let slot = slot_of(values, anchor)?;
     read_slot(draft, values, slot, at)
@@ -54,14 +54,14 @@ pub fn read_slot(
 ) -> Result<Reading, Refusal>
     ensures of_type { IfOk result (λ r. (now : ℕ)
         → slice_get (kinds_of (frame_of draft.now now) (site_of values.now)) slot ≡ Some r.kind) }
-    ensures has { IfOk result (λ r. HasWord (site_of values.now) slot r.word) }
+    ensures has { IfOk result (λ r. HasWord draft.now.window.items (site_of values.now) slot r.word) }
     ensures same { OnOk result (point_of at.new ≡ record (point_of at.old) { noted = at.new.noted.items }) }
-    ensures touches { OnOk result
-        (Touches notes.at_look (site_of values.now) slot at.old.noted.items at.new.noted.items) }
+    ensures touches { IfOk result (λ r. Touches notes.at_look (site_of values.now) r.word at.old.noted.items
+        at.new.noted.items) }
 {
     let kind = kind_at(draft, values, slot)?;
-    let word = word_of(values, slot)?;
-    look(values, at, slot)?;
+    let word = word_of(draft, values, slot)?;
+    look(values, at, word)?;
     Ok(Reading { kind, word })
 }
 
@@ -115,9 +115,9 @@ fn is_element(
 ) -> bool
     ensures of_type { IsTrue result → (now : ℕ) → slice_get (kinds_of (frame_of draft.now now) (site_of values.now))
         (array.slot + index * array.stride) ≡ Some array.kind }
-    ensures has { IsTrue result → HasOwnWord (site_of values.now) (array.slot + index * array.stride)
-        (array.word + index * array.stride) }
-    ensures exact { IsTrue result → IsExact (site_of values.now) at.now.noted.items (array.slot + index * array.stride) }
+    ensures has { IsTrue result → HasOwnWord draft.now.window.items (site_of values.now)
+        (array.slot + index * array.stride) (array.word + index * array.stride) }
+    ensures exact { IsTrue result → IsExact (site_of values.now) at.now.noted.items (array.word + index * array.stride) }
 {
     let (Some(slot), Some(word)) = (
         element_at(array.slot, index, array.stride),
@@ -125,18 +125,21 @@ fn is_element(
     ) else {
         return false;
     };
-    let (Ok(kind), Ok(own)) = (kind_at(draft, values, slot), own_word_of(values, slot)) else {
+    let (Ok(kind), Ok(own)) = (
+        kind_at(draft, values, slot),
+        own_word_of(draft, values, slot),
+    ) else {
         return false;
     };
-    is_kind(kind, array.kind) && own as usize == word && is_exact(values, &at.noted, slot)
+    is_kind(kind, array.kind) && own as usize == word && is_exact(values, &at.noted, word)
 }
 
-/// Whether nothing is known of the note of a slot.
-pub fn is_exact(values: &Values, noted: &[Noting], slot: usize) -> bool
-    ensures { IsTrue result → IsExact (site_of values.now) noted.now slot }
+/// Whether nothing is known of the note of a word.
+pub fn is_exact(values: &Values, noted: &[Noting], word: usize) -> bool
+    ensures { IsTrue result → IsExact (site_of values.now) noted.now word }
 {
     match values {
-        Values::Whole(_) => match noted.get(slot) {
+        Values::Whole(_) => match noted.get(word) {
             Some(Noting::Exact) => true,
             _ => false,
         },
@@ -161,7 +164,7 @@ pub fn read_elements(
     }
     let first = slot_of(values, anchor)?;
     let kind = kind_at(draft, values, first)?;
-    let word = own_word_of(values, first)?;
+    let word = own_word_of(draft, values, first)?;
     let array = Elements {
         slot: first,
         word,

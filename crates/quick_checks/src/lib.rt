@@ -28,6 +28,7 @@ mod scope;
 mod signs;
 mod statements;
 mod turning;
+mod windows;
 mod within;
 
 pub use constants::{literal_value, number_for};

@@ -12,13 +12,14 @@ ghost use Rattle.quick_trees.specs.Notes.{AllChange};
 ghost use Rattle.quick_trees.specs.Points.{Point};
 ghost use Rattle.quick_trees.specs.Standing.{InputsGiven, IsGiven, OutputsCopied};
 ghost use Rattle.quick_checks.specs.Checking.{Ever, frame_of, inputs_taken, point_of};
+ghost use Rattle.quick_checks.specs.Members.{IsMember};
 
 use crate::constants::Reading;
 use crate::cursor::{Cursor, assign, expect, instr_at, look, read_notes, step};
 use crate::draft::QuickDraft;
 use crate::expressions::{read_slot, variable_of};
 use crate::refusal::Refusal;
-use crate::scope::{Values, is_kind, kind_at, narrow, own_word_of, slot_of};
+use crate::scope::{Values, is_kind, kind_at, narrow, own_word_of, slot_of, word_in};
 use code_drafts::member_count;
 use quick_code::QuickInstr;
 use slot_bodies::SlotArgument;
@@ -49,17 +50,17 @@ pub fn put_taken(inputs: &mut Vec<Taken>, member: usize, read: Reading) -> Resul
 }
 
 /// Whether the input at an index is not in a word.
-fn is_elsewhere(inputs: &[Taken], index: usize, word: usize) -> bool
+fn is_elsewhere(inputs: &[Taken], index: usize, word: u16) -> bool
     ensures { IsTrue result → (i : Taken) → slice_get inputs.now index ≡ Some i → i.word ≡ word → ⊥ }
 {
     match inputs.get(index) {
-        Some(input) => input.word as usize != word,
+        Some(input) => input.word != word,
         None => true,
     }
 }
 
 /// Whether no input from an index on is in a word.
-fn are_elsewhere(inputs: &[Taken], from: usize, word: usize) -> bool
+fn are_elsewhere(inputs: &[Taken], from: usize, word: u16) -> bool
     ensures { IsTrue result → (j : ℕ) → from ≤ j → (i : Taken) → slice_get inputs.now j ≡ Some i → i.word ≡ word → ⊥ }
 {
     let mut index = 0;
@@ -72,26 +73,26 @@ fn are_elsewhere(inputs: &[Taken], from: usize, word: usize) -> bool
     true
 }
 
-/// Finds the instruction that moves a word to a variable which stands in the word of its own slot.
+/// Finds the instruction that moves a word to the word of a variable: that word.
 fn give(
     draft: &QuickDraft,
     values: &Values,
     slot: usize,
     given: Reading,
     at: &mut Cursor,
-) -> Result<(), Refusal>
-    ensures { OnOk result (Ever draft.now values.now (λ f s units. IsGiven f s units slot given.kind given.word
-        (point_of at.old) (point_of at.new))) }
+) -> Result<u16, Refusal>
+    ensures { IfOk result (λ to. Ever draft.now values.now (λ f s units. IsGiven f s units slot given.kind given.word
+        to (point_of at.old) (point_of at.new))) }
 {
     let kind = kind_at(draft, values, slot)?;
-    let to = own_word_of(values, slot)?;
-    if !is_kind(kind, given.kind) || to as usize != slot {
+    let to = own_word_of(draft, values, slot)?;
+    if !is_kind(kind, given.kind) {
         return Err(Refusal::Other);
     }
     let from = given.word;
     expect(draft, at, QuickInstr::Move { from, to })?;
-    assign(values, at, slot)?;
-    Ok(())
+    assign(values, at, to)?;
+    Ok(to)
 }
 
 /// The input at an index.
@@ -126,8 +127,8 @@ pub fn check_given(
             kind: input.kind,
             word: input.word,
         };
-        give(draft, values, slot, given, at)?;
-        if !are_elsewhere(inputs, index + 1, slot) {
+        let to = give(draft, values, slot, given, at)?;
+        if !are_elsewhere(inputs, index + 1, to) {
             return Err(Refusal::Other);
         }
         index += 1;
@@ -173,20 +174,20 @@ fn check_output(
         return Err(Refusal::Other);
     };
     read_notes(draft, at)?;
-    let to = slot_of(values, target)?;
+    let slot = slot_of(values, target)?;
     let read = read_slot(draft, values, from, at)?;
-    give(draft, values, to, read, at)?;
+    let _to = give(draft, values, slot, read, at)?;
     Ok(())
 }
 
-/// Whether slots from one on are of these types.
-fn are_kinds(draft: &QuickDraft, first: usize, kinds: &[Kind]) -> bool
+/// Whether slots from one on are of these types, and their words stand from a word on.
+fn are_kinds(draft: &QuickDraft, first: usize, word: u16, kinds: &[Kind]) -> bool
     ensures { IsTrue result → (k : ℕ) (t : Kind) → slice_get kinds.now k ≡ Some t
-        → slice_get draft.now.kinds.items (first + k) ≡ Some t }
+        → IsMember (frame_of draft.now 0) (first + k) (word + k) t }
 {
     let mut index = 0;
     while index < kinds.len() {
-        if !is_of(draft, first, kinds, index) {
+        if !is_of(draft, first, word, kinds, index) {
             return false;
         }
         index += 1;
@@ -194,32 +195,37 @@ fn are_kinds(draft: &QuickDraft, first: usize, kinds: &[Kind]) -> bool
     true
 }
 
-/// Whether the slot so far behind another one is of the type at an index.
-fn is_of(draft: &QuickDraft, first: usize, kinds: &[Kind], index: usize) -> bool
+/// Whether the slot so far behind another one is of the type at an index, and has the word so far behind another one.
+fn is_of(draft: &QuickDraft, first: usize, word: u16, kinds: &[Kind], index: usize) -> bool
     ensures { IsTrue result → (t : Kind) → slice_get kinds.now index ≡ Some t
-        → slice_get draft.now.kinds.items (first + index) ≡ Some t }
+        → IsMember (frame_of draft.now 0) (first + index) (word + index) t }
 {
-    let (Some(kind), Some(slot)) = (kinds.get(index), first.checked_add(index)) else {
+    let (Some(kind), Some(slot), Some(place)) = (
+        kinds.get(index),
+        first.checked_add(index),
+        (word as usize).checked_add(index),
+    ) else {
         return false;
     };
-    match draft.kinds.get(slot) {
-        Some(there) => is_kind(*there, *kind),
-        None => false,
-    }
+    let (Some(there), Ok(its_word)) = (draft.kinds.get(slot), word_in(draft, slot)) else {
+        return false;
+    };
+    is_kind(*there, *kind) && its_word as usize == place
 }
 
-/// Whether the members of a standard block stand from a slot on.
-fn are_members(draft: &QuickDraft, block: StandardBlock, first: usize) -> bool
+/// Whether the members of a standard block are the slots from one on, and their words stand from a word on.
+fn are_members(draft: &QuickDraft, block: StandardBlock, first: usize, word: u16) -> bool
     ensures { IsTrue result → (now : ℕ)
-        → AreMembers (frame_of draft.now now) (members_of (block_view block)) first }
+        → AreMembers (frame_of draft.now now) (members_of (block_view block)) first word }
 {
     match block {
         StandardBlock::Sr | StandardBlock::Rs | StandardBlock::RTrig | StandardBlock::FTrig => {
-            are_kinds(draft, first, &[Kind::Bool, Kind::Bool, Kind::Bool])
+            are_kinds(draft, first, word, &[Kind::Bool, Kind::Bool, Kind::Bool])
         }
         StandardBlock::Ctu | StandardBlock::Ctd => are_kinds(
             draft,
             first,
+            word,
             &[
                 Kind::Bool,
                 Kind::Bool,
@@ -232,6 +238,7 @@ fn are_members(draft: &QuickDraft, block: StandardBlock, first: usize) -> bool
         StandardBlock::Ton | StandardBlock::Tof | StandardBlock::Tp => are_kinds(
             draft,
             first,
+            word,
             &[
                 Kind::Bool,
                 Kind::Time,
@@ -245,17 +252,17 @@ fn are_members(draft: &QuickDraft, block: StandardBlock, first: usize) -> bool
     }
 }
 
-/// Whether the instruction here steps a standard block on an instance.
-fn steps(draft: &QuickDraft, at: &Cursor, block: StandardBlock, first: usize) -> bool
-    ensures { IsTrue result → slice_get draft.now.code.instrs.items at.now.place ≡ Some (instrs.Step block first) }
+/// Whether the instruction here steps a standard block on an instance whose words stand from one on.
+fn steps(draft: &QuickDraft, at: &Cursor, block: StandardBlock, word: u16) -> bool
+    ensures { IsTrue result → slice_get draft.now.code.instrs.items at.now.place ≡ Some (instrs.Step block word) }
 {
     match instr_at(draft, at.place) {
         Ok(
             QuickInstr::Step {
                 block: there,
-                first: slot,
+                first,
             },
-        ) => is_block(there, block) && slot as usize == first,
+        ) => is_block(there, block) && first == word,
         _ => false,
     }
 }
@@ -277,38 +284,47 @@ pub fn check_step(
     ensures { OnOk result ((now : ℕ)
         → IsStepped (frame_of draft.now now) (block_view block) first (point_of at.old) (point_of at.new)) }
 {
-    if !are_members(draft, block, first) {
+    let word = word_in(draft, first)?;
+    if !are_members(draft, block, first, word) {
         return Err(Refusal::Other);
     }
-    if !steps(draft, at, block, first) {
+    if !steps(draft, at, block, word) {
         return Err(Refusal::Other);
     }
     step(at)?;
     let count = member_count(block);
-    look_all(at, first, count)?;
-    assign_all(at, first, count)?;
+    look_all(at, word, count)?;
+    assign_all(at, word, count)?;
     Ok(())
 }
 
-/// So many slots are looked up here, one after another.
-fn look_all(at: &mut Cursor, first: usize, count: usize) -> Result<(), Refusal>
+/// The word so far behind another one.
+fn word_behind(first: u16, index: usize) -> Result<u16, Refusal>
+    ensures { IfOk result (λ w. w ≡ first + index) }
+{
+    match (first as usize).checked_add(index) {
+        Some(place) => narrow(place),
+        None => Err(Refusal::Other),
+    }
+}
+
+/// The values of so many words are looked up here, one after another.
+fn look_all(at: &mut Cursor, first: u16, count: usize) -> Result<(), Refusal>
     ensures same { OnOk result (point_of at.new ≡ record (point_of at.old) { noted = at.new.noted.items }) }
     ensures looks { OnOk result (AllChange notes.at_look first count at.old.noted.items at.new.noted.items) }
 {
     let slots = Values::Whole(0);
     let mut index = 0;
     while index < count {
-        let Some(slot) = first.checked_add(index) else {
-            return Err(Refusal::Other);
-        };
-        look(&slots, at, slot)?;
+        let word = word_behind(first, index)?;
+        look(&slots, at, word)?;
         index += 1;
     }
     Ok(())
 }
 
-/// So many slots are assigned here, one after another.
-fn assign_all(at: &mut Cursor, first: usize, count: usize) -> Result<(), Refusal>
+/// The values of so many words are assigned here, one after another.
+fn assign_all(at: &mut Cursor, first: u16, count: usize) -> Result<(), Refusal>
     ensures same { OnOk result (point_of at.new ≡ record (point_of at.old) { noted = at.new.noted.items }) }
     ensures assigns { OnOk result
         (AllChange notes.at_assignment first count at.old.noted.items at.new.noted.items) }
@@ -316,10 +332,8 @@ fn assign_all(at: &mut Cursor, first: usize, count: usize) -> Result<(), Refusal
     let slots = Values::Whole(0);
     let mut index = 0;
     while index < count {
-        let Some(slot) = first.checked_add(index) else {
-            return Err(Refusal::Other);
-        };
-        assign(&slots, at, slot)?;
+        let word = word_behind(first, index)?;
+        assign(&slots, at, word)?;
         index += 1;
     }
     Ok(())

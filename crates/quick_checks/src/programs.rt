@@ -9,6 +9,7 @@ ghost use Rattle.quick_trees.specs.declared.noting.Noting.TheVariants.{Exact};
 ghost use Rattle.quick_trees.specs.Points.{along};
 ghost use Rattle.quick_trees.specs.Programs.{IsProgram, beginning};
 ghost use Rattle.quick_trees.specs.QuickMemory as memory;
+ghost use Rattle.quick_trees.specs.Windows.{IsWindow};
 ghost use Rattle.quick_code.specs.declared.quick_instr.QuickInstr.TheVariants as instrs;
 ghost use Rattle.quick_checks.specs.Checking.{frame_of, point_of, program_frame};
 
@@ -17,17 +18,20 @@ use crate::draft::{Landing, QuickDraft};
 use crate::refusal::Refusal;
 use crate::scope::{Scope, Values, narrow};
 use crate::statements::check_stmts;
+use crate::windows::{is_window, words_by_slot};
 use quick_code::{QuickCode, QuickInstr, Way, is_sound};
 use quick_trees::Noting;
 use slot_bodies::{SlotLibrary, SlotStmt};
 use st_words::{Kind, Value};
 use std::alloc::{AllocError, Global};
 
-/// Quick code of a program, with the constants that stand behind its slots.
+/// Quick code of a program, with the slots that have words, in the order of these, and the constants that stand behind
+/// them.
 pub struct DraftedProgram {
     pub code: QuickCode,
+    pub window: Vec<usize>,
     pub constants: Vec<Value>,
-    /// How many words a run has, and notes: those of the slots, the constants, then temporaries.
+    /// How many words a run has, and notes: those of these slots, the constants, then temporaries.
     pub words: usize,
 }
 
@@ -35,6 +39,7 @@ impl Drop for DraftedProgram {
     fn drop(self) {
         let Self {
             code: _,
+            window: _,
             constants: _,
             words: _,
         } = self;
@@ -42,35 +47,41 @@ impl Drop for DraftedProgram {
 }
 
 impl DraftedProgram {
-    /// The code, the constants, and how many words there are.
-    pub fn into_parts(self) -> (QuickCode, Vec<Value>, usize)
+    /// The code, the slots that have words, the constants, and how many words there are.
+    pub fn into_parts(self) -> (QuickCode, Vec<usize>, Vec<Value>, usize)
         ensures code { result.0 ≡ self.code }
-        ensures constants { result.1 ≡ self.constants }
-        ensures words { result.2 ≡ self.words }
+        ensures window { result.1 ≡ self.window }
+        ensures constants { result.2 ≡ self.constants }
+        ensures words { result.3 ≡ self.words }
     {
         let Self {
             code,
+            window,
             constants,
             words,
         } = self;
-        (code, constants, words)
+        (code, window, constants, words)
     }
 
     /// The program, as it is checked.
-    fn into_draft(self, kinds: Vec<Kind>) -> QuickDraft
+    fn into_draft(self, kinds: Vec<Kind>, words_by_slot: Vec<u16>) -> QuickDraft
         ensures code { result.code ≡ self.code }
+        ensures window { result.window ≡ self.window }
         ensures constants { result.constants ≡ self.constants }
         ensures words { result.words ≡ self.words }
         ensures kinds { result.kinds ≡ kinds }
     {
         let Self {
             code,
+            window,
             constants,
             words,
         } = self;
         QuickDraft {
             code,
             kinds,
+            window,
+            words_by_slot,
             constants,
             words,
         }
@@ -79,19 +90,21 @@ impl DraftedProgram {
     /// The program that was checked.
     fn of_draft(draft: QuickDraft) -> DraftedProgram
         ensures code { result.code ≡ draft.code }
+        ensures window { result.window ≡ draft.window }
         ensures constants { result.constants ≡ draft.constants }
         ensures words { result.words ≡ draft.words }
     {
         let parts = draft.into_parts();
         DraftedProgram {
             code: parts.0,
-            constants: parts.1,
-            words: parts.2,
+            window: parts.1,
+            constants: parts.2,
+            words: parts.3,
         }
     }
 }
 
-/// Nothing is known of the notes of so many slots, but that they are exact.
+/// Nothing is known of the notes of so many words, but that they are exact.
 fn exact_notes(alloc: Global, count: usize) -> Result<Vec<Noting>, AllocError>
     ensures { IfOk result (λ v. v.items ≡ replicate count Exact) }
 {
@@ -116,7 +129,7 @@ fn begun(
     Ok(Cursor {
         place: usize::from(way.place),
         ahead: usize::from(way.ticks),
-        noted: exact_notes(alloc, draft.kinds.as_slice().len())?,
+        noted: exact_notes(alloc, draft.window.as_slice().len())?,
         landings,
         alloc,
     })
@@ -124,7 +137,7 @@ fn begun(
 
 /// The end of a program: its last instruction.
 fn end_of(alloc: Global, draft: &QuickDraft) -> Result<Landing, Refusal>
-    ensures exact { IfOk result (λ l. l.noted.items ≡ replicate (length draft.now.kinds.items) Exact) }
+    ensures exact { IfOk result (λ l. l.noted.items ≡ replicate (length draft.now.window.items) Exact) }
     ensures ahead { IfOk result (λ l. l.ahead ≡ 0) }
     ensures ends { IfOk result (λ l. slice_get draft.now.code.instrs.items l.place ≡ Some instrs.End) }
 {
@@ -138,7 +151,7 @@ fn end_of(alloc: Global, draft: &QuickDraft) -> Result<Landing, Refusal>
     Ok(Landing {
         place,
         ahead: 0,
-        noted: exact_notes(alloc, draft.kinds.as_slice().len())?,
+        noted: exact_notes(alloc, draft.window.as_slice().len())?,
     })
 }
 
@@ -146,7 +159,7 @@ fn end_of(alloc: Global, draft: &QuickDraft) -> Result<Landing, Refusal>
 fn first_temporary(draft: &QuickDraft) -> Result<u16, Refusal>
     ensures { IfOk result (λ d. (now : ℕ) → d ≡ memory.first_temporary (frame_of draft.now now)) }
 {
-    let slots = draft.kinds.as_slice().len();
+    let slots = draft.window.as_slice().len();
     let Some(first) = slots.checked_add(draft.constants.as_slice().len()) else {
         return Err(Refusal::Other);
     };
@@ -202,10 +215,15 @@ pub fn checked(
         → IsKeptOf (slot_library_view library.now) whole
         → IsProgram (program_frame p kinds.now now) whole base calls (slot_stmts_view body.now))) }
     ensures sound { IfOk result (λ o. IfSome o (λ p. IsSound p.code p.words p.words)) }
+    ensures window { IfOk result (λ o. IfSome o (λ p. IsWindow (length kinds.now) p.window.items)) }
     ensures same { IfOk result (λ o. IfSome o (λ p. p ≡ program)) }
 {
+    if !is_window(&program.window, kinds.len()) {
+        return Ok(None);
+    }
+    let words_by_slot = words_by_slot(alloc, &program.window, kinds.len())?;
     let kinds = Vec::from_slice(alloc, kinds)?;
-    let draft = program.into_draft(kinds);
+    let draft = program.into_draft(kinds, words_by_slot);
     let mut landings = landings;
     landings.reverse();
     match check_program(alloc, &draft, library, base, calls, body, landings) {

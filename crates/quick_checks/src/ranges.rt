@@ -27,7 +27,7 @@ pub fn constant_of(draft: &QuickDraft, kind: Kind, number: i128) -> Result<u16, 
     while index < draft.constants.len() {
         let value = draft.constants[index];
         if is_kind(value.kind(), kind) && value.number() == number {
-            let Some(place) = draft.kinds.len().checked_add(index) else {
+            let Some(place) = draft.window.len().checked_add(index) else {
                 return Err(Refusal::Other);
             };
             let word = narrow(place)?;

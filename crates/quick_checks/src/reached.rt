@@ -167,10 +167,13 @@ fn is_reached(
     ) else {
         return false;
     };
-    let (Ok(kind), Ok(own)) = (kind_at(draft, values, slot), own_word_of(values, slot)) else {
+    let (Ok(kind), Ok(own)) = (
+        kind_at(draft, values, slot),
+        own_word_of(draft, values, slot),
+    ) else {
         return false;
     };
-    is_kind(kind, array.kind) && own as usize == word && is_exact(values, &at.noted, slot)
+    is_kind(kind, array.kind) && own as usize == word && is_exact(values, &at.noted, word)
 }
 
 /// Whether each value is so to which subscripts may lead from one that is so many behind the first one.

@@ -82,22 +82,41 @@ pub fn seat_at(seats: &[Seat], slot: usize) -> Result<Seat, Refusal>
     }
 }
 
+/// The word of a slot.
+pub fn word_in(draft: &QuickDraft, slot: usize) -> Result<u16, Refusal>
+    ensures { IfOk result (λ w. slice_get draft.now.window.items w ≡ Some slot) }
+{
+    let Some(word) = draft.words_by_slot.get(slot) else {
+        return Err(Refusal::Other);
+    };
+    let word = *word;
+    match draft.window.get(word as usize) {
+        Some(there) => {
+            if *there != slot {
+                return Err(Refusal::Other);
+            }
+            Ok(word)
+        }
+        None => Err(Refusal::Other),
+    }
+}
+
 /// The word of a value.
-pub fn word_of(values: &Values, slot: usize) -> Result<u16, Refusal>
-    ensures { IfOk result (λ w. HasWord (site_of values.now) slot w) }
+pub fn word_of(draft: &QuickDraft, values: &Values, slot: usize) -> Result<u16, Refusal>
+    ensures { IfOk result (λ w. HasWord draft.now.window.items (site_of values.now) slot w) }
 {
     match values {
-        Values::Whole(_) => narrow(slot),
+        Values::Whole(_) => word_in(draft, slot),
         Values::Called(_, seats) => Ok(seat_at(seats, slot)?.word),
     }
 }
 
 /// The word of a value that may be assigned.
-pub fn own_word_of(values: &Values, slot: usize) -> Result<u16, Refusal>
-    ensures { IfOk result (λ w. HasOwnWord (site_of values.now) slot w) }
+pub fn own_word_of(draft: &QuickDraft, values: &Values, slot: usize) -> Result<u16, Refusal>
+    ensures { IfOk result (λ w. HasOwnWord draft.now.window.items (site_of values.now) slot w) }
 {
     match values {
-        Values::Whole(_) => narrow(slot),
+        Values::Whole(_) => word_in(draft, slot),
         Values::Called(_, seats) => {
             let seat = seat_at(seats, slot)?;
             if !seat.is_own {
@@ -112,12 +131,12 @@ pub fn own_word_of(values: &Values, slot: usize) -> Result<u16, Refusal>
 pub fn target_of(draft: &QuickDraft, values: &Values, anchor: Anchor) -> Result<Reading, Refusal>
     ensures of_type { IfOk result (λ r. (now : ℕ) → slice_get (kinds_of (frame_of draft.now now) (site_of values.now))
         (slot_at (base_of (site_of values.now)) (anchor_view anchor)) ≡ Some r.kind) }
-    ensures own { IfOk result (λ r. HasOwnWord (site_of values.now)
+    ensures own { IfOk result (λ r. HasOwnWord draft.now.window.items (site_of values.now)
         (slot_at (base_of (site_of values.now)) (anchor_view anchor)) r.word) }
 {
     let slot = slot_of(values, anchor)?;
     let kind = kind_at(draft, values, slot)?;
-    let word = own_word_of(values, slot)?;
+    let word = own_word_of(draft, values, slot)?;
     Ok(Reading { kind, word })
 }
 

@@ -36,7 +36,7 @@ fn number_at(draft: &QuickDraft, kind: Kind, number: i128) -> Result<u16, Refusa
     let mut index = 0;
     while index < draft.constants.len() {
         if is_number(draft.constants[index], kind, number) {
-            let Some(place) = draft.kinds.len().checked_add(index) else {
+            let Some(place) = draft.window.len().checked_add(index) else {
                 return Err(Refusal::Other);
             };
             let word = narrow(place)?;

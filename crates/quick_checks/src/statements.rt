@@ -15,8 +15,8 @@ use crate::cases::check_case;
 use crate::conditions::check_test;
 use crate::counting::check_for;
 use crate::cursor::{
-    Cursor, assign_variable, exits_in_loop, go, goes_back, is_at, joins, landing, leads, mark,
-    mark_along, pass, passes, read_notes, tick,
+    Cursor, assign, exits_in_loop, go, goes_back, is_at, joins, landing, leads, mark, mark_along,
+    pass, passes, read_notes, tick,
 };
 use crate::draft::{Exits, QuickDraft};
 use crate::expressions::{deeper, element_of, expect_store, read_elements, variable_of};
@@ -163,7 +163,7 @@ fn check_assigned(
     if !is_kind(kind, target.kind) {
         return Err(Refusal::Other);
     }
-    assign_variable(&scope.values, anchor, at)?;
+    assign(&scope.values, at, target.word)?;
     Ok(())
 }
 

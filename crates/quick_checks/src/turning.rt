@@ -29,7 +29,7 @@ fn power_of(places: u8) -> u64
 fn places_of(draft: &QuickDraft, count: Reading) -> Option<u8>
     ensures { IfSome result (λ n. (now : ℕ) → IsNumberAt (frame_of draft.now now) count.kind (pos n) count.word) }
 {
-    let index = (count.word as usize).checked_sub(draft.kinds.len())?;
+    let index = (count.word as usize).checked_sub(draft.window.len())?;
     let value = draft.constants.get(index)?;
     let Ok(places) = u8::try_from(value.number()) else {
         return None;

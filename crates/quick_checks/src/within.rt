@@ -138,7 +138,7 @@ fn check_within(
         (access_instr access depth word)) (point_of at.old) (point_of at.new))) }
 {
     let slot = slot_of(&scope.values, anchor)?;
-    let word = own_word_of(&scope.values, slot)?;
+    let word = own_word_of(draft, &scope.values, slot)?;
     check_led(draft, library, scope, subscripts, depth, word, access, at)?;
     let kind = read_reached(draft, &scope.values, at, slot, word, subscripts)?;
     Ok(kind)

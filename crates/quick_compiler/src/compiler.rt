@@ -6,11 +6,12 @@ ghost use Rattle.slot_bodies.specs.LibraryViews.{IsKeptOf, slot_library_view};
 ghost use Rattle.slot_bodies.specs.StatementViews.{slot_stmts_view};
 ghost use Rattle.quick_code.specs.Soundness.{IsSound};
 ghost use Rattle.quick_trees.specs.Programs.{IsProgram};
+ghost use Rattle.quick_trees.specs.Windows.{IsWindow};
 ghost use Rattle.quick_programs.specs.Quick.{frame_of};
 
 use quick_checks::{DraftedProgram, Landing, checked};
 use quick_drafts::{Landing as Drafted, Program, draft_program};
-use quick_programs::QuickParts;
+use quick_programs::{PlacedParts, QuickParts};
 use slot_bodies::{SlotLibrary, SlotStmt};
 use st_words::Kind;
 use std::alloc::{AllocError, Global};
@@ -33,8 +34,8 @@ fn landings_of(alloc: Global, drafted: Vec<Drafted>) -> Result<Vec<Landing>, All
     Ok(landings)
 }
 
-/// Quick code of a program with its own variables from a slot on, over slots of these types, with calls at most so deep.
-/// None where some part has none.
+/// Quick code of a program with its own variables from a slot on, over slots of these types, with calls at most so deep:
+/// over a window of the slots that it names. None where some part has none.
 ///
 /// The code is drafted, and then it is checked against the program: a draft that is not found to stand for it is none.
 ///
@@ -46,12 +47,15 @@ pub fn compile(
     base: usize,
     calls: u16,
     body: &[SlotStmt],
-) -> Result<Option<QuickParts>, AllocError>
+) -> Result<Option<PlacedParts>, AllocError>
     ensures stands { IfOk result (λ o. IfSome o (λ p. (whole : tree.SlotLibrary)
         → IsKeptOf (slot_library_view library.now) whole
-        → (now : ℕ) → IsProgram (frame_of p kinds.now now) whole base calls (slot_stmts_view body.now))) }
-    ensures sound { IfOk result (λ o. IfSome o (λ p. IsSound p.code p.words p.words)) }
-    ensures room { IfOk result (λ o. IfSome o (λ p. length kinds.now + length p.constants.items ≤ p.words)) }
+        → (now : ℕ) → IsProgram (frame_of p.parts p.window.items kinds.now now) whole base calls
+        (slot_stmts_view body.now))) }
+    ensures sound { IfOk result (λ o. IfSome o (λ p. IsSound p.parts.code p.parts.words p.parts.words)) }
+    ensures window { IfOk result (λ o. IfSome o (λ p. IsWindow (length kinds.now) p.window.items)) }
+    ensures room { IfOk result (λ o. IfSome o (λ p. length p.window.items + length p.parts.constants.items
+        ≤ p.parts.words)) }
 {
     let calls = usize::from(calls);
     let program = Program {
@@ -64,24 +68,26 @@ pub fn compile(
     let Some(draft) = draft_program(alloc, program)? else {
         return Ok(None);
     };
-    let (code, constants, words, landings) = draft.into_parts();
-    if constants.len() > words || kinds.len() > words - constants.len() {
+    let (code, window, constants, words, landings) = draft.into_parts();
+    if constants.len() > words || window.len() > words - constants.len() {
         return Ok(None);
     }
     let landings = landings_of(alloc, landings)?;
     let drafted = DraftedProgram {
         code,
+        window,
         constants,
         words,
     };
     match checked(alloc, drafted, kinds, library, base, calls, body, landings)? {
         Some(program) => {
-            let (code, constants, words) = program.into_parts();
-            Ok(Some(QuickParts {
+            let (code, window, constants, words) = program.into_parts();
+            let parts = QuickParts {
                 code,
                 constants,
                 words,
-            }))
+            };
+            Ok(Some(PlacedParts { parts, window }))
         }
         None => Ok(None),
     }

@@ -8,7 +8,7 @@ use crate::reading::put_read;
 use crate::spot::Spot;
 use crate::statements::{Exits, put_stmts};
 use crate::stop::Stop;
-use crate::unit::{Unit, Values, narrow};
+use crate::unit::{Unit, Values};
 use quick_code::QuickInstr;
 use slot_bodies::{Anchor, BlockCode, SlotArgument};
 use st_names::StandardBlock;
@@ -21,10 +21,11 @@ pub struct Invocation<'a> {
     pub arguments: &'a [SlotArgument],
 }
 
-/// An input that was read: the slot of its member, and the word that has its value.
+/// An input that was read: the slot of its member and the word of that, and the word that has its value.
 #[derive(Clone, Copy)]
 struct Input {
     slot: usize,
+    to: u16,
     word: u16,
 }
 
@@ -90,7 +91,8 @@ fn put_inputs(
                 return Err(Stop::NotCovered);
             }
             let word = kept(draft, &inputs, read.word, place)?;
-            inputs.push(Input { slot, word })?;
+            let to = unit.own_word_of(slot)?;
+            inputs.push(Input { slot, to, word })?;
         }
     }
     Ok(inputs)
@@ -100,7 +102,7 @@ fn put_inputs(
 fn kept(draft: &mut Draft, inputs: &[Input], word: u16, spot: Spot) -> Result<u16, Stop> {
     let mut is_given = false;
     for input in inputs {
-        if input.slot == word as usize {
+        if input.to == word {
             is_given = true;
         }
     }
@@ -116,7 +118,7 @@ fn kept(draft: &mut Draft, inputs: &[Input], word: u16, spot: Spot) -> Result<u1
 fn give(unit: Unit, draft: &mut Draft, slot: usize, word: u16) -> Result<(), Stop> {
     draft.sheet.put(QuickInstr::Move {
         from: word,
-        to: narrow(slot)?,
+        to: unit.own_word_of(slot)?,
     })?;
     draft.assign(unit, Anchor::Absolute(slot))
 }
@@ -164,7 +166,7 @@ fn put_step(unit: Unit, draft: &mut Draft, block: StandardBlock, first: usize) -
     let count = member_count(block)?;
     draft.sheet.put(QuickInstr::Step {
         block,
-        first: narrow(first)?,
+        first: unit.own_word_of(first)?,
     })?;
     for member in 0..count {
         draft.look(unit, member_at(first, member)?)?;
@@ -189,8 +191,8 @@ fn copy_outputs(
             };
             let from = member_at(first, *member)?;
             let to = unit.slot_of(target)?;
-            draft.note_look(from)?;
-            draft.note_assignment(to)?;
+            draft.note_look(unit.own_word_of(from)?)?;
+            draft.note_assignment(unit.own_word_of(to)?)?;
             let read = read_variable(unit, draft, Anchor::Absolute(from))?;
             if read.kind != unit.kind_at(to)? {
                 return Err(Stop::NotCovered);
@@ -216,14 +218,14 @@ pub fn note_invocation(
     }
     for argument in invocation.arguments {
         if let SlotArgument::Given(member, _) = argument {
-            draft.note_assignment(member_at(first, *member)?)?;
+            draft.note_assignment(unit.own_word_of(member_at(first, *member)?)?)?;
         }
     }
     if let BlockCode::Standard(block) = invocation.block {
         for member in 0..member_count(block)? {
-            let slot = member_at(first, member)?;
-            draft.note_look(slot)?;
-            draft.note_assignment(slot)?;
+            let word = unit.own_word_of(member_at(first, member)?)?;
+            draft.note_look(word)?;
+            draft.note_assignment(word)?;
         }
     }
     Ok(())

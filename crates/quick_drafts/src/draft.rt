@@ -86,16 +86,21 @@ impl Draft {
         }
     }
 
-    /// No code, of a program with so many slots and these constants at least.
-    pub fn new(alloc: Global, slots: usize, constants: Vec<Value>) -> Result<Draft, Stop> {
-        let Some(words) = slots.checked_add(constants.len()) else {
+    /// No code, of a program that names so many of so many slots, with these constants at least.
+    pub fn new(
+        alloc: Global,
+        named: usize,
+        slots: usize,
+        constants: Vec<Value>,
+    ) -> Result<Draft, Stop> {
+        let Some(words) = named.checked_add(constants.len()) else {
             return Err(Stop::NotCovered);
         };
         Ok(Draft {
             alloc,
             sheet: Sheet::new(alloc, words),
             constants,
-            known: Known::new(alloc, slots, Noting::Exact)?,
+            known: Known::new(alloc, named, Noting::Exact)?,
             outs: Vec::new(alloc),
             backs: Vec::new(alloc),
             promises: Vec::new(alloc),
@@ -108,7 +113,7 @@ impl Draft {
     /// The word of a constant.
     pub fn constant(&mut self, unit: Unit, value: Value) -> Result<u16, Stop> {
         let place = constant_at(&mut self.constants, value)?;
-        match unit.kinds.len().checked_add(place) {
+        match unit.window.count().checked_add(place) {
             Some(word) => narrow(word),
             None => Err(Stop::NotCovered),
         }
@@ -178,23 +183,19 @@ impl Draft {
     }
 
     /// A look that comes is noted, unless it is known.
-    pub fn note_look(&mut self, slot: usize) -> Result<(), Stop> {
-        if let Some(noting) = self.known.at(slot)?.with_look_ahead() {
-            self.sheet.put(QuickInstr::NoteRead {
-                word: narrow(slot)?,
-            })?;
-            self.known.set(slot, noting)?;
+    pub fn note_look(&mut self, word: u16) -> Result<(), Stop> {
+        if let Some(noting) = self.known.at(word as usize)?.with_look_ahead() {
+            self.sheet.put(QuickInstr::NoteRead { word })?;
+            self.known.set(word as usize, noting)?;
         }
         Ok(())
     }
 
     /// The same of an assignment.
-    pub fn note_assignment(&mut self, slot: usize) -> Result<(), Stop> {
-        if let Some(noting) = self.known.at(slot)?.with_assignment_ahead() {
-            self.sheet.put(QuickInstr::NoteWritten {
-                word: narrow(slot)?,
-            })?;
-            self.known.set(slot, noting)?;
+    pub fn note_assignment(&mut self, word: u16) -> Result<(), Stop> {
+        if let Some(noting) = self.known.at(word as usize)?.with_assignment_ahead() {
+            self.sheet.put(QuickInstr::NoteWritten { word })?;
+            self.known.set(word as usize, noting)?;
         }
         Ok(())
     }
@@ -204,10 +205,11 @@ impl Draft {
         if self.is_lost || !unit.is_noted() {
             return Ok(());
         }
-        let noting = self.known.at(slot)?;
+        let word = unit.word_of(Anchor::Absolute(slot))? as usize;
+        let noting = self.known.at(word)?;
         match noting.at_look() {
             Some(looked) if looked == noting => Ok(()),
-            Some(looked) => self.known.set(slot, looked),
+            Some(looked) => self.known.set(word, looked),
             None => Err(Stop::NotCovered),
         }
     }
@@ -217,11 +219,11 @@ impl Draft {
         if self.is_lost || !unit.is_noted() {
             return Ok(());
         }
-        let slot = unit.slot_of(anchor)?;
-        let noting = self.known.at(slot)?;
+        let word = unit.word_of(anchor)? as usize;
+        let noting = self.known.at(word)?;
         match noting.at_assignment() {
             Some(assigned) if assigned == noting => Ok(()),
-            Some(assigned) => self.known.set(slot, assigned),
+            Some(assigned) => self.known.set(word, assigned),
             None => Err(Stop::NotCovered),
         }
     }

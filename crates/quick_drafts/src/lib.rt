@@ -31,6 +31,7 @@ mod survey;
 mod touch;
 mod turning;
 mod unit;
+mod windows;
 mod within;
 
 pub use programs::{Drafted, Landing, Program, draft_program};

@@ -8,7 +8,7 @@ use crate::survey::{Turns, survey_turns};
 use crate::touch::Touch;
 use crate::unit::Unit;
 use quick_trees::Noting;
-use slot_bodies::{Place, SlotExpr, SlotStmt};
+use slot_bodies::{Anchor, Place, SlotExpr, SlotStmt};
 
 /// Notes what an expression looks up.
 #[cycle(note)]
@@ -24,7 +24,7 @@ pub fn note_looks(
         SlotExpr::Load(place) => {
             note_subscripts(unit, draft, place, levels)?;
             if place.subscripts.is_empty() && unit.is_noted() {
-                draft.note_look(unit.slot_of(place.anchor)?)?;
+                draft.note_look(unit.word_of(place.anchor)?)?;
             }
         }
         SlotExpr::Compute(_, arguments) | SlotExpr::Call(_, arguments) => {
@@ -71,7 +71,7 @@ pub fn note_statement(
             note_looks(unit, draft, value, levels)?;
             note_subscripts(unit, draft, place, levels)?;
             if place.subscripts.is_empty() {
-                draft.note_assignment(unit.slot_of(place.anchor)?)?;
+                draft.note_assignment(unit.word_of(place.anchor)?)?;
             }
         }
         SlotStmt::If(arms, _) => {
@@ -88,7 +88,7 @@ pub fn note_statement(
         } => {
             note_looks(unit, draft, start, levels)?;
             note_looks(unit, draft, limit, levels)?;
-            draft.note_assignment(unit.slot_of(*control)?)?;
+            draft.note_assignment(unit.word_of(*control)?)?;
         }
         SlotStmt::While(condition, _) => note_looks(unit, draft, condition, levels)?,
         SlotStmt::Invoke(instance, block, arguments) => {
@@ -110,19 +110,20 @@ pub fn note_turns(unit: Unit, draft: &mut Draft, turns: Turns, levels: usize) ->
         return Ok(());
     }
     for touch in &survey_turns(unit, &mut draft.survey, turns, levels)? {
-        note_touch(draft, touch.slot, touch.state)?;
+        let word = unit.word_of(Anchor::Absolute(touch.slot))?;
+        note_touch(draft, word, touch.state)?;
     }
     Ok(())
 }
 
-fn note_touch(draft: &mut Draft, slot: usize, touch: Touch) -> Result<(), Stop> {
-    let is_exact = draft.known.at(slot)? == Noting::Exact;
+fn note_touch(draft: &mut Draft, word: u16, touch: Touch) -> Result<(), Stop> {
+    let is_exact = draft.known.at(word as usize)? == Noting::Exact;
     if is_exact && touch.looks() {
-        draft.note_look(slot)?;
+        draft.note_look(word)?;
     }
     let is_first = touch == Touch::LookedThenAssigned || touch == Touch::Assigned;
     if touch.assigns() && (is_first || !is_exact) {
-        draft.note_assignment(slot)?;
+        draft.note_assignment(word)?;
     }
     Ok(())
 }

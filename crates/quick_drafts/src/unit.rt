@@ -1,6 +1,7 @@
 //! Units of a program, and where their values stand.
 
 use crate::stop::Stop;
+use crate::windows::Window;
 use slot_bodies::{Anchor, SlotFunction, SlotLibrary, SlotStmt};
 use st_words::Kind;
 
@@ -33,6 +34,8 @@ pub struct Unit<'a> {
     pub library: &'a SlotLibrary,
     /// The types of all slots.
     pub kinds: &'a [Kind],
+    /// The slots that have words.
+    pub window: &'a Window,
     pub values: &'a Values,
     /// How deep its calls may be.
     pub calls: usize,
@@ -75,7 +78,7 @@ impl<'a> Unit<'a> {
     pub fn seat_at(self, slot: usize) -> Result<Seat, Stop> {
         match self.values {
             Values::Whole(_) => Ok(Seat {
-                word: narrow(slot)?,
+                word: self.window.word_of(slot)?,
                 is_own: true,
             }),
             Values::Called(_, seats) => match seats.get(slot) {
@@ -95,10 +98,16 @@ impl<'a> Unit<'a> {
         }
     }
 
+    /// The word of the value that an anchor means.
+    pub fn word_of(self, anchor: Anchor) -> Result<u16, Stop> {
+        let slot = self.slot_of(anchor)?;
+        Ok(self.seat_at(slot)?.word)
+    }
+
     /// Whether a statement of the unit may assign a word.
     pub fn may_assign(self, word: u16) -> bool {
         match self.values {
-            Values::Whole(_) => (word as usize) < self.kinds.len(),
+            Values::Whole(_) => (word as usize) < self.window.count(),
             Values::Called(_, seats) => {
                 for seat in seats {
                     if seat.is_own && seat.word == word {

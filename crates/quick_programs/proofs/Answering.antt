@@ -25,7 +25,8 @@ use Rattle.quick_trees.specs.QuickMemory.{Ends, Frame, first_temporary}
 use Rattle.quick_trees.specs.Sites.{IsMemory, whole}
 use Rattle.quick_trees.proofs.Lists.{map_long, replicate_long}
 use Rattle.quick_programs.specs.declared.parts.QuickParts.{QuickParts}
-use Rattle.quick_programs.specs.Quick.{AnswersFor, HasEnded, begun, frame_of, kinds_of, run_of, unmarked}
+use Rattle.quick_trees.specs.Windows.{StaysOutside}
+use Rattle.quick_programs.specs.Quick.{AnswersFor, HasEnded, frame_of, kinds_of, run_of, unmarked, unmarked_slots}
 
 -- so many and so many equal ones
 replicate_both : {A : Type 0} (n k : ℕ) (v : A) → replicate (n + k) v ≡ replicate n v ++ replicate k v
@@ -41,7 +42,7 @@ told_of f base at m t exact is = record {
   room = is.room;
   long = is.long;
   values = is.values;
-  marks = subst (λ ns. AreTrueOf ns t.marks m.notes) exact is.marks;
+  marks = subst (λ ns. AreTrueOf f.window ns t.marks m.notes) exact is.marks;
 }
 
 of_base : (f : Frame) (base : ℕ) (m : Memory) (t : Tracked) → IsMemory f (whole 0) (beginning f) m t
@@ -49,9 +50,10 @@ of_base : (f : Frame) (base : ℕ) (m : Memory) (t : Tracked) → IsMemory f (wh
 of_base f base m t is = record { room = is.room; long = is.long; values = is.values; marks = is.marks }
 
 -- A program that ends as a run of quick code, and a run of instructions that ends as the program.
-ended : (f : Frame) (base n : ℕ) (e : Left) (o : Result (MarkedEnd × ℕ) Fault) (r : Ending Tracked)
-    → EndsAs f base o e → MarkedEndsSo n o r → HasEnded f n e r
-ended f base n e (Ok x) (finished m b) tells so =
+ended : (f : Frame) (base : ℕ) (vs : List Datum) (e : Left) (o : Result (MarkedEnd × ℕ) Fault) (r : Ending Tracked)
+    → EndsAs f base (unmarked_slots vs) o e → MarkedEndsSo (length vs) o r → HasEnded f vs e r
+ended f base vs e (Ok x) (finished m b) tells so =
+    let n = length vs in
     let same : x ≡ (tells.end, e.ticks) = cc in
     let state = state_of tells.end in
     let values : take n m.values ≡ state.values = so.1 ∙ ap (λ (y : MarkedEnd × ℕ). (state_of y.0).values) same in
@@ -61,11 +63,14 @@ ended f base n e (Ok x) (finished m b) tells so =
       is = ap (finished m) ticks;
       told = subst (λ (t : Tracked). IsMemory f (whole 0) (beginning f) e.memory t)
           (ap₂ tracked (sym values) (sym marks)) (told_of f base tells.at e.memory state tells.exact tells.is);
+      stays = subst (λ (t : Tracked). StaysOutside f.window (unmarked_slots vs) t) (ap₂ tracked (sym values) (sym
+          marks))
+          tells.stays;
       marks = ap length so.2 ∙ so.3;
     }
-ended f base n e (Ok x) (failed m g) tells so = absurd so
-ended f base n e (Err g) (finished m b) tells so = absurd so
-ended f base n e (Err g) (failed m h) tells so =
+ended f base vs e (Ok x) (failed m g) tells so = absurd so
+ended f base vs e (Err g) (finished m b) tells so = absurd so
+ended f base vs e (Err g) (failed m h) tells so =
     (let wrong : Err g ≡ Ok (tells.end, e.ticks) = tells.gives in absurd cc)
 
 -- the law of quick code, and that of instructions
@@ -74,7 +79,7 @@ QuickLaw =
     (stand_ins : StandIns) (library : SlotLibrary) (base calls depth budget : ℕ) (body : SlotStmts) (f : Frame)
     (m : Memory) (t : Tracked) (e : Left) → IsProgram f library base calls body → calls ≤ depth
     → IsMemory f (whole base) (beginning f) m t → Ends f 0 m budget e
-    → EndsAs f base (marked_ran stand_ins library base body f.now depth t budget) e
+    → EndsAs f base t (marked_ran stand_ins library base body f.now depth t budget) e
 
 abbrev pub MarkedLaw : Type 0
 MarkedLaw =
@@ -86,15 +91,15 @@ MarkedLaw =
     (runs tracking stand_ins now code (length code) [] (tracked (vs ++ rest) (marks ++ others)) budget)
 
 module _ (quick : QuickLaw) (marked : MarkedLaw) (library : SlotLibrary) (base calls depth extra : ℕ)
-    (body : SlotStmts) (kinds : List Kind) (p : QuickParts)
-    (stands : (now : ℕ) → IsProgram (frame_of p kinds now) library base calls body)
-    (room : first_temporary (frame_of p kinds 0) ≤ p.words)
+    (body : SlotStmts) (kinds : List Kind) (p : QuickParts) (window : List ℕ)
+    (stands : (now : ℕ) → IsProgram (frame_of p window kinds now) library base calls body)
+    (room : first_temporary (frame_of p window kinds 0) ≤ p.words)
     (fits : ProgramFits (length kinds + extra) library base (length kinds) body depth) where
   abbrev code_over : ℕ → List Instr
   code_over n = program_code library base n body depth
 
   -- the run of instructions over values of the types
-  module _ (now budget : ℕ) (vs : List Datum) (e : Left) (typed : kinds_of vs ≡ kinds) where
+  module _ (now budget : ℕ) (vs : List Datum) (memory : Memory) (e : Left) (typed : kinds_of vs ≡ kinds) where
     as_many : length kinds ≡ length vs
     as_many = ap length (sym typed) ∙ map_long (λ (v : Datum). v.kind) vs
 
@@ -122,15 +127,20 @@ module _ (quick : QuickLaw) (marked : MarkedLaw) (library : SlotLibrary) (base c
         (runs tracking in_runs now (code_over (length vs)) (length (code_over (length vs))) []
         (tracked (vs ++ rest) ms) budget)) (sym (replicate_both (length vs) extra unmarked)) whole_run)
 
-    pub has_ended : let f = frame_of p kinds now in
-        IsMemory f (whole 0) (beginning f) (begun p vs) (tracked vs marks)
-        → EndsWell p.code.instrs.items p.code.ways.items now 0 (begun p vs) budget e
-        → HasEnded f (length vs) e (run_of (code_over (length kinds)) extra now vs budget)
+    pub has_ended : let f = frame_of p window kinds now in
+        IsMemory f (whole 0) (beginning f) memory (unmarked_slots vs)
+        → EndsWell p.code.instrs.items p.code.ways.items now 0 memory budget e
+        → HasEnded f vs e (run_of (code_over (length kinds)) extra now vs budget)
     has_ended is runs =
-        let f = frame_of p kinds now in
-        ended f base (length vs) e _ _
-        (quick in_runs library base calls (calls + depth) budget body f (begun p vs) (tracked vs marks) e (stands now)
-        (omega arith) (of_base f base (begun p vs) (tracked vs marks) is) runs) ends_so
+        let f = frame_of p window kinds now in
+        ended f base vs e _ _
+        (quick in_runs library base calls (calls + depth) budget body f memory (unmarked_slots vs) e (stands now)
+        (omega arith) (of_base f base memory (unmarked_slots vs) is) runs) ends_so
 
-  pub answers : AnswersFor (code_over (length kinds)) kinds extra p
-  answers = record { room = room; ends = λ now budget vs e typed is runs. has_ended now budget vs e typed is runs }
+  pub answers : AnswersFor (code_over (length kinds)) kinds extra p window
+  answers =
+      record {
+        room = room;
+        ends = λ now budget vs memory e typed is runs. has_ended now budget vs memory e typed is
+            runs;
+      }

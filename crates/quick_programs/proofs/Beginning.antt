@@ -7,7 +7,6 @@ use Rattle.st_words.specs.declared.kind.Kind.{Kind}
 use Rattle.st_words.specs.Values.{Datum, IsHeld}
 use Rattle.st_words.specs.Words.{datum_at}
 use Rattle.machine_code.specs.declared.mark.Mark.{Mark}
-use Rattle.machine_code.specs.Tracking.{tracked}
 use Rattle.quick_code.specs.QuickSteps.{or_none}
 use Rattle.quick_code.specs.Words.{word_at}
 use Rattle.quick_trees.specs.declared.noting.Noting.{Noting}
@@ -18,7 +17,8 @@ use Rattle.quick_trees.specs.QuickMemory.{IsRoom}
 use Rattle.quick_trees.specs.Sites.{IsMemory, IsValueAt, whole}
 use Rattle.quick_trees.proofs.Lists.{some_is, map_long, replicate_long}
 use Rattle.quick_programs.specs.declared.parts.QuickParts.{QuickParts}
-use Rattle.quick_programs.specs.Quick.{begun, frame_of, kinds_of, unmarked, word_of}
+use Rattle.quick_trees.specs.Windows.{IsWindow}
+use Rattle.quick_programs.specs.Quick.{AreIn, begun, frame_of, kinds_of, unmarked, unmarked_slots, word_of}
 use Rattle.quick_programs.proofs.Memories.{again}
 
 -- an element of equal ones
@@ -51,13 +51,15 @@ held_of (x ∷ vs) zero v held at = subst IsHeld (some_is at) (All-head IsHeld x
 held_of (x ∷ vs) (suc k) v held at = held_of vs k v (All-tail IsHeld x vs held) at
 
 -- the value at a place that has a type
-value_of : (vs : List Datum) (k : ℕ) (t : Kind) → slice_get (kinds_of vs) k ≡ Some t
+pub value_of : (vs : List Datum) (k : ℕ) (t : Kind) → slice_get (kinds_of vs) k ≡ Some t
     → (v : Datum) × ((slice_get vs k ≡ Some v) × (v.kind ≡ t))
 value_of [] k t at = absurd cc
 value_of (x ∷ vs) zero t at = (x, (refl, some_is at))
 value_of (x ∷ vs) (suc k) t at = value_of vs k t at
 
-module _ (p : QuickParts) (vs : List Datum) (now : ℕ) (held : All IsHeld vs) (constants : All IsHeld p.constants.items)
+-- the values of slots, those of a window among them, whose words the run has
+module _ (p : QuickParts) (window : List ℕ) (slots vs : List Datum) (now : ℕ) (is_in : AreIn window slots vs)
+    (is_window : IsWindow (length slots) window) (held : All IsHeld vs) (constants : All IsHeld p.constants.items)
     (room : length vs + length p.constants.items ≤ p.words) where
   abbrev cs : List Datum
   cs = p.constants.items
@@ -74,43 +76,46 @@ module _ (p : QuickParts) (vs : List Datum) (now : ℕ) (held : All IsHeld vs) (
       let e = replicate_long (p.words - (length vs + length cs)) (pos 0) in
       omega (arith, a, b, c, d, e)
 
-  room_is : IsRoom (frame_of p (kinds_of vs) now) (begun p vs)
+  room_is : IsRoom (frame_of p window (kinds_of slots) now) (begun p vs)
   room_is =
-      let kinds_long = map_long (λ (v : Datum). v.kind) vs in record {
+      let long = is_in.long in record {
         words = words_long;
         notes = replicate_long p.words 0;
-        room = omega (arith, kinds_long);
+        room = omega (arith, long);
+        window = subst (λ n. IsWindow n window) (sym (map_long (λ (v : Datum). v.kind) slots)) is_window;
         constants = λ j v at.
-            ap (λ n. datum_at v.kind (word_at (map word_of vs ++ (map word_of cs ++ rest)) (n + j))) kinds_long
+            ap (λ n. datum_at v.kind (word_at (map word_of vs ++ (map word_of cs ++ rest)) (n + j))) (sym long)
             ∙ ap (datum_at v.kind) (word_behind vs (map word_of cs ++ rest) j ∙ word_here cs rest j v at) ∙ again v;
         held = λ j v at. held_of cs j v constants at;
       }
 
-  value_is : (k : ℕ) (t : Kind) → slice_get (kinds_of vs) k ≡ Some t → IsValueAt (begun p vs) vs t k k
-  value_is k t at =
-      let v = value_of vs k t at in
-      let word = word_here vs (map word_of cs ++ rest) k v.0 v.1.0 in
-      let same : datum_at t (word_at (map word_of vs ++ (map word_of cs ++ rest)) k) ≡ v.0 =
+  value_is : (k w : ℕ) (t : Kind) → slice_get (kinds_of slots) k ≡ Some t → slice_get window w ≡ Some k
+      → IsValueAt (begun p vs) slots t k w
+  value_is k w t at has =
+      let v = value_of slots k t at in
+      let there : slice_get vs w ≡ Some v.0 = is_in.each w k has ∙ v.1.0 in
+      let word = word_here vs (map word_of cs ++ rest) w v.0 there in
+      let same : datum_at t (word_at (map word_of vs ++ (map word_of cs ++ rest)) w) ≡ v.0 =
       ap₂ datum_at (sym v.1.1) word ∙ again v.0 in record {
         is = v.1.0 ∙ ap Some (sym same);
-        held = subst IsHeld (sym same) (held_of vs k v.0 held v.1.0);
+        held = subst IsHeld (sym same) (held_of vs w v.0 held there);
       }
 
-  noted : (n : Noting) (x : Mark) (k : ℕ) → Exact ≡ n → unmarked ≡ x
-      → IsTrueOf n x (or_none (slice_get (replicate p.words 0) k))
-  noted n x k exact mark =
-      subst (λ (n : Noting). IsTrueOf n x (or_none (slice_get (replicate p.words 0) k))) exact
-      (subst (λ (x : Mark). IsTrueOf Exact x (or_none (slice_get (replicate p.words 0) k))) mark (no_note p.words k))
+  noted : (n : Noting) (x : Mark) (w : ℕ) → Exact ≡ n → unmarked ≡ x
+      → IsTrueOf n x (or_none (slice_get (replicate p.words 0) w))
+  noted n x w exact mark =
+      subst (λ (n : Noting). IsTrueOf n x (or_none (slice_get (replicate p.words 0) w))) exact
+      (subst (λ (x : Mark). IsTrueOf Exact x (or_none (slice_get (replicate p.words 0) w))) mark (no_note p.words w))
 
   -- a run begins with the values of the slots, and nothing is marked
-  pub begins : let f = frame_of p (kinds_of vs) now in
-      IsMemory f (whole 0) (beginning f) (begun p vs) (tracked vs (replicate (length vs) unmarked))
+  pub begins : let f = frame_of p window (kinds_of slots) now in
+      IsMemory f (whole 0) (beginning f) (begun p vs) (unmarked_slots slots)
   begins = record {
     room = room_is;
-    long = sym (map_long (λ (v : Datum). v.kind) vs);
-    values = λ k w t at is. subst (λ w. IsValueAt (begun p vs) vs t k w) (sym is) (value_is k t at);
+    long = sym (map_long (λ (v : Datum). v.kind) slots);
+    values = λ k w t at has. value_is k w t at has;
     marks = record {
-      each = λ k n x at mark. noted n x k (of_equals (length (kinds_of vs)) k Exact n at)
-          (of_equals (length vs) k unmarked x mark);
+      each = λ w k n x has at mark. noted n x w (of_equals (length window) w Exact n at)
+          (of_equals (length slots) k unmarked x mark);
     };
   }

@@ -14,7 +14,9 @@ use Rattle.quick_code.specs.Words.{word_at}
 use Rattle.quick_trees.specs.declared.noting.Noting.TheVariants.{Exact}
 use Rattle.quick_trees.specs.Notes.{note_of}
 use Rattle.quick_trees.specs.QuickMemory.{Frame}
-use Rattle.quick_programs.specs.Quick.{EndsWith, HasEnded}
+use Rattle.quick_trees.proofs.Lists.{map_long, map_there, there_within, within_there}
+use Rattle.quick_programs.specs.Quick.{AreIn, EndsWith, HasEnded, kinds_of}
+use Rattle.quick_programs.proofs.Beginning.{value_of}
 use Rattle.quick_programs.specs.Told.{AreHeld, mark_of, values_of}
 
 some_is : {A : Type 0} {x y : A} → Some x ≡ Some y → x ≡ y
@@ -25,17 +27,13 @@ equal_at zero k v lt = absurd (omega arith)
 equal_at (suc n) zero v lt = refl
 equal_at (suc n) (suc k) v lt = equal_at n k v (omega arith)
 
--- values that are those of their words one by one
-values_are : (ks : List Kind) (ws : List ℤ) (vs : List Datum) → length vs ≡ length ks → length ks ≤ length ws
-    → ((k : ℕ) (t : Kind) → slice_get ks k ≡ Some t → slice_get vs k ≡ Some (datum_at t (word_at ws k)))
-    → vs ≡ values_of ks ws
-values_are [] ws [] long le at = refl
-values_are [] ws (v ∷ vs) long le at = absurd (omega arith)
-values_are (t ∷ ks) [] vs long le at = absurd (omega arith)
-values_are (t ∷ ks) (w ∷ ws) [] long le at = absurd (omega arith)
-values_are (t ∷ ks) (w ∷ ws) (v ∷ vs) long le at =
-    ap₂ (λ x xs. x ∷ xs) (some_is (at 0 t refl))
-    (values_are ks ws vs (omega arith) (omega arith) (λ k u e. at (suc k) u e))
+-- the value at a place is that of its word
+value_told : (ks : List Kind) (ws : List ℤ) (k : ℕ) (t : Kind) → slice_get ks k ≡ Some t → length ks ≤ length ws
+    → slice_get (values_of ks ws) k ≡ Some (datum_at t (word_at ws k))
+value_told [] ws k t at le = absurd cc
+value_told (u ∷ ks) [] k t at le = absurd (omega arith)
+value_told (u ∷ ks) (w ∷ ws) zero t at le = ap (λ u. Some (datum_at u w)) (some_is at)
+value_told (u ∷ ks) (w ∷ ws) (suc k) t at le = value_told ks ws k t at (omega arith)
 
 -- as many values as types, where there are words for them
 pub values_long : (ks : List Kind) (ws : List ℤ) → length ks ≤ length ws → length (values_of ks ws) ≡ length ks
@@ -54,57 +52,110 @@ mark_by false false = refl
 mark_again : (x : Mark) → mark_of (note_of x) ≡ x
 mark_again x = mark_by x.is_read x.is_assigned
 
-marks_are : (n : ℕ) (ms : List Mark) (ns : List ℕ) → length ms ≡ n → n ≤ length ns
-    → ((k : ℕ) (x : Mark) → slice_get ms k ≡ Some x → or_none (slice_get ns k) ≡ note_of x)
-    → ms ≡ map mark_of (take n ns)
-marks_are zero [] ns long le at = refl
-marks_are zero (x ∷ ms) ns long le at = absurd (omega arith)
-marks_are (suc n) [] ns long le at = absurd (omega arith)
-marks_are (suc n) (x ∷ ms) [] long le at = absurd (omega arith)
-marks_are (suc n) (x ∷ ms) (y ∷ ns) long le at =
-    ap₂ (λ z zs. z ∷ zs) (sym (ap mark_of (at 0 x refl) ∙ mark_again x))
-    (marks_are n ms ns (omega arith) (omega arith) (λ k z e. at (suc k) z e))
+take_long : {A : Type 0} (n : ℕ) (xs : List A) → n ≤ length xs → length (take n xs) ≡ n
+take_long zero xs le = refl
+take_long (suc n) [] le = absurd (omega arith)
+take_long (suc n) (x ∷ xs) le = ap suc (take_long n xs (omega arith))
 
-module _ (f : Frame) (n ticks : ℕ) (m : Memory) (r : Ending Tracked) (h : HasEnded f n (left m ticks) r)
-    (as_many : length f.kinds ≡ n) where
-  within_words : n ≤ f.size
-  within_words = (let room = h.told.room.room in omega arith)
+mark_told : (n : ℕ) (ns : List ℕ) (k : ℕ) → k < n → n ≤ length ns
+    → slice_get (map mark_of (take n ns)) k ≡ Some (mark_of (or_none (slice_get ns k)))
+mark_told zero ns k lt le = absurd (omega arith)
+mark_told (suc n) [] k lt le = absurd (omega arith)
+mark_told (suc n) (x ∷ ns) zero lt le = refl
+mark_told (suc n) (x ∷ ns) (suc k) lt le = mark_told n ns k (omega arith) (omega arith)
 
-  pub words_long : n ≤ length m.words
-  words_long = (let long = h.told.room.words in let le = within_words in omega arith)
+-- the type of a value
+kind_told : (vs : List Datum) (k : ℕ) (v : Datum) → slice_get vs k ≡ Some v → slice_get (kinds_of vs) k ≡ Some v.kind
+kind_told vs k v at = map_there (λ (v : Datum). v.kind) vs k v at
 
-  pub notes_long : n ≤ length m.notes
-  notes_long = (let long = h.told.room.notes in let le = within_words in omega arith)
+module _ (f : Frame) (slots begun : List Datum) (ticks : ℕ) (m : Memory) (r : Ending Tracked)
+    (h : HasEnded f slots (left m ticks) r) (typed : kinds_of slots ≡ f.kinds) (is_in : AreIn f.window slots begun)
+  where
+    abbrev n : ℕ
+    n = length slots
 
-  pub words_held : AreHeld f.kinds m.words
-  words_held = record { each = λ k t at. (h.told.values k k t at refl).held }
+    within_words : length begun ≤ f.size
+    within_words = (let room = h.told.room.room in let long = is_in.long in omega arith)
 
-  values_told : take n h.memory.values ≡ values_of f.kinds m.words
-  values_told =
-      values_are f.kinds m.words (take n h.memory.values) h.told.long (let le = words_long in omega arith)
-      (λ k t at. (h.told.values k k t at refl).is)
+    pub words_long : length begun ≤ length m.words
+    words_long = (let long = h.told.room.words in let le = within_words in omega arith)
 
-  mark_there : (ms : List Mark) (k : ℕ) (x : Mark) → slice_get ms k ≡ Some x → k < length ms
-  mark_there [] k x at = absurd cc
-  mark_there (y ∷ ms) zero x at = omega arith
-  mark_there (y ∷ ms) (suc k) x at = (let lt = mark_there ms k x at in omega arith)
+    pub notes_long : length begun ≤ length m.notes
+    notes_long = (let long = h.told.room.notes in let le = within_words in omega arith)
 
-  marks_told : take n h.memory.marks ≡ map mark_of (take n m.notes)
-  marks_told =
-      marks_are n (take n h.memory.marks) m.notes h.marks notes_long (λ k x at.
-      (let lt = mark_there (take n h.memory.marks) k x at in
-      let many = h.marks in
-      h.told.marks.each k Exact x (equal_at (length f.kinds) k Exact (omega arith)) at))
+    as_many : length f.kinds ≡ n
+    as_many = ap length (sym typed) ∙ map_long (λ (v : Datum). v.kind) slots
 
-  -- the run of instructions ends with them
-  pub ends_with : (values : List Datum) (marks : List Mark) → values ≡ values_of f.kinds m.words
-      → marks ≡ map mark_of (take n m.notes) → length values ≡ n → EndsWith ticks values marks r
-  ends_with values marks values_is marks_is long =
-      subst (EndsWith ticks values marks) (sym h.is) (
-        refl,
-        ap (λ j. take j h.memory.values) long ∙ values_told ∙ sym values_is,
-        ap (λ j. take j h.memory.marks) long ∙ marks_told ∙ sym marks_is,
-      )
+    -- the slot of a word, and its type
+    slot_of : (w : ℕ) (t : Kind) → slice_get (kinds_of begun) w ≡ Some t
+        → (k : ℕ) × ((slice_get f.window w ≡ Some k) × (slice_get f.kinds k ≡ Some t))
+    slot_of w t at =
+        let v = value_of begun w t at in
+        let lt = there_within begun w v.0 v.1.0 in
+        let long = is_in.long in
+        let k = within_there f.window w (omega arith) in
+        let there : slice_get slots k.0 ≡ Some v.0 = sym (is_in.each w k.0 k.1) ∙ v.1.0 in (
+          k.0,
+          (k.1, ap (λ ks. slice_get ks k.0) (sym typed) ∙ kind_told slots k.0 v.0 there ∙ ap (λ t. Some t) v.1.1),
+        )
+
+    pub words_held : AreHeld (kinds_of begun) m.words
+    words_held = record {
+      each = λ w t at. (let k = slot_of w t at in (h.told.values k.0 w t k.1.1 k.1.0).held);
+    }
+
+    values_told : (w k : ℕ) → slice_get f.window w ≡ Some k
+        → slice_get (take n h.memory.values) k ≡ slice_get (values_of (kinds_of begun) m.words) w
+    values_told w k at =
+        let inside = h.told.room.window.inside w k at in
+        let t = within_there f.kinds k inside in
+        let v = value_of slots k t.0 (ap (λ ks. slice_get ks k) typed ∙ t.1) in
+        let there : slice_get begun w ≡ Some v.0 = is_in.each w k at ∙ v.1.0 in
+        let kind : slice_get (kinds_of begun) w ≡ Some t.0 = kind_told begun w v.0 there ∙ ap (λ t. Some t) v.1.1 in
+        let le = words_long in
+        let many = map_long (λ (v : Datum). v.kind) begun in
+        (h.told.values k w t.0 t.1 at).is
+        ∙ sym (value_told (kinds_of begun) m.words w t.0 kind (omega arith))
+
+    marks_told : (w k : ℕ) → slice_get f.window w ≡ Some k
+        → slice_get (take n h.memory.marks) k ≡ slice_get (map mark_of (take (length begun) m.notes)) w
+    marks_told w k at =
+        let inside = h.told.room.window.inside w k at in
+        let many = as_many in
+        let marks_long = h.marks in
+        let x = within_there (take n h.memory.marks) k (omega arith) in
+        let lt = there_within f.window w k at in
+        let long = is_in.long in
+        let note = h.told.marks.each w k Exact x.0 at (equal_at (length f.window) w Exact lt) x.1 in
+        x.1 ∙ ap (λ y. Some y) (sym (ap mark_of note ∙ mark_again x.0))
+        ∙ sym (mark_told (length begun) m.notes w (omega arith) notes_long)
+
+    left_long : length (values_of (kinds_of begun) m.words) ≡ length f.window
+    left_long =
+        let many = map_long (λ (v : Datum). v.kind) begun in
+        let le = words_long in
+        values_long (kinds_of begun) m.words (omega arith) ∙ many ∙ is_in.long
+
+    marks_long : length (map mark_of (take (length begun) m.notes)) ≡ length f.window
+    marks_long =
+        map_long mark_of (take (length begun) m.notes) ∙ take_long (length begun) m.notes notes_long ∙ is_in.long
+
+    -- the run of instructions ends with them
+    pub ends_with : (values : List Datum) (marks : List Mark) → values ≡ values_of (kinds_of begun) m.words
+        → marks ≡ map mark_of (take (length begun) m.notes) → EndsWith f.window slots ticks values marks r
+    ends_with values marks values_is marks_is = record {
+      memory = h.memory;
+      is = h.is;
+      slots = h.told.long ∙ as_many;
+      marked = h.marks;
+      left = record {
+        long = ap length values_is ∙ left_long;
+        each = λ w k at. ap (λ vs. slice_get vs w) values_is ∙ sym (values_told w k at);
+      };
+      long = ap length marks_is ∙ marks_long;
+      told = λ w k at. ap (λ xs. slice_get xs w) marks_is ∙ sym (marks_told w k at);
+      stays = h.stays;
+    }
 
 -- one mark more
 marks_on : (ns : List ℕ) (k : ℕ) (n : ℕ) → slice_get ns k ≡ Some n

@@ -1,4 +1,5 @@
 mod Memories
+mod Named
 mod Beginning
 mod Answering
 mod Leaving

@@ -12,14 +12,15 @@ ghost use Rattle.quick_programs.specs.Quick.{AnswersFor, frame_of};
 use quick_trees::quick_code_does_what_its_program_does;
 use tree_code::marked_code_does_what_its_program_does;
 
-/// Where quick code stands for a program at each moment, and the program fits a memory for which instructions are its
-/// code, a run of the quick code that ends well ends as these do.
+/// Where quick code over a window stands for a program at each moment, and the program fits a memory for which
+/// instructions are its code, a run of the quick code that ends well ends as these do.
 pub fn quick_code_answers_as_its_instructions()
     ensures { (library : SlotLibrary) (base calls depth extra : ℕ) (body : SlotStmts) (kinds : List Kind)
-        (p : QuickParts) → ((now : ℕ) → IsProgram (frame_of p kinds now) library base calls body)
-        → first_temporary (frame_of p kinds 0) ≤ p.words
+        (p : QuickParts) (window : List ℕ)
+        → ((now : ℕ) → IsProgram (frame_of p window kinds now) library base calls body)
+        → first_temporary (frame_of p window kinds 0) ≤ p.words
         → ProgramFits (length kinds + extra) library base (length kinds) body depth
-        → AnswersFor (program_code library base (length kinds) body depth) kinds extra p }
+        → AnswersFor (program_code library base (length kinds) body depth) kinds extra p window }
 {
     quick_code_does_what_its_program_does();
     marked_code_does_what_its_program_does();

@@ -1,24 +1,26 @@
 //! Quick code of a program.
 
-ghost use Rattle.std.specs.Prelude.{◌≡◌, ◌≤◌, ◌+◌, length};
-ghost use Rattle.quick_code.specs.Soundness.{IsSound};
-ghost use Rattle.quick_programs.specs.Quick.{AnswersFor};
+ghost use Rattle.std.specs.Prelude.{◌≡◌, IfOk, length};
+ghost use Rattle.quick_trees.specs.Windows.{IsWindow};
+ghost use Rattle.quick_programs.specs.Quick.{IsAnswering};
 
-use crate::parts::QuickParts;
+use crate::parts::{PlacedParts, QuickParts};
 use machine_code::Instr;
 use quick_fusion::fuse;
 use st_words::Kind;
+use std::alloc::{AllocError, Global};
 use std::marker::Model;
 use std::sync::Arc;
 
 /// Quick code of a program, which may be run, beside the program's instructions: a run of it that ends well ends as
 /// theirs. Contracts see the instructions, the types of the slots, how many values the instructions have behind those of
-/// the slots, and the parts of the quick code.
+/// the slots, the parts of the quick code, and its window.
 pub struct QuickProgram {
     instrs: Arc<Vec<Instr>>,
     kinds: Arc<Vec<Kind>>,
     extra: usize,
-    pub(crate) parts: QuickParts,
+    pub(crate) parts: Arc<QuickParts>,
+    pub(crate) window: Vec<usize>,
 }
 
 impl Drop for QuickProgram {
@@ -28,6 +30,7 @@ impl Drop for QuickProgram {
             kinds: _,
             extra: _,
             parts: _,
+            window: _,
         } = self;
     }
 }
@@ -41,36 +44,50 @@ impl Model for QuickProgram {
       instrs = p.instrs.value.items;
       kinds = p.kinds.value.items;
       extra = p.extra;
-      parts = p.parts;
+      parts = p.parts.value;
+      window = p.window.items;
     } };
 
     ghost use Rattle.quick_code.specs.Soundness.{IsSound};
     ghost use Rattle.quick_programs.specs.Quick.{AnswersFor};
 
-    ghost invariant = { λ p. IsAnswering p.instrs.value.items p.kinds.value.items p.extra p.parts };
+    ghost invariant = { λ p. IsAnswering p.instrs.value.items p.kinds.value.items p.extra p.parts.value
+        p.window.items };
 }
 
 impl QuickProgram {
     /// The program of these parts beside these instructions. Where the machine has an instruction that does what two do, it
     /// takes their place.
+    ///
+    /// The only error is out of memory.
     pub fn new(
+        alloc: Global,
         instrs: Arc<Vec<Instr>>,
         kinds: Arc<Vec<Kind>>,
         extra: usize,
-        mut parts: QuickParts,
-    ) -> QuickProgram
-        requires sound { IsSound parts.code parts.words parts.words }
-        requires answers { AnswersFor instrs.value.items kinds.value.items extra parts }
-        ensures instrs { result.instrs ≡ instrs.value.items }
-        ensures kinds { result.kinds ≡ kinds.value.items }
-        ensures extra { result.extra ≡ extra }
+        placed: PlacedParts,
+    ) -> Result<QuickProgram, AllocError>
+        requires { IsAnswering instrs.value.items kinds.value.items extra placed.parts placed.window.items }
+        ensures instrs { IfOk result (λ q. q.instrs ≡ instrs.value.items) }
+        ensures kinds { IfOk result (λ q. q.kinds ≡ kinds.value.items) }
+        ensures extra { IfOk result (λ q. q.extra ≡ extra) }
     {
+        let (mut parts, window) = placed.into_both();
         fuse(&mut parts.code);
-        QuickProgram {
+        Ok(QuickProgram {
             instrs,
             kinds,
             extra,
-            parts,
-        }
+            parts: Arc::new(alloc, parts)?,
+            window,
+        })
+    }
+
+    /// The slots of its window.
+    pub fn window(&self) -> &[usize]
+        ensures window { result.now ≡ self.now.window }
+        ensures slots { IsWindow (length self.now.kinds) self.now.window }
+    {
+        &self.window
     }
 }

@@ -4,9 +4,9 @@ ghost use Rattle.std.specs.Prelude.{◌≡◌, IfOk, IfSome, length};
 ghost use Rattle.quick_code.specs.QuickRuns.{EndsWell, left};
 ghost use Rattle.quick_code.specs.Soundness.{IsSound};
 ghost use Rattle.quick_machine.specs.Going.{memory};
-ghost use Rattle.quick_programs.specs.Quick.{EndsWith, frame_of, HasEnded, kinds_of, run_of};
+ghost use Rattle.quick_programs.specs.Quick.{AreIn, EndsWith, frame_of, HasEnded, kinds_of, run_of};
 
-use crate::memory::{marks_of, values_left, words_over};
+use crate::memory::{marks_of, values_in, values_left, words_over};
 use crate::program::QuickProgram;
 use machine_code::Mark;
 use quick_code::QuickCode;
@@ -43,9 +43,18 @@ fn run_over(
     }
 }
 
-/// A run that ended well: the values of the slots, their marks, and how many ticks are left.
+/// A run over the words of slots of a window that ended well: the values that it began with, and what it left.
+#[derive(Drop)]
+struct Ended {
+    begun: Vec<Value>,
+    left: Left,
+}
+
+/// A run that ended well, of the slots of its window, in order: the values that it began with, those that it left, and
+/// their marks; and how many ticks are left. All other slots are as they were, and unmarked.
 #[derive(Drop)]
 pub struct QuickRun {
+    pub begun: Vec<Value>,
     pub values: Vec<Value>,
     pub marks: Vec<Mark>,
     pub ticks: u32,
@@ -59,20 +68,25 @@ impl QuickProgram {
         slots: &[Value],
         now: u64,
         budget: u32,
-    ) -> Result<Option<Left>, AllocError>
+    ) -> Result<Option<Ended>, AllocError>
         requires { kinds_of slots.now ≡ self.now.kinds }
-        ensures { IfOk result (λ o. IfSome o (λ r. HasEnded (frame_of self.now.parts self.now.kinds now)
-            (length slots.now) (left (memory r.words.items r.notes.items) r.ticks)
+        ensures begun { IfOk result (λ o. IfSome o (λ r. AreIn self.now.window slots.now r.begun.items)) }
+        ensures ended { IfOk result (λ o. IfSome o (λ r. HasEnded (frame_of self.now.parts self.now.window self.now.kinds
+            now) slots.now (left (memory r.left.words.items r.left.notes.items) r.left.ticks)
             (run_of self.now.instrs self.now.extra now slots.now budget))) }
     {
-        let parts = &self.parts;
-        let words = words_over(alloc, slots, &parts.constants, parts.words)?;
+        let parts = &*self.parts;
+        let begun = values_in(alloc, slots, &self.window)?;
+        let words = words_over(alloc, &begun, &parts.constants, parts.words)?;
         let notes = vec![in alloc; 0; parts.words]?;
-        Ok(run_over(&parts.code, words, notes, now, budget))
+        match run_over(&parts.code, words, notes, now, budget) {
+            Some(left) => Ok(Some(Ended { begun, left })),
+            None => Ok(None),
+        }
     }
 
     /// Runs the quick code over the values of its slots at a moment, in milliseconds, with a budget of ticks. None where
-    /// the machine cannot tell how the run ends.
+    /// the machine cannot tell how the run ends. It goes over the slots of the window alone.
     ///
     /// The only error is out of memory.
     pub fn run(
@@ -83,18 +97,19 @@ impl QuickProgram {
         budget: u32,
     ) -> Result<Option<QuickRun>, AllocError>
         requires { kinds_of slots.now ≡ self.now.kinds }
-        ensures ends { IfOk result (λ o. IfSome o (λ r. EndsWith r.ticks r.values.items r.marks.items
-            (run_of self.now.instrs self.now.extra now slots.now budget))) }
-        ensures long { IfOk result (λ o. IfSome o (λ r. length r.values.items ≡ length slots.now)) }
+        ensures begun { IfOk result (λ o. IfSome o (λ r. AreIn self.now.window slots.now r.begun.items)) }
+        ensures ends { IfOk result (λ o. IfSome o (λ r. EndsWith self.now.window slots.now r.ticks r.values.items
+            r.marks.items (run_of self.now.instrs self.now.extra now slots.now budget))) }
     {
         match self.run_words(alloc, slots, now, budget)? {
-            Some(left) => {
-                let values = values_left(alloc, slots, &left.words)?;
-                let marks = marks_of(alloc, slots.len(), &left.notes)?;
+            Some(ended) => {
+                let values = values_left(alloc, &ended.begun, &ended.left.words)?;
+                let marks = marks_of(alloc, ended.begun.len(), &ended.left.notes)?;
                 Ok(Some(QuickRun {
+                    begun: ended.begun,
                     values,
                     marks,
-                    ticks: left.ticks,
+                    ticks: ended.left.ticks,
                 }))
             }
             None => Ok(None),

@@ -70,7 +70,7 @@ module _ (f : Frame) (x : Left) (units : QuickUnits) (means : MarkedUnits) (stan
     units = units;
     means = means;
     stand_ins = stand_ins;
-    marks = marks;
+    around = record { values = []; marks = marks };
     finish = x;
     does = does;
     does_blocks = does_blocks;
@@ -98,7 +98,7 @@ module _ (f : Frame) (x : Left) (units : QuickUnits) (means : MarkedUnits) (stan
   own_at k s own (inl is) = ap (λ (s : Seat). s.word) is
   own_at k s own (inr is) = absurd (let no = is.0 in cc)
 
-  own_word : (k w : ℕ) → HasOwnWord (called (kinds_in g) r.seats) k w → w ≡ d + k
+  own_word : (k w : ℕ) → HasOwnWord f.window (called (kinds_in g) r.seats) k w → w ≡ d + k
   own_word k w own = own_at k (record { word = w; is_own = true }) refl (seat_is k
       (record { word = w; is_own = true }) own).where_is
 
@@ -130,6 +130,7 @@ module _ (f : Frame) (x : Left) (units : QuickUnits) (means : MarkedUnits) (stan
   unfolding slots
   holds = record {
     noted = begun.noted;
+    stays = tt;
     long = (begun_slots f x g kinds words d values m marks r.inputs given deep r.room).long
         ∙ sym (map_long (λ (v : Datum). v.kind) g.fresh);
     values = λ k w kind at has. (let v = (seat_is k has.0 has.1.0).value kind at in record {
@@ -179,27 +180,27 @@ module _ (f : Frame) (x : Left) (units : QuickUnits) (means : MarkedUnits) (stan
 -- a block's body runs on the slots of its instance
 module _ (f : Frame) (x : Left) (units : QuickUnits) (means : MarkedUnits) (stand_ins : StandIns)
     (does : DoesCalls f x units means) (does_blocks : DoesBlocks f x units means) where
-  instance : ℕ → Setting
-  instance at = record {
+  instance : ℕ → Tracked → Setting
+  instance at around = record {
     frame = f;
     site = whole at;
     units = units;
     means = means;
     stand_ins = stand_ins;
-    marks = [];
+    around = around;
     finish = x;
     does = does;
     does_blocks = does_blocks;
   }
 
-  invoked_one : (body : SlotStmts) (at d : ℕ) (p q : Point) → IsBlock f units body at d p q → (m : Memory)
-      (tr : Tracked) (b : ℕ) → first_temporary f ≤ d → Holds f (whole at) [] p.noted m tr → Ends f p.place m b x
-      → HasInvoked f x (marked_block stand_ins means body at) at d p q m tr b
+  invoked_one : (body : SlotStmts) (at d : ℕ) (p q : Point) → IsBlock f units body at d p q → (around : Tracked)
+      (m : Memory) (tr : Tracked) (b : ℕ) → first_temporary f ≤ d → Holds f (whole at) around p.noted m tr
+      → Ends f p.place m b x → HasInvoked f x (marked_block stand_ins means body at) at d p q around m tr b
   unfolding instance
-  invoked_one body at d p q r m tr b deep holds runs =
-      let s = instance at in
+  invoked_one body at d p q r around m tr b deep holds runs =
+      let s = instance at around in
       let ran = does_stmts s body d (at_last q) p r.end r.stands m tr b
-      (deeper f (whole at) (first_temporary f) d deep (whole_site f at)) holds runs in
+      (deeper f (whole at) (first_temporary f) d deep (whole_site f at holds.noted.room.window)) holds runs in
       let over = is_over s d q m ran.end ran.rest
       (joined s d (at_last q) r.end q m ran.end ran.rest r.joins ran.ended) in
       let few = ran.fewer in
@@ -238,8 +239,9 @@ module _ (f : Frame) (x : Left) (stand_ins : StandIns) (library : SlotLibrary) w
 
   blocks_over : (units : QuickUnits) (means : MarkedUnits) → DoesCalls f x units means → DoesBlocks f x units means
       → DoesBlocks f x (quick_units_over f library units) (marked_units_over stand_ins library f.now means)
-  blocks_over units means does does_blocks (own_block i) at d p q r m tr b deep held runs =
-      let done = invoked_one f x units means stand_ins does does_blocks r.0 at d p q r.1.1 m tr b deep held runs in
+  blocks_over units means does does_blocks (own_block i) at d p q r around m tr b deep held runs =
+      let done = invoked_one f x units means stand_ins does does_blocks r.0 at d p q r.1.1 around m tr b deep held
+      runs in
       record {
         memory = done.memory;
         tracked = done.tracked;
@@ -252,8 +254,8 @@ module _ (f : Frame) (x : Left) (stand_ins : StandIns) (library : SlotLibrary) w
         is = done.is;
         ends = done.ends;
       }
-  blocks_over units means does does_blocks (standard_block c) at d p q r m tr b deep held runs =
-      steps f x stand_ins at d deep c p q r m tr b held runs
+  blocks_over units means does does_blocks (standard_block c) at d p q r around m tr b deep held runs =
+      steps f x stand_ins at d deep around c p q r m tr b held runs
 
   -- calls at most so deep
   pub does_units : (calls depth : ℕ) → calls ≤ depth

@@ -191,7 +191,7 @@ module _ (s : Setting) where
     apart : r.to ≢ r.control
     apart is =
         r.second.stays k (there_within (kinds_of s.frame s.site) k t r.target)
-        (subst (HasOwnWord s.site k) (sym is) r.own)
+        (subst (HasOwnWord s.frame.window s.site k) (sym is) r.own)
 
     module _ (l : ℤ) where
       abbrev condition : Tracked → Run (Bool × Tracked)
@@ -222,7 +222,7 @@ module _ (s : Setting) where
 
           control_value : IsValueAt h.memory us.values t k r.control
           control_value =
-              own_value s.frame s.site s.marks r.end.noted h.memory us h.is d site k r.control t r.target r.own
+              own_value s.frame s.site s.around r.end.noted h.memory us h.is d site k r.control t r.target r.own
 
           -- the step is added
           count : HasCounted s.frame r.end.place s.finish t r.control here r.by l r.back r.after h.memory h.left
@@ -241,16 +241,16 @@ module _ (s : Setting) where
 
           held_after : AreHeld s r.end after stepped_to
           held_after =
-              holds_assigned s.frame s.site s.marks r.end.noted h.memory (with_look us k)
-              (holds_looked s.frame s.site s.marks r.end.noted h.memory us h.is k r.end.noted
-              (assigned_look s.site k r.end.noted r.known))
+              holds_assigned s.frame s.site s.around r.end.noted h.memory (with_look us k)
+              (holds_looked s.frame s.site s.around r.end.noted h.memory us h.is k r.control r.end.noted
+              (site.has k r.control r.own) (assigned_look s.site r.control r.end.noted r.known))
               d site k r.control t r.target r.own count.word count.result.held r.end.noted
-              (assigned_again s.site k r.end.noted r.known)
+              (assigned_again s.site r.control r.end.noted r.known)
 
           held_looked : AreHeld s r.end after (with_look stepped_to k)
           held_looked =
-              holds_looked s.frame s.site s.marks r.end.noted after stepped_to held_after k r.end.noted
-              (assigned_look s.site k r.end.noted r.known)
+              holds_looked s.frame s.site s.around r.end.noted after stepped_to held_after k r.control r.end.noted
+              (site.has k r.control r.own) (assigned_look s.site r.control r.end.noted r.known)
 
           spared : Spares s.frame s.site d h.memory after
           spared = spares_own s.frame s.site d h.memory after k r.control t count.word r.target r.own refl
@@ -258,11 +258,11 @@ module _ (s : Setting) where
           now : look after r.control ≡ count.word
           now =
               word_here h.memory r.control count.word
-              (own_inside s.frame s.site s.marks r.end.noted h.memory us h.is d site k r.control t r.target r.own)
+              (own_inside s.frame s.site s.around r.end.noted h.memory us h.is d site k r.control t r.target r.own)
 
           now_value : slice_get stepped_to.values k ≡ Some (datum_at t count.word)
           now_value =
-              (own_value s.frame s.site s.marks r.end.noted after stepped_to held_after d site k r.control t r.target
+              (own_value s.frame s.site s.around r.end.noted after stepped_to held_after d site k r.control t r.target
               r.own).is
               ∙ ap (λ w. Some (datum_at t w)) now
 
@@ -299,7 +299,7 @@ module _ (s : Setting) where
               ∙ ap (λ go. entered n go (with_look stepped_to k) (left + r.head.ahead)) goes)
               (omega arith) spared
               (around after (with_look stepped_to k) left site
-              (still_told s.frame s.site s.marks r.end.noted after (with_look stepped_to k) held_looked r.head.noted
+              (still_told s.frame s.site s.around r.end.noted after (with_look stepped_to k) held_looked r.head.noted
               r.again.noted)
               (subst (λ i. Ends s.frame i after left s.finish) r.again.place b.1)
               (word_elsewhere h.memory r.to r.control count.word apart ∙ still) (omega arith))
@@ -315,7 +315,7 @@ module _ (s : Setting) where
               ∙ ap (λ go. entered n go (with_look stepped_to k) (left + q.ahead)) goes)
               (omega arith) spared
               (nothing s (entered n false) d e q after (with_look stepped_to k) left (left + q.ahead) (left + q.ahead)
-              (still_told s.frame s.site s.marks r.end.noted after (with_look stepped_to k) held_looked q.noted
+              (still_told s.frame s.site s.around r.end.noted after (with_look stepped_to k) held_looked q.noted
               r.behind.noted)
               (subst (λ i. Ends s.frame i after left s.finish) r.behind.place b.1) refl refl (omega arith))
 
@@ -403,25 +403,27 @@ module _ (s : Setting) where
         let v = look two.memory r.from in
         let held = subst (λ w. IsHeld (datum_at t w)) (sym kept) one.held in
         let first = one.gives ∙ ap (λ w. Ok ((datum_at t w, one.tracked), one.left + r.middle.ahead)) (sym kept) in
-        let old = own_value s.frame s.site s.marks r.move.noted two.memory two.tracked two.is d site k r.control t
+        let old = own_value s.frame s.site s.around r.move.noted two.memory two.tracked two.is d site k r.control t
         r.target
         r.own in
         let us = written two.tracked k (datum_at t v) in
         let m' = with_word two.memory r.control v in
         let l = look two.memory r.to in
-        let assigned = holds_assigned s.frame s.site s.marks r.move.noted two.memory two.tracked two.is d site k
+        let assigned = holds_assigned s.frame s.site s.around r.move.noted two.memory two.tracked two.is d site k
         r.control
         t r.target r.own v held r.test.noted r.touches in
-        let known = assigned_look s.site k r.test.noted (assigned_then s.site k r.move.noted r.test.noted r.touches) in
-        let looked = holds_looked s.frame s.site s.marks r.test.noted m' us assigned k r.test.noted known in
+        let known = assigned_look s.site r.control r.test.noted (assigned_then s.site r.control r.move.noted
+        r.test.noted r.touches) in
+        let looked = holds_looked s.frame s.site s.around r.test.noted m' us assigned k r.control r.test.noted
+        (site.has k r.control r.own) known in
         let moved = stepped s.frame r.move.place s.finish two.memory two.left _ two.ends r.assigned in
         let place : r.test.place ≡ suc r.move.place = ap (λ (p : Point). p.place) r.assigns in
         let ahead : r.test.ahead ≡ r.move.ahead = ap (λ (p : Point). p.ahead) r.assigns in
         let same : look m' r.to ≡ l = word_elsewhere two.memory r.to r.control v apart in
         let control_is : look m' r.control ≡ v = word_here two.memory r.control v
-        (own_inside s.frame s.site s.marks r.move.noted two.memory two.tracked two.is d site k r.control t r.target
+        (own_inside s.frame s.site s.around r.move.noted two.memory two.tracked two.is d site k r.control t r.target
         r.own) in
-        let value = (own_value s.frame s.site s.marks r.test.noted m' us assigned d site k r.control t r.target
+        let value = (own_value s.frame s.site s.around r.test.noted m' us assigned d site k r.control t r.target
         r.own).is
         ∙ ap (λ w. Some (datum_at t w)) control_is in
         let begun = has_begun s.frame r.test.place s.finish r.control r.to r.by r.way r.past m' two.left r.tested

@@ -9,7 +9,6 @@ use Rattle.st_words.specs.Words.{datum_at}
 use Rattle.st_types.specs.Failures.{StandIns, ill_typed, or_failure}
 use Rattle.st_types.specs.Loops.{goes_on}
 use Rattle.st_types.specs.Ticks.{attempt, follow, give}
-use Rattle.machine_code.specs.declared.mark.Mark.{Mark}
 use Rattle.machine_code.specs.Tracking.{Tracked, looked, written}
 use Rattle.quick_code.specs.declared.quick_instr.QuickInstr.TheVariants.{Move}
 use Rattle.quick_code.specs.QuickSteps.{Memory, look, with_word}
@@ -35,17 +34,25 @@ use Rattle.quick_trees.proofs.Testing.{kept_in}
 use Rattle.quick_trees.proofs.Running.{Does, has_noted, puts, spares_words}
 
 -- all slots of the layout, with their marks, are the values of a program and of each block
-pub whole_holds : (f : Frame) (s : Site) (at : ℕ) (marks marks' : List Mark) (ns : List Noting) (m : Memory)
-    (tr : Tracked) → IsWhole s → Holds f s marks ns m tr → Holds f (whole at) marks' ns m tr
-whole_holds f (whole base) at marks marks' ns m tr is holds =
-    record { noted = holds.noted; long = holds.long; values = λ k w t at has. holds.values k w t at has }
-whole_holds f (called kinds seats) at marks marks' ns m tr is holds = absurd is
+pub whole_holds : (f : Frame) (s : Site) (at : ℕ) (around : Tracked) (ns : List Noting) (m : Memory) (tr : Tracked)
+    → IsWhole s → Holds f s around ns m tr → Holds f (whole at) around ns m tr
+whole_holds f (whole base) at around ns m tr is holds = record {
+  noted = holds.noted;
+  stays = holds.stays;
+  long = holds.long;
+  values = λ k w t at has. holds.values k w t at has;
+}
+whole_holds f (called kinds seats) at around ns m tr is holds = absurd is
 
-holds_whole : (f : Frame) (s : Site) (at : ℕ) (marks marks' : List Mark) (ns : List Noting) (m : Memory)
-    (tr : Tracked) → IsWhole s → Holds f (whole at) marks ns m tr → Holds f s marks' ns m tr
-holds_whole f (whole base) at marks marks' ns m tr is holds =
-    record { noted = holds.noted; long = holds.long; values = λ k w t at has. holds.values k w t at has }
-holds_whole f (called kinds seats) at marks marks' ns m tr is holds = absurd is
+holds_whole : (f : Frame) (s : Site) (at : ℕ) (around : Tracked) (ns : List Noting) (m : Memory) (tr : Tracked)
+    → IsWhole s → Holds f (whole at) around ns m tr → Holds f s around ns m tr
+holds_whole f (whole base) at around ns m tr is holds = record {
+  noted = holds.noted;
+  stays = holds.stays;
+  long = holds.long;
+  values = λ k w t at has. holds.values k w t at has;
+}
+holds_whole f (called kinds seats) at around ns m tr is holds = absurd is
 
 spares_whole : (f : Frame) (s : Site) (at d : ℕ) (m n : Memory) → IsWhole s → Spares f (whole at) d m n
     → Spares f s d m n
@@ -166,27 +173,27 @@ module _ (s : Setting) where
     ends : Ends s.frame q.place memory b s.finish
 
   -- a word was moved to a variable
-  record HasGiven (k : ℕ) (t : Kind) (from d : ℕ) (p q : Point) (m : Memory) (tr : Tracked) (b : ℕ) : Type 0 where
+  record HasGiven (k : ℕ) (t : Kind) (from to d : ℕ) (p q : Point) (m : Memory) (tr : Tracked) (b : ℕ) : Type 0 where
     gives : (n : ℕ) → marked_put s.stand_ins tr k (datum_at t (look m from)) n
         ≡ Ok (written tr k (datum_at t (look m from)), n)
     ahead : p.ahead ≡ q.ahead
-    spares : Spares s.frame s.site d m (with_word m k (look m from))
-    is : AreHeld s q (with_word m k (look m from)) (written tr k (datum_at t (look m from)))
-    ends : Ends s.frame q.place (with_word m k (look m from)) b s.finish
+    spares : Spares s.frame s.site d m (with_word m to (look m from))
+    is : AreHeld s q (with_word m to (look m from)) (written tr k (datum_at t (look m from)))
+    ends : Ends s.frame q.place (with_word m to (look m from)) b s.finish
 
-  has_given : (k : ℕ) (t : Kind) (from d : ℕ) (p q : Point) → IsGiven s.frame s.site s.units k t from p q
+  has_given : (k : ℕ) (t : Kind) (from to d : ℕ) (p q : Point) → IsGiven s.frame s.site s.units k t from to p q
       → (m : Memory) (tr : Tracked) (b : ℕ) → IsSite s.frame s.site d → AreHeld s p m tr
-      → IsHeld (datum_at t (look m from)) → Ends s.frame p.place m b s.finish → HasGiven k t from d p q m tr b
-  has_given k t from d p q r m tr b site of held runs =
+      → IsHeld (datum_at t (look m from)) → Ends s.frame p.place m b s.finish → HasGiven k t from to d p q m tr b
+  has_given k t from to d p q r m tr b site of held runs =
       let w = look m from in
-      let old = own_value s.frame s.site s.marks p.noted m tr of d site k k t r.of_type r.own in
-      subst (λ q. HasGiven k t from d p q m tr b) (sym r.is) (record {
-        gives = λ n. puts s.stand_ins tr k t (look m k) w n old.is held;
+      let old = own_value s.frame s.site s.around p.noted m tr of d site k to t r.of_type r.own in
+      subst (λ q. HasGiven k t from to d p q m tr b) (sym r.is) (record {
+        gives = λ n. puts s.stand_ins tr k t (look m to) w n old.is held;
         ahead = refl;
-        spares = spares_own s.frame s.site d m (with_word m k w) k k t w r.of_type r.own refl;
-        is = holds_assigned s.frame s.site s.marks p.noted m tr of d site k k t r.of_type r.own w held q.noted
+        spares = spares_own s.frame s.site d m (with_word m to w) k to t w r.of_type r.own refl;
+        is = holds_assigned s.frame s.site s.around p.noted m tr of d site k to t r.of_type r.own w held q.noted
             r.touches;
-        ends = stepped s.frame p.place s.finish m b (Move from k) runs r.stands;
+        ends = stepped s.frame p.place s.finish m b (Move from to) runs r.stands;
       })
 
   inputs_given : (at : ℕ) (inputs : List Input) (d : ℕ) (p q : Point)
@@ -207,16 +214,18 @@ module _ (s : Setting) where
       let k = at + i.member in
       let w = look m i.word in
       let v = datum_at i.kind w in
-      let one = has_given k i.kind i.word d p is.1.middle is.1.first m tr b site of held.0 runs in
-      let m' = with_word m k w in
-      let more = inputs_given at inputs d is.1.middle q is.1.second m' (written tr k v) b site one.is
-      (held_still m k w inputs is.0 held.1) one.ends in
+      let to = is.0 in
+      let both = is.1.1 in
+      let one = has_given k i.kind i.word to d p both.middle both.first m tr b site of held.0 runs in
+      let m' = with_word m to w in
+      let more = inputs_given at inputs d both.middle q both.second m' (written tr k v) b site one.is
+      (held_still m to w inputs is.1.0 held.1) one.ends in
       record {
         memory = more.memory;
         tracked = more.tracked;
         gives = λ n. then_gives (marked_put s.stand_ins tr k v n) (written tr k v) n
             (λ us. marked_stored s.stand_ins at (given_in m inputs) us) (one.gives n)
-            ∙ ap (λ xs. marked_stored s.stand_ins at xs (written tr k v) n) (sym (given_still m k w inputs is.0))
+            ∙ ap (λ xs. marked_stored s.stand_ins at xs (written tr k v) n) (sym (given_still m to w inputs is.1.0))
             ∙ more.gives n;
         ahead = one.ahead ∙ more.ahead;
         spares = spares_both s.frame s.site d d m m' more.memory (omega arith) one.spares more.spares;
@@ -245,15 +254,17 @@ module _ (s : Setting) where
   has_copied k j d p q r m tr b site of runs =
       let old = of.values k r.word r.kind r.looks.of_type r.looks.has in
       let us = with_look tr k in
-      let held = holds_looked s.frame s.site s.marks p.noted m tr of k r.looked.noted r.looks.touches in
+      let held = holds_looked s.frame s.site s.around p.noted m tr of k r.word r.looked.noted r.looks.has
+      r.looks.touches
+      in
       let place = ap (λ (p : Point). p.place) r.looks.is in
-      let one = has_given j r.kind r.word d r.looked q r.gives m us b site held old.held
+      let one = has_given j r.kind r.word r.to d r.looked q r.gives m us b site held old.held
       (subst (λ i. Ends s.frame i m b s.finish) (sym place) runs) in
       record {
         value = datum_at r.kind (look m r.word);
         seen = λ n. looks s.stand_ins tr k (datum_at r.kind (look m r.word)) n old.is;
         puts = one.gives;
-        memory = with_word m j (look m r.word);
+        memory = with_word m r.to (look m r.word);
         ahead = sym (ap (λ (p : Point). p.ahead) r.looks.is) ∙ one.ahead;
         spares = one.spares;
         is = one.is;
@@ -319,10 +330,10 @@ module _ (s : Setting) where
       let one = inputs_read arguments d r.inputs p r.read r.reads m tr b site is runs in
       let two = inputs_given at r.inputs d r.read r.begun r.gives one.memory one.tracked one.left site one.is one.held
       one.ends in
-      let three = s.does_blocks c at d r.begun r.done r.does two.memory two.tracked one.left site.deep
-      (whole_holds f s.site at s.marks [] r.begun.noted two.memory two.tracked r.of_program two.is) two.ends in
+      let three = s.does_blocks c at d r.begun r.done r.does s.around two.memory two.tracked one.left site.deep
+      (whole_holds f s.site at s.around r.begun.noted two.memory two.tracked r.of_program two.is) two.ends in
       let four = outputs_copied at arguments d r.done q r.copies three.memory three.tracked three.left site
-      (holds_whole f s.site at [] s.marks r.done.noted three.memory three.tracked r.of_program three.is) three.ends in
+      (holds_whole f s.site at s.around r.done.noted three.memory three.tracked r.of_program three.is) three.ends in
       let few_one = one.fewer in
       let few_three = three.fewer in
       let ahead_two = two.ahead in

@@ -1,5 +1,7 @@
 pub mod Lists
-pub mod Notings
+pub mod Slots
+mod Notings
+mod Outside
 pub mod Stepping
 pub mod Bits
 pub mod Operators

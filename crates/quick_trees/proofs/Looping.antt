@@ -241,7 +241,7 @@ module _ (s : Setting) where
         gives_same s (answered n false) (turns_of n) d e q m m tr tr (b + r.foot.ahead) (rest + r.head.ahead)
         (ap (λ u. answered n false tr u) at) (omega arith)
         (spares_kept s.frame s.site d m m (keeps_all d m))
-        (repeats m tr rest site (still_told s.frame s.site s.marks r.foot.noted m tr is r.head.noted r.again.noted)
+        (repeats m tr rest site (still_told s.frame s.site s.around r.foot.noted m tr is r.head.noted r.again.noted)
         (subst (λ i. Ends s.frame i m rest s.finish) r.again.place h.1) (omega arith))
 
     by_body : (n : ℕ) → Repeats n → (m : Memory) (tr : Tracked) (t : ℕ) → IsSite s.frame s.site d → t < suc n

@@ -22,6 +22,9 @@ use Rattle.quick_trees.proofs.Lists.{set_elsewhere, set_here, set_long, some_is,
 use Rattle.quick_trees.proofs.Notings.{assigned_by, assigned_to, assignment_noted, changed_few, is_assigned_then}
 use Rattle.quick_trees.proofs.Notings.{look_noted, looked_by, looked_up, noted_beyond, stays_assigned, told_all}
 use Rattle.quick_trees.proofs.Notings.{told_few}
+use Rattle.quick_trees.proofs.Outside.{stays_looked, stays_written}
+use Rattle.quick_trees.proofs.Slots.{one_word}
+use Rattle.quick_trees.specs.Windows.{IsWindow, StaysOutside}
 use Rattle.machine_code.specs.Tracking.{assigned}
 
 -- Below a depth no word was changed.
@@ -61,8 +64,8 @@ word_elsewhere m j k w apart = ap or_zero (set_elsewhere m.words j k w apart)
 -- marks.
 pub record IsNoted (f : Frame) (ns : List Noting) (marks : List Mark) (m : Memory) : Type 0 where
   pub room : IsRoom f m
-  pub few : length ns ≤ length f.kinds
-  pub are : AreTrueOf ns marks m.notes
+  pub few : length ns ≤ length f.window
+  pub are : AreTrueOf f.window ns marks m.notes
 
 module _ (f : Frame) (ns : List Noting) (marks : List Mark) (m : Memory) (is : IsNoted f ns marks m) where
   room_with : (notes : List ℕ) → length notes ≡ length m.notes → IsRoom f (record m { notes = notes })
@@ -70,21 +73,23 @@ module _ (f : Frame) (ns : List Noting) (marks : List Mark) (m : Memory) (is : I
     words = is.room.words;
     notes = e ∙ is.room.notes;
     room = is.room.room;
+    window = is.room.window;
     constants = is.room.constants;
     held = is.room.held;
   }
 
   -- no constant is assigned
-  pub noted_word : (k : ℕ) (w : ℤ) → (k < length f.kinds) ⊎ (first_temporary f ≤ k) → IsNoted f ns marks
+  pub noted_word : (k : ℕ) (w : ℤ) → (k < length f.window) ⊎ (first_temporary f ≤ k) → IsNoted f ns marks
       (with_word m k w)
   noted_word k w where_is = record {
     room = record {
       words = set_long m.words k w ∙ is.room.words;
       notes = is.room.notes;
       room = is.room.room;
+      window = is.room.window;
       constants = λ j v at. (let lt = there_within f.constants j v at in
           let apart = not_constant where_is j lt in
-          ap (λ o. datum_at v.kind (or_zero o)) (set_elsewhere m.words (length f.kinds + j) k w apart)
+          ap (λ o. datum_at v.kind (or_zero o)) (set_elsewhere m.words (length f.window + j) k w apart)
           ∙ is.room.constants j v at);
       held = is.room.held;
     };
@@ -92,8 +97,8 @@ module _ (f : Frame) (ns : List Noting) (marks : List Mark) (m : Memory) (is : I
     are = is.are;
   }
     where
-      not_constant : (k < length f.kinds) ⊎ (first_temporary f ≤ k) → (j : ℕ) → j < length f.constants
-          → length f.kinds + j ≡ k → ⊥
+      not_constant : (k < length f.window) ⊎ (first_temporary f ≤ k) → (j : ℕ) → j < length f.constants
+          → length f.window + j ≡ k → ⊥
       not_constant (inl h) j lt e = omega arith
       not_constant (inr h) j lt e = omega arith
 
@@ -101,7 +106,7 @@ module _ (f : Frame) (ns : List Noting) (marks : List Mark) (m : Memory) (is : I
   noted_told ns' tell = record {
     room = is.room;
     few = (let fewer = told_few ns ns' tell in let few = is.few in omega arith);
-    are = told_all ns ns' marks m.notes tell is.are;
+    are = told_all f.window ns ns' marks m.notes tell is.are;
   }
 
   -- a place that is told has a note
@@ -120,7 +125,7 @@ module _ (f : Frame) (ns : List Noting) (marks : List Mark) (m : Memory) (is : I
     room = room_with (slice_set m.notes k (noted_read (or_none (slice_get m.notes k))))
         (set_long m.notes k (noted_read (or_none (slice_get m.notes k))));
     few = (let same = changed_few with_look_ahead k ns ns' c in let few = is.few in omega arith);
-    are = look_noted ns marks m.notes is.are k ns' (note_there with_look_ahead k ns' c) c;
+    are = look_noted f.window ns marks m.notes is.are k ns' (note_there with_look_ahead k ns' c) c;
   }
 
   pub noted_assignment : (k : ℕ) (ns' : List Noting) → Changes with_assignment_ahead k ns ns'
@@ -129,7 +134,7 @@ module _ (f : Frame) (ns : List Noting) (marks : List Mark) (m : Memory) (is : I
     room = room_with (slice_set m.notes k (noted_written (or_none (slice_get m.notes k))))
         (set_long m.notes k (noted_written (or_none (slice_get m.notes k))));
     few = (let same = changed_few with_assignment_ahead k ns ns' c in let few = is.few in omega arith);
-    are = assignment_noted ns marks m.notes is.are k ns' (note_there with_assignment_ahead k ns' c) c;
+    are = assignment_noted f.window ns marks m.notes is.are k ns' (note_there with_assignment_ahead k ns' c) c;
   }
 
   -- an element is looked up or assigned, and noted
@@ -141,45 +146,48 @@ module _ (f : Frame) (ns : List Noting) (marks : List Mark) (m : Memory) (is : I
       let room = is.room.room in
       omega arith
 
-  pub noted_loaded : (k : ℕ) → slice_get ns k ≡ Some Exact → IsNoted f ns (with_mark seen marks k) (note noted_read k m)
-  noted_loaded k exact = record {
-    room = room_with (slice_set m.notes k (noted_read (or_none (slice_get m.notes k))))
-        (set_long m.notes k (noted_read (or_none (slice_get m.notes k))));
+  pub noted_loaded : (w k : ℕ) → slice_get f.window w ≡ Some k → slice_get ns w ≡ Some Exact
+      → IsNoted f ns (with_mark seen marks k) (note noted_read w m)
+  noted_loaded w k slot exact = record {
+    room = room_with (slice_set m.notes w (noted_read (or_none (slice_get m.notes w))))
+        (set_long m.notes w (noted_read (or_none (slice_get m.notes w))));
     few = is.few;
-    are = looked_by ns marks m.notes is.are k (exact_there k exact) exact;
+    are = looked_by f.window ns marks m.notes is.are w (length f.kinds) is.room.window k slot (exact_there w exact)
+        exact;
   }
 
-  pub noted_stored : (k : ℕ) → slice_get ns k ≡ Some Exact
-      → IsNoted f ns (with_mark assigned marks k) (note noted_written k m)
-  noted_stored k exact = record {
-    room = room_with (slice_set m.notes k (noted_written (or_none (slice_get m.notes k))))
-        (set_long m.notes k (noted_written (or_none (slice_get m.notes k))));
+  pub noted_stored : (w k : ℕ) → slice_get f.window w ≡ Some k → slice_get ns w ≡ Some Exact
+      → IsNoted f ns (with_mark assigned marks k) (note noted_written w m)
+  noted_stored w k slot exact = record {
+    room = room_with (slice_set m.notes w (noted_written (or_none (slice_get m.notes w))))
+        (set_long m.notes w (noted_written (or_none (slice_get m.notes w))));
     few = is.few;
-    are = assigned_by ns marks m.notes is.are k (exact_there k exact) exact;
+    are = assigned_by f.window ns marks m.notes is.are w (length f.kinds) is.room.window k slot (exact_there w exact)
+        exact;
   }
 
-  pub noted_past : (g : ℕ → ℕ) (k : ℕ) → length f.kinds ≤ k → IsNoted f ns marks (note g k m)
+  pub noted_past : (g : ℕ → ℕ) (k : ℕ) → length f.window ≤ k → IsNoted f ns marks (note g k m)
   noted_past g k le = record {
     room = room_with (slice_set m.notes k (g (or_none (slice_get m.notes k))))
         (set_long m.notes k (g (or_none (slice_get m.notes k))));
     few = is.few;
-    are = noted_beyond ns marks m.notes is.are k g (let few = is.few in omega arith);
+    are = noted_beyond f.window ns marks m.notes is.are k g (let few = is.few in omega arith);
   }
 
 -- where a unit's own words are
 abbrev pub IsOwnPlace : Frame → Site → ℕ → Type 0
-IsOwnPlace f (whole base) w = w < length f.kinds
+IsOwnPlace f (whole base) w = w < length f.window
 IsOwnPlace f (called kinds seats) w = (first_temporary f ≤ w) × (w < f.size)
 
 -- The values of a unit stand below a depth, from which on temporaries are free. Its own words are no other value's, and
 -- no constants.
 pub record IsSite (f : Frame) (s : Site) (d : ℕ) : Type 0 where
   pub deep : first_temporary f ≤ d
-  pub below : (k w : ℕ) (t : Kind) → slice_get (kinds_of f s) k ≡ Some t → HasWord s k w → w < d
-  pub has : (k w : ℕ) → HasOwnWord s k w → HasWord s k w
-  pub one : (k w u : ℕ) → HasWord s k w → HasWord s k u → w ≡ u
-  pub apart : (k j w : ℕ) → HasOwnWord s k w → HasWord s j w → j ≡ k
-  pub own : (k w : ℕ) (t : Kind) → slice_get (kinds_of f s) k ≡ Some t → HasOwnWord s k w → IsOwnPlace f s w
+  pub below : (k w : ℕ) (t : Kind) → slice_get (kinds_of f s) k ≡ Some t → HasWord f.window s k w → w < d
+  pub has : (k w : ℕ) → HasOwnWord f.window s k w → HasWord f.window s k w
+  pub one : (k w u : ℕ) → HasWord f.window s k w → HasWord f.window s k u → w ≡ u
+  pub apart : (k j w : ℕ) → HasOwnWord f.window s k w → HasWord f.window s j w → j ≡ k
+  pub own : (k w : ℕ) (t : Kind) → slice_get (kinds_of f s) k ≡ Some t → HasOwnWord f.window s k w → IsOwnPlace f s w
 
 pub deeper : (f : Frame) (s : Site) (d c : ℕ) → d ≤ c → IsSite f s d → IsSite f s c
 deeper f s d c le is = record {
@@ -191,74 +199,89 @@ deeper f s d c le is = record {
   own = is.own;
 }
 
-pub whole_site : (f : Frame) (base : ℕ) → IsSite f (whole base) (first_temporary f)
-whole_site f base = record {
+pub whole_site : (f : Frame) (base : ℕ) → IsWindow (length f.kinds) f.window
+    → IsSite f (whole base) (first_temporary f)
+whole_site f base window = record {
   deep = omega arith;
-  below = λ k w t at has. (let lt = there_within f.kinds k t at in omega arith);
+  below = λ k w t at has. (let lt = there_within f.window w k has in omega arith);
   has = λ k w has. has;
-  one = λ k w u has had. has ∙ sym had;
-  apart = λ k j w own has. sym has ∙ own;
-  own = λ k w t at has. (let lt = there_within f.kinds k t at in omega arith);
+  one = λ k w u has had. one_word (length f.kinds) f.window window w u k has had;
+  apart = λ k j w own has. some_is (sym has ∙ own);
+  own = λ k w t at has. there_within f.window w k has;
 }
 
 -- an own word is no constant
-own_no_constant : (f : Frame) (s : Site) (w : ℕ) → IsOwnPlace f s w → (w < length f.kinds) ⊎ (first_temporary f ≤ w)
+own_no_constant : (f : Frame) (s : Site) (w : ℕ) → IsOwnPlace f s w → (w < length f.window) ⊎ (first_temporary f ≤ w)
 own_no_constant f (whole base) w h = inl h
 own_no_constant f (called kinds seats) w h = inr h.0
 
 -- the marks that the notes tell of: those of a program's slots, or of the slots of what called a function
-abbrev pub marks_of : Site → List Mark → Tracked → List Mark
-marks_of (whole base) marks t = t.marks
-marks_of (called kinds seats) marks t = marks
+abbrev pub marks_of : Site → Tracked → Tracked → List Mark
+marks_of (whole base) around t = t.marks
+marks_of (called kinds seats) around t = around.marks
 
--- The words of a run are the values of a unit, and what is known of the notes is true of the marks.
-pub record Holds (f : Frame) (s : Site) (marks : List Mark) (ns : List Noting) (m : Memory) (t : Tracked) : Type 0 where
-  pub noted : IsNoted f ns (marks_of s marks t) m
+-- slots of a program that have no word are as they were when the run began
+abbrev pub Stays : Frame → Site → Tracked → Tracked → Type 0
+Stays f (whole base) around t = StaysOutside f.window around t
+Stays f (called kinds seats) around t = Unit {0}
+
+-- The words of a run are the values of a unit, and what is known of the notes is true of the marks. Around a function
+-- are the slots of what called it; around a program are all slots as they were when the run began.
+pub record Holds (f : Frame) (s : Site) (around : Tracked) (ns : List Noting) (m : Memory) (t : Tracked) : Type 0 where
+  pub noted : IsNoted f ns (marks_of s around t) m
+  pub stays : Stays f s around t
   pub long : length t.values ≡ length (kinds_of f s)
-  pub values : (k w : ℕ) (kind : Kind) → slice_get (kinds_of f s) k ≡ Some kind → HasWord s k w
+  pub values : (k w : ℕ) (kind : Kind) → slice_get (kinds_of f s) k ≡ Some kind → HasWord f.window s k w
       → IsValueAt m t.values kind k w
 
 -- the slot is marked where the program looks it up
 abbrev pub with_look : Tracked → ℕ → Tracked
 with_look t k = record { values = t.values; marks = with_mark seen t.marks k }
 
-looked_in : (f : Frame) (s : Site) (marks : List Mark) (ns ns' : List Noting) (m : Memory) (t : Tracked) (k : ℕ)
-    → IsNoted f ns (marks_of s marks t) m → Touches at_look s k ns ns'
-    → IsNoted f ns' (marks_of s marks (with_look t k)) m
-looked_in f (whole base) marks ns ns' m t k is c = record {
+looked_in : (f : Frame) (s : Site) (around : Tracked) (ns ns' : List Noting) (m : Memory) (t : Tracked) (k w : ℕ)
+    → IsNoted f ns (marks_of s around t) m → HasWord f.window s k w → Touches at_look s w ns ns'
+    → IsNoted f ns' (marks_of s around (with_look t k)) m
+looked_in f (whole base) around ns ns' m t k w is has c = record {
   room = is.room;
-  few = (let same = changed_few at_look k ns ns' c in let few = is.few in omega arith);
-  are = looked_up ns t.marks m.notes is.are k ns' c;
+  few = (let same = changed_few at_look w ns ns' c in let few = is.few in omega arith);
+  are = looked_up f.window ns t.marks m.notes is.are w (length f.kinds) is.room.window k has ns' c;
 }
-looked_in f (called kinds seats) marks ns ns' m t k is c = subst (λ ns. IsNoted f ns marks m) c is
+looked_in f (called kinds seats) around ns ns' m t k w is has c = subst (λ ns. IsNoted f ns around.marks m) c is
 
-assigned_in : (f : Frame) (s : Site) (marks : List Mark) (ns ns' : List Noting) (m : Memory) (t : Tracked) (k : ℕ)
-    (v : Datum) → IsNoted f ns (marks_of s marks t) m → Touches at_assignment s k ns ns'
-    → IsNoted f ns' (marks_of s marks (written t k v)) m
-assigned_in f (whole base) marks ns ns' m t k v is c = record {
+assigned_in : (f : Frame) (s : Site) (around : Tracked) (ns ns' : List Noting) (m : Memory) (t : Tracked) (k w : ℕ)
+    (v : Datum) → IsNoted f ns (marks_of s around t) m → HasOwnWord f.window s k w → Touches at_assignment s w ns ns'
+    → IsNoted f ns' (marks_of s around (written t k v)) m
+assigned_in f (whole base) around ns ns' m t k w v is own c = record {
   room = is.room;
-  few = (let same = changed_few at_assignment k ns ns' c in let few = is.few in omega arith);
-  are = assigned_to ns t.marks m.notes is.are k ns' c;
+  few = (let same = changed_few at_assignment w ns ns' c in let few = is.few in omega arith);
+  are = assigned_to f.window ns t.marks m.notes is.are w (length f.kinds) is.room.window k own ns' c;
 }
-assigned_in f (called kinds seats) marks ns ns' m t k v is c = subst (λ ns. IsNoted f ns marks m) c is
+assigned_in f (called kinds seats) around ns ns' m t k w v is own c = subst (λ ns. IsNoted f ns around.marks m) c is
 
-loaded_in : (f : Frame) (s : Site) (marks : List Mark) (ns : List Noting) (m : Memory) (t : Tracked) (k w : ℕ)
-    → IsNoted f ns (marks_of s marks t) m → HasOwnWord s k w → IsOwnPlace f s w → IsExact s ns k
-    → IsNoted f ns (marks_of s marks (with_look t k)) (note noted_read w m)
-loaded_in f (whole base) marks ns m t k w is own place exact =
-    subst (λ w. IsNoted f ns (with_mark seen t.marks k) (note noted_read w m)) (sym own)
-    (noted_loaded f ns t.marks m is k exact)
-loaded_in f (called kinds seats) marks ns m t k w is own place exact =
-    noted_past f ns marks m is noted_read w (let far = place.0 in omega arith)
+loaded_in : (f : Frame) (s : Site) (around : Tracked) (ns : List Noting) (m : Memory) (t : Tracked) (k w : ℕ)
+    → IsNoted f ns (marks_of s around t) m → HasOwnWord f.window s k w → IsOwnPlace f s w → IsExact s ns w
+    → IsNoted f ns (marks_of s around (with_look t k)) (note noted_read w m)
+loaded_in f (whole base) around ns m t k w is own place exact = noted_loaded f ns t.marks m is w k own exact
+loaded_in f (called kinds seats) around ns m t k w is own place exact =
+    noted_past f ns around.marks m is noted_read w (let far = place.0 in omega arith)
 
-stored_in : (f : Frame) (s : Site) (marks : List Mark) (ns : List Noting) (m : Memory) (t : Tracked) (k w : ℕ)
-    (v : Datum) → IsNoted f ns (marks_of s marks t) m → HasOwnWord s k w → IsOwnPlace f s w → IsExact s ns k
-    → IsNoted f ns (marks_of s marks (written t k v)) (note noted_written w m)
-stored_in f (whole base) marks ns m t k w v is own place exact =
-    subst (λ w. IsNoted f ns (with_mark assigned t.marks k) (note noted_written w m))
-    (sym own) (noted_stored f ns t.marks m is k exact)
-stored_in f (called kinds seats) marks ns m t k w v is own place exact =
-    noted_past f ns marks m is noted_written w (let far = place.0 in omega arith)
+stored_in : (f : Frame) (s : Site) (around : Tracked) (ns : List Noting) (m : Memory) (t : Tracked) (k w : ℕ)
+    (v : Datum) → IsNoted f ns (marks_of s around t) m → HasOwnWord f.window s k w → IsOwnPlace f s w → IsExact s ns w
+    → IsNoted f ns (marks_of s around (written t k v)) (note noted_written w m)
+stored_in f (whole base) around ns m t k w v is own place exact = noted_stored f ns t.marks m is w k own exact
+stored_in f (called kinds seats) around ns m t k w v is own place exact =
+    noted_past f ns around.marks m is noted_written w (let far = place.0 in omega arith)
+
+-- only slots that have words are looked up and assigned
+looked_outside : (f : Frame) (s : Site) (around t : Tracked) (k w : ℕ) → HasWord f.window s k w → Stays f s around t
+    → Stays f s around (with_look t k)
+looked_outside f (whole base) around t k w has stays = stays_looked f.window around t stays w k has
+looked_outside f (called kinds seats) around t k w has stays = tt
+
+written_outside : (f : Frame) (s : Site) (around t : Tracked) (k w : ℕ) (v : Datum) → HasOwnWord f.window s k w
+    → Stays f s around t → Stays f s around (written t k v)
+written_outside f (whole base) around t k w v own stays = stays_written f.window around t stays w k own v
+written_outside f (called kinds seats) around t k w v own stays = tt
 
 -- what is known to have been assigned may be looked up and assigned
 pub assigned_look : (s : Site) (k : ℕ) (ns : List Noting) → IsAssignedAt s k ns → Touches at_look s k ns ns
@@ -273,30 +296,34 @@ pub assigned_then : (s : Site) (k : ℕ) (ns ns' : List Noting) → Touches at_a
 assigned_then (whole base) k ns ns' c = is_assigned_then k ns ns' c
 assigned_then (called kinds seats) k ns ns' c = tt
 
-module _ (f : Frame) (s : Site) (marks : List Mark) (ns : List Noting) (m : Memory) (t : Tracked)
-    (is : Holds f s marks ns m t) where
+module _ (f : Frame) (s : Site) (around : Tracked) (ns : List Noting) (m : Memory) (t : Tracked)
+    (is : Holds f s around ns m t) where
   -- less is known
-  pub still_told : (ns' : List Noting) → Tells ns ns' → Holds f s marks ns' m t
+  pub still_told : (ns' : List Noting) → Tells ns ns' → Holds f s around ns' m t
   still_told ns' tell = record {
-    noted = noted_told f ns (marks_of s marks t) m is.noted ns' tell;
+    noted = noted_told f ns (marks_of s around t) m is.noted ns' tell;
+    stays = is.stays;
     long = is.long;
     values = is.values;
   }
 
   -- a variable is looked up
-  pub holds_looked : (k : ℕ) (ns' : List Noting) → Touches at_look s k ns ns' → Holds f s marks ns' m (with_look t k)
-  holds_looked k ns' c = record {
-    noted = looked_in f s marks ns ns' m t k is.noted c;
+  pub holds_looked : (k w : ℕ) (ns' : List Noting) → HasWord f.window s k w → Touches at_look s w ns ns'
+      → Holds f s around ns' m (with_look t k)
+  holds_looked k w ns' has c = record {
+    noted = looked_in f s around ns ns' m t k w is.noted has c;
+    stays = looked_outside f s around t k w has is.stays;
     long = is.long;
     values = is.values;
   }
 
   module _ (d : ℕ) (at_site : IsSite f s d) where
     -- other words and notes, where words below the depth are kept
-    pub holds_kept : (ns' : List Noting) (m' : Memory) → Keeps d m m' → IsNoted f ns' (marks_of s marks t) m'
-        → Holds f s marks ns' m' t
+    pub holds_kept : (ns' : List Noting) (m' : Memory) → Keeps d m m' → IsNoted f ns' (marks_of s around t) m'
+        → Holds f s around ns' m' t
     holds_kept ns' m' keeps noted = record {
       noted = noted;
+      stays = is.stays;
       long = is.long;
       values = λ k w kind at has. (let v = is.values k w kind at has in
           let same = keeps_word d m m' w keeps (at_site.below k w kind at has) in record {
@@ -306,12 +333,13 @@ module _ (f : Frame) (s : Site) (marks : List Mark) (ns : List Noting) (m : Memo
     }
 
     -- a temporary is assigned
-    pub holds_temporary : (k : ℕ) (w : ℤ) → d ≤ k → Holds f s marks ns (with_word m k w) t
+    pub holds_temporary : (k : ℕ) (w : ℤ) → d ≤ k → Holds f s around ns (with_word m k w) t
     holds_temporary k w le =
         holds_kept ns (with_word m k w) (keeps_below d m k w le)
-        (noted_word f ns (marks_of s marks t) m is.noted k w (inr (let deep = at_site.deep in omega arith)))
+        (noted_word f ns (marks_of s around t) m is.noted k w (inr (let deep = at_site.deep in omega arith)))
 
-    module _ (k w : ℕ) (kind : Kind) (target : slice_get (kinds_of f s) k ≡ Some kind) (own : HasOwnWord s k w) where
+    module _ (k w : ℕ) (kind : Kind) (target : slice_get (kinds_of f s) k ≡ Some kind) (own : HasOwnWord f.window s k
+        w) where
       pub own_place : IsOwnPlace f s w
       own_place = at_site.own k w kind target own
 
@@ -331,11 +359,12 @@ module _ (f : Frame) (s : Site) (marks : List Mark) (ns : List Noting) (m : Memo
         abbrev after : List Datum
         after = slice_set t.values k (datum_at kind v)
 
-        value_now : (j u : ℕ) (other : Kind) → slice_get (kinds_of f s) j ≡ Some other → HasWord s j u → (p : Bool)
+        value_now : (j u : ℕ) (other : Kind) → slice_get (kinds_of f s) j ≡ Some other → HasWord f.window s j u → (p :
+            Bool)
             → (u == w) ≡ p → IsValueAt m' after other j u
         value_now j u other at has true e =
             let here : u ≡ w = grind (arith, nat_tests) in
-            let same : j ≡ k = at_site.apart k j w own (subst (HasWord s j) here has) in
+            let same : j ≡ k = at_site.apart k j w own (subst (HasWord f.window s j) here has) in
             let type : kind ≡ other = some_is (sym target ∙ ap (slice_get (kinds_of f s)) (sym same) ∙ at) in
             let word : look m' u ≡ v =
             ap (λ ws. word_at ws u) words ∙ ap (λ u. word_at (slice_set m.words w v) u) here
@@ -352,7 +381,7 @@ module _ (f : Frame) (s : Site) (marks : List Mark) (ns : List Noting) (m : Memo
             }
         value_now j u other at has false e =
             let away : u ≢ w = λ is. grind (arith, nat_tests) in
-            let apart : j ≢ k = λ is. away (at_site.one k u w (subst (λ i. HasWord s i u) is has)
+            let apart : j ≢ k = λ is. away (at_site.one k u w (subst (λ i. HasWord f.window s i u) is has)
             (at_site.has k w own)) in
             let word : look m' u ≡ look m u = ap (λ ws. word_at ws u) words ∙ word_elsewhere m u w v away in
             let old = is.values j u other at has in record {
@@ -362,35 +391,38 @@ module _ (f : Frame) (s : Site) (marks : List Mark) (ns : List Noting) (m : Memo
               held = subst (λ x. IsHeld (datum_at other x)) (sym word) old.held;
             }
 
-        pub holds_written : (ns' : List Noting) → IsNoted f ns' (marks_of s marks (written t k (datum_at kind v))) m'
-            → Holds f s marks ns' m' (written t k (datum_at kind v))
+        pub holds_written : (ns' : List Noting) → IsNoted f ns' (marks_of s around (written t k (datum_at kind v))) m'
+            → Holds f s around ns' m' (written t k (datum_at kind v))
         holds_written ns' noted = record {
           noted = noted;
+          stays = written_outside f s around t k w (datum_at kind v) own is.stays;
           long = set_long t.values k (datum_at kind v) ∙ is.long;
           values = λ j u other at has. value_now j u other at has (u == w) refl;
         }
 
       -- a variable is assigned
-      pub holds_assigned : (v : ℤ) → IsHeld (datum_at kind v) → (ns' : List Noting) → Touches at_assignment s k ns ns'
-          → Holds f s marks ns' (with_word m w v) (written t k (datum_at kind v))
+      pub holds_assigned : (v : ℤ) → IsHeld (datum_at kind v) → (ns' : List Noting) → Touches at_assignment s w ns ns'
+          → Holds f s around ns' (with_word m w v) (written t k (datum_at kind v))
       holds_assigned v holds ns' c =
           holds_written v (with_word m w v) refl holds ns'
-          (noted_word f ns' (marks_of s marks (written t k (datum_at kind v))) m
-          (assigned_in f s marks ns ns' m t k (datum_at kind v) is.noted c) w v (own_no_constant f s w own_place))
+          (noted_word f ns' (marks_of s around (written t k (datum_at kind v))) m
+          (assigned_in f s around ns ns' m t k w (datum_at kind v) is.noted own c) w v (own_no_constant f s w
+          own_place))
 
       -- an element is assigned, and noted
-      pub holds_stored : (v : ℤ) → IsHeld (datum_at kind v) → IsExact s ns k
-          → Holds f s marks ns (with_word (note noted_written w m) w v) (written t k (datum_at kind v))
+      pub holds_stored : (v : ℤ) → IsHeld (datum_at kind v) → IsExact s ns w
+          → Holds f s around ns (with_word (note noted_written w m) w v) (written t k (datum_at kind v))
       holds_stored v holds exact =
           holds_written v (with_word (note noted_written w m) w v) refl holds ns
-          (noted_word f ns (marks_of s marks (written t k (datum_at kind v))) (note noted_written w m)
-          (stored_in f s marks ns m t k w (datum_at kind v) is.noted own own_place exact) w v
+          (noted_word f ns (marks_of s around (written t k (datum_at kind v))) (note noted_written w m)
+          (stored_in f s around ns m t k w (datum_at kind v) is.noted own own_place exact) w v
           (own_no_constant f s w own_place))
 
       -- an element is looked up, and noted
-      pub holds_loaded : IsExact s ns k → Holds f s marks ns (note noted_read w m) (with_look t k)
+      pub holds_loaded : IsExact s ns w → Holds f s around ns (note noted_read w m) (with_look t k)
       holds_loaded exact = record {
-        noted = loaded_in f s marks ns m t k w is.noted own own_place exact;
+        noted = loaded_in f s around ns m t k w is.noted own own_place exact;
+        stays = looked_outside f s around t k w (at_site.has k w own) is.stays;
         long = is.long;
         values = λ j u kind at has. (let v = is.values j u kind at has in record { is = v.is; held = v.held });
       }
@@ -398,7 +430,7 @@ module _ (f : Frame) (s : Site) (marks : List Mark) (ns : List Noting) (m : Memo
 -- The words of constants and of a unit's callers, and temporaries below a depth, were not changed: none but own words.
 pub record Spares (f : Frame) (s : Site) (d : ℕ) (m m' : Memory) : Type 0 where
   pub long : length m'.words ≡ length m.words
-  pub same : (w : ℕ) → w < d → ((k : ℕ) → k < length (kinds_of f s) → HasOwnWord s k w → ⊥)
+  pub same : (w : ℕ) → w < d → ((k : ℕ) → k < length (kinds_of f s) → HasOwnWord f.window s k w → ⊥)
       → slice_get m'.words w ≡ slice_get m.words w
 
 module _ (f : Frame) (s : Site) (d : ℕ) where
@@ -419,14 +451,14 @@ module _ (f : Frame) (s : Site) (d : ℕ) where
 
   -- an own word is assigned, whatever is noted
   pub spares_own : (m m' : Memory) (k u : ℕ) (t : Kind) (v : ℤ) → slice_get (kinds_of f s) k ≡ Some t
-      → HasOwnWord s k u → m'.words ≡ slice_set m.words u v → Spares f s d m m'
+      → HasOwnWord f.window s k u → m'.words ≡ slice_set m.words u v → Spares f s d m m'
   spares_own m m' k u t v target own words = record {
     long = ap length words ∙ set_long m.words u v;
     same = λ w lt not_own. ap (λ ws. slice_get ws w) words
         ∙ set_elsewhere m.words w u v
-        (λ e. not_own k (there_within (kinds_of f s) k t target) (subst (HasOwnWord s k) (sym e) own));
+        (λ e. not_own k (there_within (kinds_of f s) k t target) (subst (HasOwnWord f.window s k) (sym e) own));
   }
 
   pub spares_word : (m m' : Memory) (w : ℕ) → Spares f s d m m' → w < d
-      → ((k : ℕ) → k < length (kinds_of f s) → HasOwnWord s k w → ⊥) → look m' w ≡ look m w
+      → ((k : ℕ) → k < length (kinds_of f s) → HasOwnWord f.window s k w → ⊥) → look m' w ≡ look m w
   spares_word m m' w spares lt not_own = ap or_zero (spares.same w lt not_own)

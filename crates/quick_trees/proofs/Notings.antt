@@ -13,6 +13,8 @@ use Rattle.quick_trees.specs.Notes.{AreTrueOf, Changes, IsTouched, IsTrueOf, Tel
 use Rattle.quick_trees.specs.Notes.{tells, with_assignment_ahead, with_look_ahead}
 use Rattle.quick_trees.proofs.Lists.{beyond, set_elsewhere, set_here, set_long, set_same, some_is}
 use Rattle.quick_trees.proofs.Lists.{there_within, within_there}
+use Rattle.quick_trees.proofs.Slots.{one_word}
+use Rattle.quick_trees.specs.Windows.{IsWindow}
 
 abbrev mark_at : Bool → Bool → Mark
 mark_at r a = record { is_read = r; is_assigned = a }
@@ -160,134 +162,149 @@ module _ (g : Mark → Mark) (marks : List Mark) (k : ℕ) where
   by_other (Some x) j apart = set_elsewhere marks j k (g x) apart
   by_other None j apart = refl
 
-  other_mark : (j : ℕ) → (j ≡ k → ⊥) → slice_get (with_mark g marks k) j ≡ slice_get marks j
+  pub other_mark : (j : ℕ) → (j ≡ k → ⊥) → slice_get (with_mark g marks k) j ≡ slice_get marks j
   other_mark j apart = by_other (slice_get marks k) j apart
 
--- What was known, and of one slot's mark and note too, is known after changes at this slot alone.
-changed : (k : ℕ) (ns ns' : List Noting) (marks marks' : List Mark) (notes notes' : List ℕ)
-    → ((j : ℕ) → (j ≡ k → ⊥) → slice_get ns' j ≡ slice_get ns j)
-    → ((j : ℕ) → (j ≡ k → ⊥) → slice_get marks' j ≡ slice_get marks j)
-    → ((j : ℕ) → (j ≡ k → ⊥) → slice_get notes' j ≡ slice_get notes j)
-    → ((n : Noting) (x : Mark) → slice_get ns' k ≡ Some n → slice_get marks' k ≡ Some x
-    → IsTrueOf n x (or_none (slice_get notes' k)))
-    → AreTrueOf ns marks notes → AreTrueOf ns' marks' notes'
-changed k ns ns' marks marks' notes notes' same_ns same_marks same_notes here are =
-    record { each = λ j n x at mark. by_place j n x at mark (j == k) refl }
+-- What was known, and of one word's note and its slot's mark too, is known after changes at this word alone.
+changed : (window : List ℕ) (w : ℕ) (ns ns' : List Noting) (marks marks' : List Mark) (notes notes' : List ℕ)
+    → ((u : ℕ) → (u ≡ w → ⊥) → slice_get ns' u ≡ slice_get ns u)
+    → ((u j : ℕ) → (u ≡ w → ⊥) → slice_get window u ≡ Some j → slice_get marks' j ≡ slice_get marks j)
+    → ((u : ℕ) → (u ≡ w → ⊥) → slice_get notes' u ≡ slice_get notes u)
+    → ((k : ℕ) (n : Noting) (x : Mark) → slice_get window w ≡ Some k → slice_get ns' w ≡ Some n
+    → slice_get marks' k ≡ Some x → IsTrueOf n x (or_none (slice_get notes' w)))
+    → AreTrueOf window ns marks notes → AreTrueOf window ns' marks' notes'
+changed window w ns ns' marks marks' notes notes' same_ns same_marks same_notes here are =
+    record { each = λ u k n x slot at mark. by_word u k n x slot at mark (u == w) refl }
   where
-    by_place : (j : ℕ) (n : Noting) (x : Mark) → slice_get ns' j ≡ Some n → slice_get marks' j ≡ Some x → (p : Bool)
-        → (j == k) ≡ p → IsTrueOf n x (or_none (slice_get notes' j))
-    by_place j n x at mark true e =
-        let is : j ≡ k = grind (arith, nat_tests) in
+    by_word : (u k : ℕ) (n : Noting) (x : Mark) → slice_get window u ≡ Some k → slice_get ns' u ≡ Some n
+        → slice_get marks' k ≡ Some x → (p : Bool) → (u == w) ≡ p → IsTrueOf n x (or_none (slice_get notes' u))
+    by_word u k n x slot at mark true e =
+        let is : u ≡ w = grind (arith, nat_tests) in
         subst (λ i. IsTrueOf n x (or_none (slice_get notes' i))) (sym is)
-        (here n x (ap (slice_get ns') (sym is) ∙ at) (ap (slice_get marks') (sym is) ∙ mark))
-    by_place j n x at mark false e =
-        let apart : j ≢ k = λ is. grind (arith, nat_tests) in
-        subst (λ o. IsTrueOf n x (or_none o)) (sym (same_notes j apart))
-        (are.each j n x (sym (same_ns j apart) ∙ at) (sym (same_marks j apart) ∙ mark))
+        (here k n x (ap (slice_get window) (sym is) ∙ slot) (ap (slice_get ns') (sym is) ∙ at) mark)
+    by_word u k n x slot at mark false e =
+        let apart : u ≢ w = λ is. grind (arith, nat_tests) in
+        subst (λ o. IsTrueOf n x (or_none o)) (sym (same_notes u apart))
+        (are.each u k n x slot (sym (same_ns u apart) ∙ at) (sym (same_marks u k apart slot) ∙ mark))
 
-module _ (ns : List Noting) (marks : List Mark) (notes : List ℕ) (are : AreTrueOf ns marks notes) (k : ℕ) where
-  -- what is known of a slot that changes so
-  new_at : (change : Noting → Option Noting) (ns' : List Noting) (c : Changes change k ns ns') (n : Noting)
-      → slice_get ns' k ≡ Some n → change c.old ≡ Some n
+module _ (window : List ℕ) (ns : List Noting) (marks : List Mark) (notes : List ℕ)
+    (are : AreTrueOf window ns marks notes) (w : ℕ) where
+  -- what is known of a word that changes so
+  new_at : (change : Noting → Option Noting) (ns' : List Noting) (c : Changes change w ns ns') (n : Noting)
+      → slice_get ns' w ≡ Some n → change c.old ≡ Some n
   new_at change ns' c n at =
       c.is
-      ∙ sym (set_here ns k c.new (there_within ns k c.old c.there))
-      ∙ ap (λ l. slice_get l k) (sym c.rest)
+      ∙ sym (set_here ns w c.new (there_within ns w c.old c.there))
+      ∙ ap (λ l. slice_get l w) (sym c.rest)
       ∙ at
 
-  others : (change : Noting → Option Noting) (ns' : List Noting) (c : Changes change k ns ns') (j : ℕ) → (j ≡ k → ⊥)
-      → slice_get ns' j ≡ slice_get ns j
-  others change ns' c j apart = ap (λ l. slice_get l j) c.rest ∙ set_elsewhere ns j k c.new apart
+  others : (change : Noting → Option Noting) (ns' : List Noting) (c : Changes change w ns ns') (u : ℕ) → (u ≡ w → ⊥)
+      → slice_get ns' u ≡ slice_get ns u
+  others change ns' c u apart = ap (λ l. slice_get l u) c.rest ∙ set_elsewhere ns u w c.new apart
 
-  -- the program does something at a slot
-  touched : (change : Noting → Option Noting) (g : Mark → Mark) (ns' : List Noting)
-      → ((n n' : Noting) (x : Mark) (i : ℕ) → change n ≡ Some n' → IsTrueOf n x i → IsTrueOf n' (g x) i)
-      → Changes change k ns ns' → AreTrueOf ns' (with_mark g marks k) notes
-  touched change g ns' keeps c =
-      changed k ns ns' marks (with_mark g marks k) notes notes (others change ns' c) (other_mark g marks k)
-      (λ j apart. refl) here are
-    where
-      here : (n : Noting) (x : Mark) → slice_get ns' k ≡ Some n → slice_get (with_mark g marks k) k ≡ Some x
-          → IsTrueOf n x (or_none (slice_get notes k))
-      here n x at mark =
-          let was = was_marked g marks k x mark in
-          subst (λ y. IsTrueOf n y (or_none (slice_get notes k))) was.is
-          (keeps c.old n was.mark (or_none (slice_get notes k)) (new_at change ns' c n at)
-          (are.each k c.old was.mark c.there was.there))
+  -- the program does something at the slot of the word
+  module _ (count : ℕ) (is_window : IsWindow count window) (k : ℕ) (slot : slice_get window w ≡ Some k) where
+    other_marks : (g : Mark → Mark) (u j : ℕ) → (u ≡ w → ⊥) → slice_get window u ≡ Some j
+        → slice_get (with_mark g marks k) j ≡ slice_get marks j
+    other_marks g u j apart at =
+        other_mark g marks k j (λ is. apart (one_word count window is_window u w j at
+        (slot ∙ ap (λ k. Some k) (sym is))))
 
-  pub looked_up : (ns' : List Noting) → Changes at_look k ns ns' → AreTrueOf ns' (with_mark seen marks k) notes
-  looked_up ns' c = touched at_look seen ns' true_at_look c
+    touched : (change : Noting → Option Noting) (g : Mark → Mark) (ns' : List Noting)
+        → ((n n' : Noting) (x : Mark) (i : ℕ) → change n ≡ Some n' → IsTrueOf n x i → IsTrueOf n' (g x) i)
+        → Changes change w ns ns' → AreTrueOf window ns' (with_mark g marks k) notes
+    touched change g ns' keeps c =
+        changed window w ns ns' marks (with_mark g marks k) notes notes (others change ns' c) (other_marks g)
+        (λ u apart. refl) here are
+      where
+        here : (j : ℕ) (n : Noting) (x : Mark) → slice_get window w ≡ Some j → slice_get ns' w ≡ Some n
+            → slice_get (with_mark g marks k) j ≡ Some x → IsTrueOf n x (or_none (slice_get notes w))
+        here j n x slot' at mark =
+            let same : j ≡ k = some_is (sym slot' ∙ slot) in
+            let was = was_marked g marks k x (ap (slice_get (with_mark g marks k)) (sym same) ∙ mark) in
+            subst (λ y. IsTrueOf n y (or_none (slice_get notes w))) was.is
+            (keeps c.old n was.mark (or_none (slice_get notes w)) (new_at change ns' c n at)
+            (are.each w k c.old was.mark slot c.there was.there))
 
-  pub assigned_to : (ns' : List Noting) → Changes at_assignment k ns ns'
-      → AreTrueOf ns' (with_mark assigned marks k) notes
-  assigned_to ns' c = touched at_assignment assigned ns' true_at_assignment c
+    pub looked_up : (ns' : List Noting) → Changes at_look w ns ns'
+        → AreTrueOf window ns' (with_mark seen marks k) notes
+    looked_up ns' c = touched at_look seen ns' true_at_look c
+
+    pub assigned_to : (ns' : List Noting) → Changes at_assignment w ns ns'
+        → AreTrueOf window ns' (with_mark assigned marks k) notes
+    assigned_to ns' c = touched at_assignment assigned ns' true_at_assignment c
 
   -- the notes with one changed
   abbrev noted_by : (ℕ → ℕ) → List ℕ
-  noted_by g = slice_set notes k (g (or_none (slice_get notes k)))
+  noted_by g = slice_set notes w (g (or_none (slice_get notes w)))
 
-  now_noted : (g : ℕ → ℕ) → k < length notes → or_none (slice_get (noted_by g) k) ≡ g (or_none (slice_get notes k))
-  now_noted g lt = ap or_none (set_here notes k (g (or_none (slice_get notes k))) lt)
+  now_noted : (g : ℕ → ℕ) → w < length notes → or_none (slice_get (noted_by g) w) ≡ g (or_none (slice_get notes w))
+  now_noted g lt = ap or_none (set_here notes w (g (or_none (slice_get notes w))) lt)
 
-  -- an instruction notes something of a slot
+  -- an instruction notes something of the word
   noted_ahead : (change : Noting → Option Noting) (g : ℕ → ℕ) (ns' : List Noting)
       → ((n n' : Noting) (x : Mark) (i : ℕ) → change n ≡ Some n' → IsTrueOf n x i → IsTrueOf n' x (g i))
-      → k < length notes → Changes change k ns ns' → AreTrueOf ns' marks (noted_by g)
+      → w < length notes → Changes change w ns ns' → AreTrueOf window ns' marks (noted_by g)
   noted_ahead change g ns' keeps lt c =
-      changed k ns ns' marks marks notes (noted_by g) (others change ns' c) (λ j apart. refl)
-      (λ j apart. set_elsewhere notes j k (g (or_none (slice_get notes k))) apart) here are
+      changed window w ns ns' marks marks notes (noted_by g) (others change ns' c) (λ u j apart at. refl)
+      (λ u apart. set_elsewhere notes u w (g (or_none (slice_get notes w))) apart) here are
     where
-      here : (n : Noting) (x : Mark) → slice_get ns' k ≡ Some n → slice_get marks k ≡ Some x
-          → IsTrueOf n x (or_none (slice_get (noted_by g) k))
-      here n x at mark =
+      here : (k : ℕ) (n : Noting) (x : Mark) → slice_get window w ≡ Some k → slice_get ns' w ≡ Some n
+          → slice_get marks k ≡ Some x → IsTrueOf n x (or_none (slice_get (noted_by g) w))
+      here k n x slot at mark =
           subst (IsTrueOf n x) (sym (now_noted g lt))
-          (keeps c.old n x (or_none (slice_get notes k)) (new_at change ns' c n at) (are.each k c.old x c.there mark))
+          (keeps c.old n x (or_none (slice_get notes w)) (new_at change ns' c n at)
+          (are.each w k c.old x slot c.there mark))
 
-  pub look_noted : (ns' : List Noting) → k < length notes → Changes with_look_ahead k ns ns'
-      → AreTrueOf ns' marks (noted_by noted_read)
+  pub look_noted : (ns' : List Noting) → w < length notes → Changes with_look_ahead w ns ns'
+      → AreTrueOf window ns' marks (noted_by noted_read)
   look_noted ns' lt c = noted_ahead with_look_ahead noted_read ns' true_with_look lt c
 
-  pub assignment_noted : (ns' : List Noting) → k < length notes → Changes with_assignment_ahead k ns ns'
-      → AreTrueOf ns' marks (noted_by noted_written)
+  pub assignment_noted : (ns' : List Noting) → w < length notes → Changes with_assignment_ahead w ns ns'
+      → AreTrueOf window ns' marks (noted_by noted_written)
   assignment_noted ns' lt c = noted_ahead with_assignment_ahead noted_written ns' true_with_assignment lt c
 
-  -- an instruction does something at a slot, and notes it
-  noted_and_done : (g : ℕ → ℕ) (h : Mark → Mark) → ((x : Mark) → g (note_of x) ≡ note_of (h x)) → k < length notes
-      → slice_get ns k ≡ Some Exact → AreTrueOf ns (with_mark h marks k) (noted_by g)
-  noted_and_done g h same lt exact =
-      changed k ns ns marks (with_mark h marks k) notes (noted_by g) (λ j apart. refl) (other_mark h marks k)
-      (λ j apart. set_elsewhere notes j k (g (or_none (slice_get notes k))) apart) here are
-    where
-      here : (n : Noting) (x : Mark) → slice_get ns k ≡ Some n → slice_get (with_mark h marks k) k ≡ Some x
-          → IsTrueOf n x (or_none (slice_get (noted_by g) k))
-      here n x at mark =
-          let was = was_marked h marks k x mark in
-          subst (λ n. IsTrueOf n x (or_none (slice_get (noted_by g) k))) (some_is (sym exact ∙ at))
-          (now_noted g lt ∙ ap g (are.each k Exact was.mark exact was.there) ∙ same was.mark ∙ ap note_of was.is)
+  -- an instruction does something at the slot of the word, and notes it
+  module _ (count : ℕ) (is_window : IsWindow count window) (k : ℕ) (slot : slice_get window w ≡ Some k) where
+    noted_and_done : (g : ℕ → ℕ) (h : Mark → Mark) → ((x : Mark) → g (note_of x) ≡ note_of (h x)) → w < length notes
+        → slice_get ns w ≡ Some Exact → AreTrueOf window ns (with_mark h marks k) (noted_by g)
+    noted_and_done g h same lt exact =
+        changed window w ns ns marks (with_mark h marks k) notes (noted_by g) (λ u apart. refl)
+        (other_marks count is_window k slot h)
+        (λ u apart. set_elsewhere notes u w (g (or_none (slice_get notes w))) apart) here are
+      where
+        here : (j : ℕ) (n : Noting) (x : Mark) → slice_get window w ≡ Some j → slice_get ns w ≡ Some n
+            → slice_get (with_mark h marks k) j ≡ Some x → IsTrueOf n x (or_none (slice_get (noted_by g) w))
+        here j n x slot' at mark =
+            let is : j ≡ k = some_is (sym slot' ∙ slot) in
+            let was = was_marked h marks k x (ap (slice_get (with_mark h marks k)) (sym is) ∙ mark) in
+            subst (λ n. IsTrueOf n x (or_none (slice_get (noted_by g) w))) (some_is (sym exact ∙ at))
+            (now_noted g lt ∙ ap g (are.each w k Exact was.mark slot exact was.there) ∙ same was.mark
+            ∙ ap note_of was.is)
 
-  pub looked_by : k < length notes → slice_get ns k ≡ Some Exact
-      → AreTrueOf ns (with_mark seen marks k) (noted_by noted_read)
-  looked_by lt exact = noted_and_done noted_read seen (λ x. read_note x.is_read x.is_assigned) lt exact
+    pub looked_by : w < length notes → slice_get ns w ≡ Some Exact
+        → AreTrueOf window ns (with_mark seen marks k) (noted_by noted_read)
+    looked_by lt exact = noted_and_done noted_read seen (λ x. read_note x.is_read x.is_assigned) lt exact
 
-  pub assigned_by : k < length notes → slice_get ns k ≡ Some Exact
-      → AreTrueOf ns (with_mark assigned marks k) (noted_by noted_written)
-  assigned_by lt exact = noted_and_done noted_written assigned (λ x. written_note x.is_read x.is_assigned) lt exact
+    pub assigned_by : w < length notes → slice_get ns w ≡ Some Exact
+        → AreTrueOf window ns (with_mark assigned marks k) (noted_by noted_written)
+    assigned_by lt exact = noted_and_done noted_written assigned (λ x. written_note x.is_read x.is_assigned) lt exact
 
   -- of words that are no slots nothing is known
-  pub noted_beyond : (g : ℕ → ℕ) → length ns ≤ k → AreTrueOf ns marks (noted_by g)
+  pub noted_beyond : (g : ℕ → ℕ) → length ns ≤ w → AreTrueOf window ns marks (noted_by g)
   noted_beyond g le =
-      changed k ns ns marks marks notes (noted_by g) (λ j apart. refl) (λ j apart. refl)
-      (λ j apart. set_elsewhere notes j k (g (or_none (slice_get notes k))) apart)
-      (λ n x at mark. absurd (none (sym (beyond ns k le) ∙ at))) are
+      changed window w ns ns marks marks notes (noted_by g) (λ u apart. refl) (λ u j apart at. refl)
+      (λ u apart. set_elsewhere notes u w (g (or_none (slice_get notes w))) apart)
+      (λ k n x slot at mark. absurd (none (sym (beyond ns w le) ∙ at))) are
     where
       none : {n : Noting} → None ≡ Some n → ⊥
       none e = cc
 
-pub told_all : (ns ns' : List Noting) (marks : List Mark) (notes : List ℕ) → Tells ns ns' → AreTrueOf ns marks notes
-    → AreTrueOf ns' marks notes
-told_all ns ns' marks notes tell are = record {
-  each = λ k n x at mark. (let m = tell.each k n at in
-      told m.0 n x (or_none (slice_get notes k)) m.1.1 (are.each k m.0 x m.1.0 mark));
+pub told_all : (window : List ℕ) (ns ns' : List Noting) (marks : List Mark) (notes : List ℕ) → Tells ns ns'
+    → AreTrueOf window ns marks notes → AreTrueOf window ns' marks notes
+told_all window ns ns' marks notes tell are = record {
+  each = λ w k n x slot at mark. (let m = tell.each w n at in
+      told m.0 n x (or_none (slice_get notes w)) m.1.1 (are.each w k m.0 x slot m.1.0 mark));
 }
 
 -- no more is known of the notes than before

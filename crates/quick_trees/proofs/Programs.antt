@@ -15,6 +15,7 @@ use Rattle.quick_trees.specs.Programs.{EndsAs, IsProgram, beginning}
 use Rattle.quick_trees.specs.QuickMemory.{Ends, Frame, first_temporary}
 use Rattle.quick_trees.specs.Sites.{IsMemory, whole}
 use Rattle.quick_trees.proofs.Lists.{replicate_long}
+use Rattle.quick_trees.proofs.Outside.{stays_all}
 use Rattle.quick_trees.proofs.Stepping.{has_taken, stepped}
 use Rattle.quick_trees.proofs.Memories.{Holds, whole_site}
 use Rattle.quick_trees.proofs.Settings.{Setting}
@@ -25,7 +26,7 @@ use Rattle.quick_trees.proofs.Calling.{at_last, does_units, is_over}
 pub program_runs : (stand_ins : StandIns) (library : SlotLibrary) (base calls depth budget : ℕ) (body : SlotStmts)
     (f : Frame) (m : Memory) (t : Tracked) (e : Left) → IsProgram f library base calls body → calls ≤ depth
     → IsMemory f (whole base) (beginning f) m t → Ends f 0 m budget e
-    → EndsAs f base (marked_ran stand_ins library base body f.now depth t budget) e
+    → EndsAs f base t (marked_ran stand_ins library base body f.now depth t budget) e
 unfolding marked_ran
 program_runs stand_ins library base calls depth budget body f m t e program le is runs =
     let units = does_units f e stand_ins library calls depth le in
@@ -35,24 +36,25 @@ program_runs stand_ins library base calls depth budget body f m t e program le i
       units = quick_units f library calls;
       means = marked_units_within stand_ins library f.now depth;
       stand_ins = stand_ins;
-      marks = [];
+      around = t;
       finish = e;
       does = units.0;
       does_blocks = units.1;
     } in
-    let holds : Holds f (whole base) [] (beginning f).noted m t = record {
+    let holds : Holds f (whole base) t (beginning f).noted m t = record {
       noted = record {
         room = is.room;
-        few = (let long = replicate_long (length f.kinds) Exact in omega arith);
+        few = (let long = replicate_long (length f.window) Exact in omega arith);
         are = is.marks;
       };
+      stays = stays_all f.window t;
       long = is.long;
       values = is.values;
     } in
     let took = has_taken f 0 e program.way m budget (stepped f 0 e m budget (Jump program.way) runs program.begins) in
     let enough = took.0 in
     let ran = does_stmts s body (first_temporary f) (at_last program.last) (along (beginning f) program.way) program.end
-    program.stands m t (budget - program.way.ticks) (whole_site f base) holds took.1 in
+    program.stands m t (budget - program.way.ticks) (whole_site f base is.room.window) holds took.1 in
     let over = is_over s (first_temporary f) program.last m ran.end ran.rest
     (joined s (first_temporary f) (at_last program.last) program.end program.last m ran.end ran.rest program.joins
     ran.ended) in
@@ -75,4 +77,5 @@ program_runs stand_ins library base calls depth budget body f m t e program le i
         values = over.is.values;
         marks = over.is.noted.are;
       });
+      stays = over.is.stays;
     }

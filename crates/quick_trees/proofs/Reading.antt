@@ -30,6 +30,7 @@ use Rattle.tree_code.specs.MarkedEvaluation.{MarkedScope, marked_led, marked_loa
 use Rattle.quick_trees.specs.Points.{Part, Point, next}
 use Rattle.quick_trees.specs.QuickMemory.{Ends, Frame}
 use Rattle.quick_trees.specs.Sites.{HasOwnWord, base_of}
+use Rattle.quick_trees.specs.Sites.{IsExact}
 use Rattle.quick_trees.specs.Pieces.{AreRead, IsComputed, IsComputedBy, IsFetched, IsNumber, IsTemporary, AreBoth}
 use Rattle.quick_trees.specs.Pieces.{IsIndexed, IsLed, IsTruth, IsWider, IsWithin, LeadsBehind, IsNegated, IsNumberAt}
 use Rattle.quick_trees.specs.Pieces.{IsTurned, TurnsBits}
@@ -71,7 +72,7 @@ module _ (s : Setting) where
   z = scope_of s
 
   abbrev pub AreHeld : Point → Memory → Tracked → Type 0
-  AreHeld p m t = Holds s.frame s.site s.marks p.noted m t
+  AreHeld p m t = Holds s.frame s.site s.around p.noted m t
 
   abbrev pub Is : SlotExpr → Kind → ℕ → ℕ → Part
   Is e t d k = IsRead s.frame s.site s.units e t d k
@@ -341,9 +342,10 @@ module _ (s : Setting) where
       let one = has_made_of f is.last.place s.finish both.memory both.left op is.left is.right d is.stands.instr
       is.stands.is step in
       let n = with_word both.memory d one.word in
-      let held = holds_temporary s.frame s.site s.marks is.last.noted both.memory both.tracked both.is d site d one.word
+      let held = holds_temporary s.frame s.site s.around is.last.noted both.memory both.tracked both.is d site d
+      one.word
       (omega arith) in
-      let moved = moved_within f s.finish is.last.noted (marks_of s.site s.marks both.tracked) t d to
+      let moved = moved_within f s.finish is.last.noted (marks_of s.site s.around both.tracked) t d to
       (suc is.last.place) n both.left is.moves held.noted one.ends in
       let there = is.there in
       let long = both.is.noted.room.words in
@@ -374,9 +376,10 @@ module _ (s : Setting) where
       let one = has_made_of_by f is.last.place s.finish both.memory both.left op is.left is.word d is.stands.instr
       is.stands.is step in
       let n = with_word both.memory d one.word in
-      let held = holds_temporary s.frame s.site s.marks is.last.noted both.memory both.tracked both.is d site d one.word
+      let held = holds_temporary s.frame s.site s.around is.last.noted both.memory both.tracked both.is d site d
+      one.word
       (omega arith) in
-      let moved = moved_within f s.finish is.last.noted (marks_of s.site s.marks both.tracked) t d to
+      let moved = moved_within f s.finish is.last.noted (marks_of s.site s.around both.tracked) t d to
       (suc is.last.place) n both.left is.moves held.noted one.ends in
       let there = is.there in
       let long = both.is.noted.room.words in
@@ -455,7 +458,7 @@ module _ (s : Setting) where
         gives = load_gives s.stand_ins tr slot (datum_at t (look m k)) (b + p.ahead) value.is value.held;
         fewer = omega arith;
         keeps = keeps_all d m;
-        is = holds_looked s.frame s.site s.marks p.noted m tr of slot q.noted is.touches;
+        is = holds_looked s.frame s.site s.around p.noted m tr of slot k q.noted is.has is.touches;
         held = value.held;
         low = omega arith;
         ends = runs;
@@ -488,9 +491,10 @@ module _ (s : Setting) where
       let leads = element_is lower is.shift first is.word count stride u w done.place is.subscript.from_lower
       is.subscript.narrow done.is in
       let k = first + leads.before * stride in
-      let own = subst (HasOwnWord s.site k) (sym leads.place) (is.elements.words leads.before leads.less) in
+      let own = subst (HasOwnWord s.frame.window s.site k) (sym leads.place) (is.elements.words leads.before
+      leads.less) in
       let target = is.elements.each leads.before leads.less in
-      let value = own_value s.frame s.site s.marks is.last.noted one.memory one.tracked one.is d site k done.place t
+      let value = own_value s.frame s.site s.around is.last.noted one.memory one.tracked one.is d site k done.place t
       target own in
       subst (λ q. HasMade (load (place a (subscript_then e lower count stride no_subscripts))) t d to p q m tr b)
       (sym is.next) (record {
@@ -507,8 +511,9 @@ module _ (s : Setting) where
             value.is value.held;
         fewer = one.fewer;
         keeps = record { long = one.keeps.long; same = one.keeps.same };
-        is = holds_loaded s.frame s.site s.marks is.last.noted one.memory one.tracked one.is d site k done.place t
-            target own (is.elements.exact leads.before leads.less);
+        is = holds_loaded s.frame s.site s.around is.last.noted one.memory one.tracked one.is d site k done.place t
+            target own (subst (IsExact s.site is.last.noted) (sym leads.place) (is.elements.exact leads.before
+            leads.less));
         held = value.held;
         ends = done.ends;
       })
@@ -530,7 +535,7 @@ module _ (s : Setting) where
         fewer = made.fewer;
         keeps = keeps_both d d m made.memory (with_word made.memory k made.word) (omega arith) made.keeps
             (keeps_below d made.memory k made.word (omega arith));
-        is = holds_temporary s.frame s.site s.marks q.noted made.memory made.tracked made.is d site k made.word
+        is = holds_temporary s.frame s.site s.around q.noted made.memory made.tracked made.is d site k made.word
             (omega arith);
         held = subst (λ w. IsHeld (datum_at t w)) (sym here) made.held;
         low = omega arith;
@@ -679,7 +684,7 @@ module _ (s : Setting) where
       let all = reads_es is.kinds is.words p is.given is.arguments m tr b site of runs in
       let deep = site.deep in
       let done = s.does i is.kinds is.words (d + length is.words) t to is.given q is.calls
-      (marks_of s.site s.marks all.tracked) all.memory all.left all.arguments (omega arith) all.is.noted all.given
+      (marks_of s.site s.around all.tracked) all.memory all.left all.arguments (omega arith) all.is.noted all.given
       all.ends in
       let few_all = all.fewer in
       let few_done = done.fewer in record {
@@ -694,7 +699,7 @@ module _ (s : Setting) where
             (done.left + q.ahead) (λ v. give (v, all.tracked)) done.gives;
         fewer = omega arith;
         keeps = keeps_both d (d + length is.words) m all.memory done.memory (omega arith) all.keeps done.keeps;
-        is = holds_kept s.frame s.site s.marks is.given.noted all.memory all.tracked all.is d site q.noted done.memory
+        is = holds_kept s.frame s.site s.around is.given.noted all.memory all.tracked all.is d site q.noted done.memory
             (keeps_less d (d + length is.words) all.memory done.memory (omega arith) done.keeps) done.noted;
         held = done.held;
         ends = done.ends;
@@ -709,7 +714,7 @@ module _ (s : Setting) where
       let all = reads_es is.kinds is.words p is.given is.arguments m tr b site of runs in
       let c = d + length is.words in
       let deep = site.deep in
-      let done = has_value f s.finish is.given.noted (marks_of s.site s.marks all.tracked) is.kinds is.words
+      let done = has_value f s.finish is.given.noted (marks_of s.site s.around all.tracked) is.kinds is.words
       all.arguments t c to is.given q all.memory all.left all.given (omega arith) all.is.noted all.ends g is.computes in
       let few = all.fewer in
       let same = done.ahead in
@@ -726,9 +731,9 @@ module _ (s : Setting) where
             ∙ ap (λ a. Ok ((datum_at t done.word, all.tracked), all.left + a)) (sym same);
         fewer = omega arith;
         keeps = keeps_both d c m all.memory done.memory (omega arith) all.keeps done.keeps;
-        is = holds_kept s.frame s.site s.marks is.given.noted all.memory all.tracked all.is d site q.noted done.memory
+        is = holds_kept s.frame s.site s.around is.given.noted all.memory all.tracked all.is d site q.noted done.memory
             (keeps_less d c all.memory done.memory (omega arith) done.keeps)
-            (subst (λ ns. IsNoted f ns (marks_of s.site s.marks all.tracked) done.memory) (sym done.told) done.noted);
+            (subst (λ ns. IsNoted f ns (marks_of s.site s.around all.tracked) done.memory) (sym done.told) done.noted);
         held = done.held;
         ends = done.ends;
       }
@@ -894,7 +899,7 @@ module _ (s : Setting) where
         let m' = with_word one.memory d (pos o') in
         let words = one.is.noted.room.words in
         let rest = leads Instr r q further start o' (k + j) slot there m' one.tracked one.left site
-        (holds_temporary s.frame s.site s.marks r.noted one.memory one.tracked one.is d site d (pos o') (omega arith))
+        (holds_temporary s.frame s.site s.around r.noted one.memory one.tracked one.is d site d (pos o') (omega arith))
         (subst (λ i. Ends f i m' one.left s.finish) (sym one.behind) runs)
         (word_here one.memory d (pos o') (omega arith)) in
         let few_one = one.fewer in
@@ -989,8 +994,8 @@ module _ (s : Setting) where
       let word : done.place ≡ is.word + o = omega (arith, here.place_is, comes.place) in
       let slot : first + (0 + o) ≡ k = omega arith in
       let target = is.reached.each o comes.reached in
-      let own = subst (HasOwnWord s.site k) (sym word) (is.reached.words o comes.reached) in
-      let value = own_value s.frame s.site s.marks q.noted one.memory one.tracked one.is d site k done.place t target
+      let own = subst (HasOwnWord s.frame.window s.site k) (sym word) (is.reached.words o comes.reached) in
+      let value = own_value s.frame s.site s.around q.noted one.memory one.tracked one.is d site k done.place t target
       own in
       record {
         memory = note noted_read done.place one.memory;
@@ -1004,8 +1009,8 @@ module _ (s : Setting) where
             value.is value.held;
         fewer = one.fewer;
         keeps = record { long = one.keeps.long; same = one.keeps.same };
-        is = holds_loaded s.frame s.site s.marks q.noted one.memory one.tracked one.is d site k done.place t target own
-            (is.reached.exact o comes.reached);
+        is = holds_loaded s.frame s.site s.around q.noted one.memory one.tracked one.is d site k done.place t target own
+            (subst (IsExact s.site q.noted) (sym word) (is.reached.exact o comes.reached));
         held = value.held;
         ends = subst (λ i. Ends f i (with_word (note noted_read done.place one.memory) to (look one.memory done.place))
             one.left s.finish) (sym one.behind) done.ends;

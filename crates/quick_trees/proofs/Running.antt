@@ -22,6 +22,7 @@ use Rattle.quick_trees.specs.Points.{AllNoted, AreNoted, IsNoted, Joins, Meets, 
 use Rattle.quick_trees.specs.Points.{look_of}
 use Rattle.quick_trees.specs.QuickMemory.{Ends}
 use Rattle.quick_trees.specs.Sites.{HasOwnWord, base_of}
+use Rattle.quick_trees.specs.Sites.{IsExact}
 use Rattle.quick_trees.specs.Standing.{Exits, IsAssignment, IsStored, IsStoredWithin, IsTestedFor}
 use Rattle.quick_trees.proofs.Stepping.{HasBranched, has_taken, stepped}
 use Rattle.quick_trees.proofs.Memories.{IsSite, Spares, deeper, holds_assigned, holds_stored, keeps_both, keeps_word}
@@ -126,7 +127,7 @@ module _ (s : Setting) where
 
   -- a point that is another, of whose notes no more is known
   pub held_met : (p q : Point) (m : Memory) (tr : Tracked) → Meets p q → AreHeld s p m tr → AreHeld s q m tr
-  held_met p q m tr met is = still_told s.frame s.site s.marks p.noted m tr is q.noted met.noted
+  held_met p q m tr met is = still_told s.frame s.site s.around p.noted m tr is q.noted met.noted
 
   pub ends_met : (p q : Point) (m : Memory) (b : ℕ) → Meets p q → Ends s.frame p.place m b s.finish
       → Ends s.frame q.place m b s.finish
@@ -168,7 +169,7 @@ module _ (s : Setting) where
       let ahead = j.meets.ahead in record {
         left = b - j.way.ticks;
         ticks = omega arith;
-        is = still_told s.frame s.site s.marks p.noted m tr is q.noted j.meets.noted;
+        is = still_told s.frame s.site s.around p.noted m tr is q.noted j.meets.noted;
         ends = subst (λ q. Ends s.frame q m (b - j.way.ticks) s.finish) j.meets.place took.1;
       }
 
@@ -207,7 +208,8 @@ module _ (s : Setting) where
     words = refl;
     ahead = sym (ap (λ (q : Point). q.ahead) is.1.0);
     is = record {
-      noted = noted_look s.frame p.noted (marks_of s.site s.marks tr) m of.noted k q.noted is.1.1;
+      noted = noted_look s.frame p.noted (marks_of s.site s.around tr) m of.noted k q.noted is.1.1;
+      stays = of.stays;
       long = of.long;
       values = λ j w t at has. (let v = of.values j w t at has in record { is = v.is; held = v.held });
     };
@@ -219,7 +221,8 @@ module _ (s : Setting) where
     words = refl;
     ahead = sym (ap (λ (q : Point). q.ahead) is.1.0);
     is = record {
-      noted = noted_assignment s.frame p.noted (marks_of s.site s.marks tr) m of.noted k q.noted is.1.1;
+      noted = noted_assignment s.frame p.noted (marks_of s.site s.around tr) m of.noted k q.noted is.1.1;
+      stays = of.stays;
       long = of.long;
       values = λ j w t at has. (let v = of.values j w t at has in record { is = v.is; held = v.held });
     };
@@ -326,7 +329,7 @@ module _ (s : Setting) where
       let k = slot_at (base_of s.site) a in
       let t = r.kind in
       let done = made s y t d r.word p r.made r.makes m tr b site is runs in
-      let old = own_value s.frame s.site s.marks r.made.noted done.memory done.tracked done.is d site k r.word t
+      let old = own_value s.frame s.site s.around r.made.noted done.memory done.tracked done.is d site k r.word t
       r.target r.own in
       let after = written done.tracked k (datum_at t done.word) in
       let m' = with_word done.memory r.word done.word in
@@ -344,7 +347,7 @@ module _ (s : Setting) where
           spares = spares_both s.frame s.site d d m done.memory m' (omega arith)
               (spares_kept s.frame s.site d m done.memory done.keeps)
               (spares_own s.frame s.site d done.memory m' k r.word t done.word r.target r.own refl);
-          is = holds_assigned s.frame s.site s.marks r.made.noted done.memory done.tracked done.is d site k r.word t
+          is = holds_assigned s.frame s.site s.around r.made.noted done.memory done.tracked done.is d site k r.word t
               r.target r.own done.word done.held q.noted r.touches;
           ends = done.ends;
         });
@@ -369,9 +372,11 @@ module _ (s : Setting) where
       let leads = element_is lower r.shift first r.word count stride u (look two.memory r.at) done.place
       r.subscript.from_lower r.subscript.narrow done.is in
       let k = first + leads.before * stride in
-      let own = subst (HasOwnWord s.site k) (sym leads.place) (r.elements.words leads.before leads.less) in
+      let own = subst (HasOwnWord s.frame.window s.site k) (sym leads.place) (r.elements.words leads.before
+      leads.less) in
       let target = r.elements.each leads.before leads.less in
-      let old = own_value s.frame s.site s.marks r.last.noted two.memory two.tracked two.is d site k done.place t target
+      let old = own_value s.frame s.site s.around r.last.noted two.memory two.tracked two.is d site k done.place t
+      target
       own in
       let after = written two.tracked k (datum_at t w) in
       let m' = with_word (note noted_written done.place two.memory) done.place w in
@@ -395,8 +400,9 @@ module _ (s : Setting) where
           spares = spares_both s.frame s.site d d m two.memory m' (omega arith)
               (spares_kept s.frame s.site d m two.memory keeps)
               (spares_own s.frame s.site d two.memory m' k done.place t w target own refl);
-          is = holds_stored s.frame s.site s.marks r.last.noted two.memory two.tracked two.is d site k done.place t
-              target own w held (r.elements.exact leads.before leads.less);
+          is = holds_stored s.frame s.site s.around r.last.noted two.memory two.tracked two.is d site k done.place t
+              target own w held
+              (subst (IsExact s.site r.last.noted) (sym leads.place) (r.elements.exact leads.before leads.less));
           ends = done.ends;
         });
       }
@@ -428,8 +434,8 @@ module _ (s : Setting) where
       let word : done.place ≡ v + o = omega (arith, here.place_is, comes.place) in
       let slot : first + (0 + o) ≡ k = omega arith in
       let target = r.stores.reached.each o comes.reached in
-      let own = subst (HasOwnWord s.site k) (sym word) (r.stores.reached.words o comes.reached) in
-      let old = own_value s.frame s.site s.marks q.noted two.memory two.tracked two.is d site k done.place t target own
+      let own = subst (HasOwnWord s.frame.window s.site k) (sym word) (r.stores.reached.words o comes.reached) in
+      let old = own_value s.frame s.site s.around q.noted two.memory two.tracked two.is d site k done.place t target own
       in
       let after = written two.tracked k (datum_at t w) in
       let m' = with_word (note noted_written done.place two.memory) done.place w in
@@ -451,8 +457,8 @@ module _ (s : Setting) where
           spares = spares_both s.frame s.site d d m two.memory m' (omega arith)
               (spares_kept s.frame s.site d m two.memory keeps)
               (spares_own s.frame s.site d two.memory m' k done.place t w target own refl);
-          is = holds_stored s.frame s.site s.marks q.noted two.memory two.tracked two.is d site k done.place t target
-              own w held (r.stores.reached.exact o comes.reached);
+          is = holds_stored s.frame s.site s.around q.noted two.memory two.tracked two.is d site k done.place t target
+              own w held (subst (IsExact s.site q.noted) (sym word) (r.stores.reached.exact o comes.reached));
           ends = subst (λ i. Ends s.frame i m' two.left s.finish) (sym two.behind) done.ends;
         };
       }

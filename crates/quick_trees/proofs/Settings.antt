@@ -50,33 +50,33 @@ DoesCalls f x units means =
     → HasCalled f x (means.functions i values) t d to p q marks m b
 
 -- A block was called on an instance: what its body did is in the words of the program.
-pub record HasInvoked (f : Frame) (x : Left) (run : Tracked → Run Tracked) (at d : ℕ) (p q : Point) (m : Memory)
-    (tr : Tracked) (b : ℕ) : Type 0 where
+pub record HasInvoked (f : Frame) (x : Left) (run : Tracked → Run Tracked) (at d : ℕ) (p q : Point) (around : Tracked)
+    (m : Memory) (tr : Tracked) (b : ℕ) : Type 0 where
   pub memory : Memory
   pub tracked : Tracked
   pub left : ℕ
   pub gives : run tr (b + p.ahead) ≡ Ok (tracked, left + q.ahead)
   pub fewer : left + q.ahead ≤ b + p.ahead
   pub spares : Spares f (whole at) d m memory
-  pub is : Holds f (whole at) [] q.noted memory tracked
+  pub is : Holds f (whole at) around q.noted memory tracked
   pub ends : Ends f q.place memory left x
 
 -- code in the place of a call of a block does what the block does
 abbrev pub DoesBlocks : Frame → Left → QuickUnits → MarkedUnits → Type 0
 DoesBlocks f x units means =
-    (c : BlockCode) (at d : ℕ) (p q : Point) → units.blocks c at d p q → (m : Memory) (tr : Tracked) (b : ℕ)
-    → first_temporary f ≤ d → Holds f (whole at) [] p.noted m tr → Ends f p.place m b x
-    → HasInvoked f x (means.blocks c at) at d p q m tr b
+    (c : BlockCode) (at d : ℕ) (p q : Point) → units.blocks c at d p q → (around : Tracked) (m : Memory) (tr : Tracked)
+    (b : ℕ) → first_temporary f ≤ d → Holds f (whole at) around p.noted m tr → Ends f p.place m b x
+    → HasInvoked f x (means.blocks c at) at d p q around m tr b
 
--- The code, where the unit's values stand, what units stand for and what they mean, the marks of the slots of what
--- called the unit, and what the run leaves.
+-- The code, where the unit's values stand, what units stand for and what they mean, the slots around the unit, and what
+-- the run leaves.
 pub record Setting : Type 1 where
   pub frame : Frame
   pub site : Site
   pub units : QuickUnits
   pub means : MarkedUnits
   pub stand_ins : StandIns
-  pub marks : List Mark
+  pub around : Tracked
   pub finish : Left
   pub does : DoesCalls frame finish units means
   pub does_blocks : DoesBlocks frame finish units means

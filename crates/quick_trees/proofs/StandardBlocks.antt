@@ -163,48 +163,48 @@ is_left TOF now ws k =
 is_left TP now ws k =
     record { inputs = refl; rest = (refl, (refl, (refl, (refl, (refl, (refl, (refl, (refl, tt)))))))) }
 
-module _ (f : Frame) (x : Left) (t : StandIns) (at d : ℕ) (deep : first_temporary f ≤ d) where
+module _ (f : Frame) (x : Left) (t : StandIns) (at d : ℕ) (deep : first_temporary f ≤ d) (around : Tracked) where
   abbrev HoldsAll : List Noting → Memory → Tracked → Type 0
-  HoldsAll = Holds f (whole at) []
+  HoldsAll = Holds f (whole at) around
 
-  members_first : (xs ys : List BlockMember) (k : ℕ) → AreMembers f (xs ++ ys) k → AreMembers f xs k
-  members_first [] ys k are = tt
-  members_first (x ∷ xs) ys k are = (are.0, members_first xs ys (suc k) are.1)
+  members_first : (xs ys : List BlockMember) (k w : ℕ) → AreMembers f (xs ++ ys) k w → AreMembers f xs k w
+  members_first [] ys k w are = tt
+  members_first (x ∷ xs) ys k w are = (are.0, (are.1.0, members_first xs ys (suc k) (suc w) are.1.1))
 
-  members_there : (xs : List BlockMember) (k : ℕ) (m : Memory) → IsRoom f m → AreMembers f xs k
-      → AreThere m.words k (length xs)
-  members_there [] k m room are = tt
-  members_there (x ∷ xs) k m room are =
-      let lt = there_within f.kinds k x.1 are.0 in
+  members_there : (xs : List BlockMember) (k w : ℕ) (m : Memory) → IsRoom f m → AreMembers f xs k w
+      → AreThere m.words w (length xs)
+  members_there [] k w m room are = tt
+  members_there (x ∷ xs) k w m room are =
+      let lt = there_within f.window w k are.1.0 in
       let long = room.words in
       let few = room.room in
-      let word = within_there m.words k (omega arith) in
-      (word.1 ∙ ap (λ w. Some w) (sym (ap or_zero word.1)), members_there xs (suc k) m room are.1)
+      let word = within_there m.words w (omega arith) in
+      (word.1 ∙ ap (λ w. Some w) (sym (ap or_zero word.1)), members_there xs (suc k) (suc w) m room are.1.1)
 
-  members_held : (xs : List BlockMember) (k : ℕ) (ns : List Noting) (m : Memory) (tr : Tracked) → HoldsAll ns m tr
-      → AreMembers f xs k → AllHeld xs (words_of m.words k (length xs))
-  members_held [] k ns m tr holds are = tt
-  members_held (x ∷ xs) k ns m tr holds are =
-      ((holds.values k k x.1 are.0 refl).held, members_held xs (suc k) ns m tr holds are.1)
+  members_held : (xs : List BlockMember) (k w : ℕ) (ns : List Noting) (m : Memory) (tr : Tracked) → HoldsAll ns m tr
+      → AreMembers f xs k w → AllHeld xs (words_of m.words w (length xs))
+  members_held [] k w ns m tr holds are = tt
+  members_held (x ∷ xs) k w ns m tr holds are =
+      ((holds.values k w x.1 are.0 are.1.0).held, members_held xs (suc k) (suc w) ns m tr holds are.1.1)
 
   -- All members were looked up.
-  record HaveLooked (members : List BlockMember) (k : ℕ) (ns : List Noting) (m : Memory) (tr : Tracked) : Type 0 where
+  record HaveLooked (members : List BlockMember) (k w : ℕ) (ns : List Noting) (m : Memory) (tr : Tracked) : Type 0 where
     tracked : Tracked
     gives : (n : ℕ) → marked_members t members k tr n
-        ≡ Ok ((data_of members (words_of m.words k (length members)), tracked), n)
+        ≡ Ok ((data_of members (words_of m.words w (length members)), tracked), n)
     is : HoldsAll ns m tracked
 
-  members_looked : (xs : List BlockMember) (k : ℕ) (ns ns' : List Noting) (m : Memory) (tr : Tracked)
-      → AreMembers f xs k → AllChange at_look k (length xs) ns ns' → HoldsAll ns m tr → HaveLooked xs k ns' m tr
-  members_looked [] k ns ns' m tr are change holds =
+  members_looked : (xs : List BlockMember) (k w : ℕ) (ns ns' : List Noting) (m : Memory) (tr : Tracked)
+      → AreMembers f xs k w → AllChange at_look w (length xs) ns ns' → HoldsAll ns m tr → HaveLooked xs k w ns' m tr
+  members_looked [] k w ns ns' m tr are change holds =
       record { tracked = tr; gives = λ n. refl; is = subst (λ ns. HoldsAll ns m tr) change holds }
-  members_looked (x ∷ xs) k ns ns' m tr are change holds =
-      let value = holds.values k k x.1 are.0 refl in
+  members_looked (x ∷ xs) k w ns ns' m tr are change holds =
+      let value = holds.values k w x.1 are.0 are.1.0 in
       let us = with_look tr k in
-      let v = datum_at x.1 (look m k) in
-      let vs = data_of xs (words_of m.words (suc k) (length xs)) in
-      let rest = members_looked xs (suc k) change.0 ns' m us are.1 change.1.1
-      (holds_looked f (whole at) [] ns m tr holds k change.0 change.1.0) in
+      let v = datum_at x.1 (look m w) in
+      let vs = data_of xs (words_of m.words (suc w) (length xs)) in
+      let rest = members_looked xs (suc k) (suc w) change.0 ns' m us are.1.1 change.1.1
+      (holds_looked f (whole at) around ns m tr holds k w change.0 are.1.0 change.1.0) in
       record {
         tracked = rest.tracked;
         gives = λ n. then_gives (marked_look t ill_typed tr k n) (v, us) n
@@ -216,40 +216,41 @@ module _ (f : Frame) (x : Left) (t : StandIns) (at d : ℕ) (deep : first_tempor
       }
 
   -- All members were assigned.
-  record HaveStored (members : List BlockMember) (k : ℕ) (ws : List ℤ) (ns : List Noting) (m : Memory) (tr : Tracked) :
-      Type 0 where
+  record HaveStored (members : List BlockMember) (k u : ℕ) (ws : List ℤ) (ns : List Noting) (m : Memory)
+      (tr : Tracked) : Type 0 where
     tracked : Tracked
     gives : (n : ℕ) → marked_members_stored t members k (data_of members ws) tr n ≡ Ok (tracked, n)
-    is : HoldsAll ns (record m { words = all_put k ws m.words }) tracked
-    spares : Spares f (whole at) d m (record m { words = all_put k ws m.words })
+    is : HoldsAll ns (record m { words = all_put u ws m.words }) tracked
+    spares : Spares f (whole at) d m (record m { words = all_put u ws m.words })
 
-  members_stored : (xs : List BlockMember) (k : ℕ) (ws : List ℤ) (ns ns' : List Noting) (m : Memory) (tr : Tracked)
-      → AreMembers f xs k → AllHeld xs ws → AllChange at_assignment k (length xs) ns ns' → HoldsAll ns m tr
-      → HaveStored xs k ws ns' m tr
-  members_stored [] k [] ns ns' m tr are held change holds = record {
+  members_stored : (xs : List BlockMember) (k u : ℕ) (ws : List ℤ) (ns ns' : List Noting) (m : Memory) (tr : Tracked)
+      → AreMembers f xs k u → AllHeld xs ws → AllChange at_assignment u (length xs) ns ns' → HoldsAll ns m tr
+      → HaveStored xs k u ws ns' m tr
+  members_stored [] k u [] ns ns' m tr are held change holds = record {
     tracked = tr;
     gives = λ n. refl;
     is = subst (λ ns. HoldsAll ns m tr) change holds;
     spares = spares_all f (whole at) d m;
   }
-  members_stored [] k (w ∷ ws) ns ns' m tr are held change holds = absurd held
-  members_stored (x ∷ xs) k [] ns ns' m tr are held change holds = absurd held
-  members_stored (x ∷ xs) k (w ∷ ws) ns ns' m tr are held change holds =
-      let site = deeper f (whole at) (first_temporary f) d deep (whole_site f at) in
+  members_stored [] k u (w ∷ ws) ns ns' m tr are held change holds = absurd held
+  members_stored (x ∷ xs) k u [] ns ns' m tr are held change holds = absurd held
+  members_stored (x ∷ xs) k u (w ∷ ws) ns ns' m tr are held change holds =
+      let site = deeper f (whole at) (first_temporary f) d deep (whole_site f at holds.noted.room.window) in
       let v = datum_at x.1 w in
-      let old = own_value f (whole at) [] ns m tr holds d site k k x.1 are.0 refl in
-      let m' = with_word m k w in
+      let old = own_value f (whole at) around ns m tr holds d site k u x.1 are.0 are.1.0 in
+      let m' = with_word m u w in
       let us = written tr k v in
-      let one = holds_assigned f (whole at) [] ns m tr holds d site k k x.1 are.0 refl w held.0 change.0 change.1.0 in
-      let rest = members_stored xs (suc k) ws change.0 ns' m' us are.1 held.1 change.1.1 one in
+      let one = holds_assigned f (whole at) around ns m tr holds d site k u x.1 are.0 are.1.0 w held.0 change.0
+      change.1.0 in
+      let rest = members_stored xs (suc k) (suc u) ws change.0 ns' m' us are.1.1 held.1 change.1.1 one in
       record {
         tracked = rest.tracked;
         gives = λ n. then_gives (marked_put t tr k v n) us n (marked_members_stored t xs (suc k) (data_of xs ws))
-            (puts t tr k x.1 (look m k) w n old.is held.0)
+            (puts t tr k x.1 (look m u) w n old.is held.0)
             ∙ rest.gives n;
         is = rest.is;
-        spares = spares_both f (whole at) d d m m' (record m { words = all_put (suc k) ws m'.words }) (omega arith)
-            (spares_own f (whole at) d m m' k k x.1 w are.0 refl refl) rest.spares;
+        spares = spares_both f (whole at) d d m m' (record m { words = all_put (suc u) ws m'.words }) (omega arith)
+            (spares_own f (whole at) d m m' k u x.1 w are.0 are.1.0 refl) rest.spares;
       }
 
   -- Words were put.
@@ -264,38 +265,39 @@ module _ (f : Frame) (x : Left) (t : StandIns) (at d : ℕ) (deep : first_tempor
   have_put k None p m b h = absurd h
 
   pub steps : (c : StandardBlock) (p q : Point) → IsStepped f c at p q → (m : Memory) (tr : Tracked) (b : ℕ)
-      → Holds f (whole at) [] p.noted m tr → Ends f p.place m b x
-      → HasInvoked f x (marked_standard t c f.now at) at d p q m tr b
+      → Holds f (whole at) around p.noted m tr → Ends f p.place m b x
+      → HasInvoked f x (marked_standard t c f.now at) at d p q around m tr b
   steps c p q r m tr b holds runs =
       let ic = input_count c in
       let mc = member_count c in
       let members = members_of c in
       let rest = outputs_of c ++ hidden_of c in
-      let there = members_there members at m holds.noted.room r.members in
+      let there = members_there members at r.word m holds.noted.room r.members in
       let whole_is : members_of c ≡ inputs_of c ++ rest = append_assoc (inputs_of c) (outputs_of c) (hidden_of c) in
-      let inputs_are = members_first (inputs_of c) rest at (subst (λ xs. AreMembers f xs at) whole_is r.members) in
-      let put = have_put (at + ic) (stepped_words c f.now (words_from m.words at mc)) p.place m b
-      (subst (λ c. Follows f p.place x (stepped_at c f.now at m b)) r.is_block
+      let inputs_are = members_first (inputs_of c) rest at r.word (subst (λ xs. AreMembers f xs at r.word) whole_is
+      r.members) in
+      let put = have_put (r.word + ic) (stepped_words c f.now (words_from m.words r.word mc)) p.place m b
+      (subst (λ c. Follows f p.place x (stepped_at c f.now r.word m b)) r.is_block
       (stepped f p.place x m b _ runs r.stands)) in
-      let us = after c f.now m.words at in
-      let left = is_left c f.now m.words at in
+      let us = after c f.now m.words r.word in
+      let left = is_left c f.now m.words r.word in
       let found : held_words (drop ic us) ≡ Some put.words =
-      ap (stepped_words c f.now) (sym (words_are mc at m.words there)) ∙ put.is in
+      ap (stepped_words c f.now) (sym (words_are mc r.word m.words there)) ∙ put.is in
       let new = words_of_values rest (drop ic us) put.words left.rest found in
-      let old = words_of m.words at ic in
-      let old_held = members_held (inputs_of c) at p.noted m tr holds inputs_are in
+      let old = words_of m.words r.word ic in
+      let old_held = members_held (inputs_of c) at r.word p.noted m tr holds inputs_are in
       let are : us ≡ data_of members (old ++ put.words) =
       left.inputs ∙ ap (λ vs. data_of (inputs_of c) old ++ vs) new.are
       ∙ sym (data_joined (inputs_of c) rest old put.words old_held)
       ∙ ap (λ xs. data_of xs (old ++ put.words)) (sym whole_is) in
-      let one = members_looked members at p.noted r.looked m tr r.members r.looks holds in
-      let two = members_stored members at (old ++ put.words) r.looked q.noted m one.tracked r.members
+      let one = members_looked members at r.word p.noted r.looked m tr r.members r.looks holds in
+      let two = members_stored members at r.word (old ++ put.words) r.looked q.noted m one.tracked r.members
       (subst (λ xs. AllHeld xs (old ++ put.words)) (sym whole_is)
       (held_joined (inputs_of c) rest old put.words old_held new.held)) r.assigns one.is in
-      let words : all_put at (old ++ put.words) m.words ≡ all_put (at + ic) put.words m.words =
-      put_same ic at (at + ic) m.words put.words
-      (members_there (inputs_of c) at m holds.noted.room inputs_are) refl in
-      let m' = record m { words = all_put (at + ic) put.words m.words } in
+      let words : all_put r.word (old ++ put.words) m.words ≡ all_put (r.word + ic) put.words m.words =
+      put_same ic r.word (r.word + ic) m.words put.words
+      (members_there (inputs_of c) at r.word m holds.noted.room inputs_are) refl in
+      let m' = record m { words = all_put (r.word + ic) put.words m.words } in
       let place = ap (λ (q : Point). q.place) r.is in
       let ahead = ap (λ (q : Point). q.ahead) r.is in
       record {
@@ -303,7 +305,7 @@ module _ (f : Frame) (x : Left) (t : StandIns) (at d : ℕ) (deep : first_tempor
         tracked = two.tracked;
         left = b;
         gives = then_gives (marked_members t members at tr (b + p.ahead))
-            (data_of members (words_of m.words at mc), one.tracked) (b + p.ahead)
+            (data_of members (words_of m.words r.word mc), one.tracked) (b + p.ahead)
             (λ r. marked_members_stored t members at (stepped_block c f.now r.0) r.1) (one.gives (b + p.ahead))
             ∙ ap (λ vs. marked_members_stored t members at vs one.tracked (b + p.ahead)) are
             ∙ two.gives (b + p.ahead)

@@ -36,6 +36,7 @@ array_frame = record {
   ways = [];
   now = 0;
   kinds = Int ∷ Int ∷ Int ∷ Int ∷ Int ∷ Int ∷ Int ∷ Int ∷ Int ∷ Int ∷ [];
+  window = 0 ∷ 1 ∷ 2 ∷ 3 ∷ 4 ∷ 5 ∷ 6 ∷ 7 ∷ 8 ∷ 9 ∷ [];
   constants = [];
   size = 12;
 }

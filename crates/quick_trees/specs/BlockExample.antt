@@ -39,6 +39,7 @@ block_frame = record {
   ways = [];
   now = 0;
   kinds = Int ∷ Int ∷ Int ∷ [];
+  window = 0 ∷ 1 ∷ 2 ∷ [];
   constants = [];
   size = 4;
 }

@@ -36,7 +36,15 @@ call_code =
     ∷ AddInt 2 2 4 ∷ Move 4 1 ∷ End ∷ []
 
 abbrev pub call_frame : Frame
-call_frame = record { code = call_code; ways = []; now = 0; kinds = Int ∷ Int ∷ []; constants = []; size = 5 }
+call_frame = record {
+  code = call_code;
+  ways = [];
+  now = 0;
+  kinds = Int ∷ Int ∷ [];
+  window = 0 ∷ 1 ∷ [];
+  constants = [];
+  size = 5;
+}
 
 abbrev pub call_words : ℕ → ℕ → ℕ → ℕ → ℕ → ℕ → Memory
 call_words x y inner result m n = record {

@@ -77,21 +77,23 @@ pub record IsBlock (f : Frame) (units : QuickUnits) (body : SlotStmts) (at d : �
   pub stands : StmtsStand f (whole at) units body d (record { out = q; back = q }) p end
   pub joins : Joins f end q
 
--- the members of a standard block stand from a slot on
-abbrev pub AreMembers : Frame → List BlockMember → ℕ → Type 0
-AreMembers f [] k = Unit {0}
-AreMembers f (x ∷ members) k = (slice_get f.kinds k ≡ Some x.1) × AreMembers f members (suc k)
+-- the members of a standard block are slots from one on, and their words stand from one on
+abbrev pub AreMembers : Frame → List BlockMember → ℕ → ℕ → Type 0
+AreMembers f [] k w = Unit {0}
+AreMembers f (x ∷ members) k w =
+    (slice_get f.kinds k ≡ Some x.1) × ((slice_get f.window w ≡ Some k) × AreMembers f members (suc k) (suc w))
 
 -- A standard block steps by an instruction: all members are looked up, and then all are assigned.
 pub record IsStepped (f : Frame) (b : StandardBlock) (at : ℕ) (p q : Point) : Type 0 where
   pub block : code_block.StandardBlock
   pub is_block : block_view block ≡ b
-  pub members : AreMembers f (members_of b) at
-  pub stands : slice_get f.code p.place ≡ Some (Step block at)
+  pub word : ℕ
+  pub members : AreMembers f (members_of b) at word
+  pub stands : slice_get f.code p.place ≡ Some (Step block word)
   pub looked : List Noting
-  pub looks : AllChange at_look at (member_count b) p.noted looked
+  pub looks : AllChange at_look word (member_count b) p.noted looked
   pub is : q ≡ record (next p) { noted = q.noted }
-  pub assigns : AllChange at_assignment at (member_count b) looked q.noted
+  pub assigns : AllChange at_assignment word (member_count b) looked q.noted
 
 -- the code of a block on an instance that begins at a slot
 abbrev pub BlockStands : Frame → SlotLibrary → QuickUnits → BlockCode → ℕ → ℕ → Part

@@ -36,7 +36,15 @@ abbrev pub case_ways : List Way
 case_ways = way 4 1 ∷ way 6 1 ∷ way 6 1 ∷ way 8 1 ∷ []
 
 abbrev pub case_frame : Frame
-case_frame = record { code = case_code; ways = case_ways; now = 0; kinds = Int ∷ Int ∷ []; constants = []; size = 2 }
+case_frame = record {
+  code = case_code;
+  ways = case_ways;
+  now = 0;
+  kinds = Int ∷ Int ∷ [];
+  window = 0 ∷ 1 ∷ [];
+  constants = [];
+  size = 2;
+}
 
 abbrev pub case_words : ℕ → ℕ → ℕ → ℕ → Memory
 case_words x y m n = record { words = pos x ∷ pos y ∷ []; notes = m ∷ n ∷ [] }

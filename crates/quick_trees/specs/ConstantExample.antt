@@ -36,6 +36,7 @@ constant_frame = record {
   ways = [];
   now = 0;
   kinds = Int ∷ Dint ∷ [];
+  window = 0 ∷ 1 ∷ [];
   constants = [];
   size = 2;
 }

@@ -61,6 +61,7 @@ its_frame = record {
   ways = [];
   now = 0;
   kinds = Int ∷ Int ∷ [];
+  window = 0 ∷ 1 ∷ [];
   constants = int 10 ∷ int 1 ∷ [];
   size = 4;
 }

@@ -31,6 +31,7 @@ function_frame = record {
   ways = [];
   now = 0;
   kinds = Int ∷ Word ∷ [];
+  window = 0 ∷ 1 ∷ [];
   constants = int 1 ∷ record { kind = Word; number = pos 0 } ∷ record { kind = Word; number = pos 65535 } ∷ [];
   size = 6;
 }

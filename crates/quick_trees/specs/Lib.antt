@@ -1,3 +1,4 @@
+pub mod Windows
 pub mod QuickMemory
 pub mod Notes
 pub mod Points

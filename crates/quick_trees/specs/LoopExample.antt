@@ -38,6 +38,7 @@ loop_frame = record {
   ways = [];
   now = 0;
   kinds = Int ∷ Int ∷ Int ∷ Int ∷ Int ∷ [];
+  window = 0 ∷ 1 ∷ 2 ∷ 3 ∷ 4 ∷ [];
   constants = int 1 ∷ int 3 ∷ [];
   size = 10;
 }

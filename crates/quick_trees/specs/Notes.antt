@@ -68,7 +68,7 @@ tells LookedAssignmentAhead LookedAssignmentAhead = true
 tells Assigned _ = true
 tells _ _ = false
 
--- what is known of a slot changes so
+-- what is known of a word changes so
 pub record Changes (change : Noting → Option Noting) (k : ℕ) (before after : List Noting) : Type 0 where
   pub old : Noting
   pub there : slice_get before k ≡ Some old
@@ -76,18 +76,18 @@ pub record Changes (change : Noting → Option Noting) (k : ℕ) (before after :
   pub is : change old ≡ Some new
   pub rest : after ≡ slice_set before k new
 
--- what is known of so many slots, one after another
+-- what is known of so many words, one after another
 abbrev pub AllChange : (Noting → Option Noting) → ℕ → ℕ → List Noting → List Noting → Type 0
 AllChange change k zero before after = before ≡ after
 AllChange change k (suc n) before after =
     (between : List Noting) × (Changes change k before between × AllChange change (suc k) n between after)
 
--- what is known of each slot is known of it here, too
+-- what is known of each word is known of it here, too
 pub record Tells (these those : List Noting) : Type 0 where
   pub each : (k : ℕ) (n : Noting) → slice_get those k ≡ Some n
       → (m : Noting) × ((slice_get these k ≡ Some m) × (tells m n ≡ true))
 
--- what is known of slots is true of their marks and notes
-pub record AreTrueOf (ns : List Noting) (marks : List Mark) (notes : List ℕ) : Type 0 where
-  pub each : (k : ℕ) (n : Noting) (x : Mark) → slice_get ns k ≡ Some n → slice_get marks k ≡ Some x
-      → IsTrueOf n x (or_none (slice_get notes k))
+-- what is known of the words of slots is true of their notes and of the marks of the slots
+pub record AreTrueOf (window : List ℕ) (ns : List Noting) (marks : List Mark) (notes : List ℕ) : Type 0 where
+  pub each : (w k : ℕ) (n : Noting) (x : Mark) → slice_get window w ≡ Some k → slice_get ns w ≡ Some n
+      → slice_get marks k ≡ Some x → IsTrueOf n x (or_none (slice_get notes w))

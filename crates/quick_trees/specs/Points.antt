@@ -6,7 +6,7 @@ use Rattle.quick_trees.specs.declared.noting.Noting.{Noting}
 use Rattle.quick_trees.specs.Notes.{Changes, Tells, with_look_ahead, with_assignment_ahead}
 use Rattle.quick_trees.specs.QuickMemory.{Frame}
 
--- a place, how many ticks of what comes the run has taken already, and what is known of the notes of the slots
+-- a place, how many ticks of what comes the run has taken already, and what is known of the notes of the slots' words
 pub record Point : Type 0 where
   pub place : ℕ
   pub ahead : ℕ
@@ -48,7 +48,7 @@ pub record IsJump (f : Frame) (p q : Point) : Type 0 where
 abbrev pub Joins : Frame → Part
 Joins f p q = Meets p q ⊎ IsJump f p q
 
--- a look that comes, or an assignment, of a slot
+-- a look that comes, or an assignment, of the slot that has a word
 pub data Note : Type 0 where
   look_of : ℕ → Note
   assignment_of : ℕ → Note

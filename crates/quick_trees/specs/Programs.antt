@@ -13,10 +13,12 @@ use Rattle.quick_trees.specs.QuickMemory.{Frame, first_temporary}
 use Rattle.quick_trees.specs.Sites.{IsMemory, whole}
 use Rattle.quick_trees.specs.Standing.{StmtsStand}
 use Rattle.quick_trees.specs.Calls.{quick_units}
+use Rattle.quick_trees.specs.Windows.{StaysOutside}
+use Rattle.machine_code.specs.Tracking.{Tracked}
 
 -- where a run begins: nothing is ahead
 abbrev pub beginning : Frame → Point
-beginning f = record { place = 0; ahead = 0; noted = replicate (length f.kinds) Exact }
+beginning f = record { place = 0; ahead = 0; noted = replicate (length f.window) Exact }
 
 -- The code of a program: it takes the ticks of what is up to the first branch, does what the body says, and ends, where
 -- the notes tell what the program did.
@@ -25,17 +27,18 @@ pub record IsProgram (f : Frame) (library : SlotLibrary) (base depth : ℕ) (bod
   pub begins : slice_get f.code 0 ≡ Some (Jump way)
   pub end : Point
   pub last : Point
-  pub last_is : last ≡ record { place = last.place; ahead = 0; noted = replicate (length f.kinds) Exact }
+  pub last_is : last ≡ record { place = last.place; ahead = 0; noted = replicate (length f.window) Exact }
   pub stands : StmtsStand f (whole base) (quick_units f library depth) body (first_temporary f)
       (record { out = last; back = last }) (along (beginning f) way) end
   pub joins : Joins f end last
   pub ends : slice_get f.code last.place ≡ Some End
 
 -- The program ends well, with as many ticks left as a run of code, and with the values and the marks that the words and
--- the notes tell which this left.
-pub record EndsAs (f : Frame) (base : ℕ) (r : Result (MarkedEnd × ℕ) Fault) (e : Left) : Type 0 where
+-- the notes tell which this left; those of slots that have no word are as they were.
+pub record EndsAs (f : Frame) (base : ℕ) (begun : Tracked) (r : Result (MarkedEnd × ℕ) Fault) (e : Left) : Type 0 where
   pub end : MarkedEnd
   pub gives : r ≡ Ok (end, e.ticks)
   pub at : Point
-  pub exact : at.noted ≡ replicate (length f.kinds) Exact
+  pub exact : at.noted ≡ replicate (length f.window) Exact
   pub is : IsMemory f (whole base) at e.memory (state_of end)
+  pub stays : StaysOutside f.window begun (state_of end)

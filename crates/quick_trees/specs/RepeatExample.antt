@@ -26,4 +26,12 @@ repeat_code =
     ∷ Jump (way 8 0) ∷ WhenNotEqualTo 0 (pos 5) (way 4 3) 0 ∷ End ∷ []
 
 abbrev pub repeat_frame : Frame
-repeat_frame = record { code = repeat_code; ways = []; now = 0; kinds = Int ∷ Int ∷ []; constants = []; size = 2 }
+repeat_frame = record {
+  code = repeat_code;
+  ways = [];
+  now = 0;
+  kinds = Int ∷ Int ∷ [];
+  window = 0 ∷ 1 ∷ [];
+  constants = [];
+  size = 2;
+}

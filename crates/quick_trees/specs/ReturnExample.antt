@@ -50,6 +50,7 @@ return_frame = record {
   ways = [];
   now = 0;
   kinds = Int ∷ Int ∷ [];
+  window = 0 ∷ 1 ∷ [];
   constants = int 1 ∷ [];
   size = 7;
 }

@@ -35,6 +35,7 @@ sign_frame = record {
   ways = [];
   now = 0;
   kinds = Int ∷ Boolean ∷ Dword ∷ [];
+  window = 0 ∷ 1 ∷ 2 ∷ [];
   constants = int 0 ∷ dword 4294967295 ∷ [];
   size = 5;
 }

@@ -32,6 +32,7 @@ step_frame = record {
   ways = [];
   now = 0;
   kinds = Boolean ∷ Boolean ∷ Boolean ∷ Boolean ∷ Boolean ∷ [];
+  window = 0 ∷ 1 ∷ 2 ∷ 3 ∷ 4 ∷ [];
   constants = [];
   size = 5;
 }

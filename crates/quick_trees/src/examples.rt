@@ -52,12 +52,12 @@ pub fn a_loop_in_quick_code()
     ensures short { exec loop_code [] 0 50 0 (loop_words 0 10 1 2 3 7 0 0 0) 9 ≡ None }
 {}
 
-/// A WHILE whose turn is two instructions, with its constants in them. Its code stands for it. From 4 both come to 10,
-/// and take 13 ticks: one, and two for each of six turns.
+/// A WHILE whose turn is two instructions, with its constants in them, over the third of four slots, which is its only
+/// word. Its code stands for it. From 4 both come to 10, and take 13 ticks: one, and two for each of six turns.
 pub fn a_count_in_quick_code()
-    ensures stands { IsProgram count_frame no_units 0 0 count_body }
+    ensures stands { IsProgram count_frame no_units 2 0 count_body }
     ensures run { exec count_code [] 0 50 0 (count_words 4 0) 20 ≡ Some (left (count_words 10 3) 7) }
-    ensures program { marked_ran in_runs no_units 0 count_body 0 0 (count_slots 4 untouched) 20
+    ensures program { marked_ran in_runs no_units 2 count_body 0 0 (count_slots 4 untouched) 20
         ≡ Ok (goes_on (count_slots 10 (mark true true)), 7) }
     ensures short { exec count_code [] 0 50 0 (count_words 4 0) 12 ≡ None }
 {}

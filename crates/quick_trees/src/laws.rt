@@ -12,12 +12,12 @@ ghost use Rattle.quick_trees.specs.Sites.{IsMemory, whole};
 ghost use Rattle.quick_trees.specs.Programs.{EndsAs, IsProgram, beginning};
 
 /// Where quick code stands for a program with calls at most so deep, and a run of it ends well over words and notes
-/// that are the values and the marks of the slots, the program ends well over these: with as many ticks left, and with
-/// the values and the marks that words and notes tell then. This holds whatever faults stand for what no well-typed
-/// text meets, and whatever the temporaries hold.
+/// that are the values and the marks of the slots that it names, the program ends well over these: with as many ticks
+/// left, and with the values and the marks that words and notes tell then. Those of all other slots are as they were.
+/// This holds whatever faults stand for what no well-typed text meets, and whatever the temporaries hold.
 pub fn quick_code_does_what_its_program_does()
     ensures { (stand_ins : StandIns) (library : SlotLibrary) (base calls depth budget : ℕ) (body : SlotStmts)
         (f : Frame) (m : Memory) (t : Tracked) (e : Left) → IsProgram f library base calls body → calls ≤ depth
         → IsMemory f (whole base) (beginning f) m t → Ends f 0 m budget e
-        → EndsAs f base (marked_ran stand_ins library base body f.now depth t budget) e }
+        → EndsAs f base t (marked_ran stand_ins library base body f.now depth t budget) e }
 {}

@@ -524,8 +524,8 @@ statements::check_assigned-returns t c =
       own = c.in_ok-target.ensures.own;
       made = _;
       makes = rw (← kind) (c.in_ok-kind.ensures now whole kept);
-      is = c.in_ok-assign_variable.ensures.same;
-      touches = c.in_ok-assign_variable.ensures.touches;
+      is = c.in_ok-assign.ensures.same;
+      touches = c.in_ok-assign.ensures.touches;
     }
 
 pub statements::check_stored-returns : goal.statements::check_stored-returns
@@ -684,10 +684,10 @@ counting::check_for-returns t c =
       first = rw (c.landing.ensures, from) at (c.in_ok-from.ensures now whole is);
       second = rw (c.in_ok-below.ensures, kept) at (c.in_ok-kept.ensures now whole is);
       assigned = c.in_ok-expect.ensures.stands;
-      test = point_of c.assign_variable.new.at;
-      assigns = c.in_ok-assign_variable.ensures.same
-          ∙ ap (λ (x : Point). record x { noted = c.assign_variable.new.at.noted.items }) c.in_ok-expect.ensures.next;
-      touches = rw (ap (λ (x : Point). x.noted) c.in_ok-expect.ensures.next) at c.in_ok-assign_variable.ensures.touches;
+      test = point_of c.assign.new.at;
+      assigns = c.in_ok-assign.ensures.same
+          ∙ ap (λ (x : Point). record x { noted = c.assign.new.at.noted.items }) c.in_ok-expect.ensures.next;
+      touches = rw (ap (λ (x : Point). x.noted) c.in_ok-expect.ensures.next) at c.in_ok-assign.ensures.touches;
       by = c.in_ok-turns.turns.by;
       step_is = c.in_ok-turns.ensures.step;
       moves = c.in_ok-turns.ensures.moves;

@@ -10,10 +10,11 @@ loop-index-preserved c = record {
   each = λ now. one_more (λ j. slice_get (kinds_of (frame_of c.args.draft.now now) (site_of c.args.values.now))
       (c.in_ok-first.first + j * c.args.subscript.now.stride) ≡ Some c.in_ok-kind.kind) _ (c.loop-index.invariant.each now)
       (c.if-not-is_element.ensures.of_type (search rules) now);
-  words = one_more (λ j. HasOwnWord (site_of c.args.values.now) (c.in_ok-first.first + j * c.args.subscript.now.stride)
+  words = one_more (λ j. HasOwnWord c.args.draft.now.window.items (site_of c.args.values.now) (c.in_ok-first.first + j
+      * c.args.subscript.now.stride)
       (c.in_ok-word.word + j * c.args.subscript.now.stride)) _ c.loop-index.invariant.words
       (c.if-not-is_element.ensures.has (search rules));
   exact = one_more (λ j. IsExact (site_of c.args.values.now) c.args.at.now.noted.items
-      (c.in_ok-first.first + j * c.args.subscript.now.stride)) _ c.loop-index.invariant.exact
+      (c.in_ok-word.word + j * c.args.subscript.now.stride)) _ c.loop-index.invariant.exact
       (c.if-not-is_element.ensures.exact (search rules));
 }

@@ -9,8 +9,9 @@ invariant-loop-index l = record {
   each : (now j : ℕ) → j < l.index
       → slice_get (kinds_of (frame_of l.draft now) (site_of l.values)) (l.first + j * l.subscript.stride) ≡ Some l.kind;
   words : (j : ℕ) → j < l.index
-      → HasOwnWord (site_of l.values) (l.first + j * l.subscript.stride) (l.word + j * l.subscript.stride);
-  exact : (j : ℕ) → j < l.index → IsExact (site_of l.values) l.at.noted.items (l.first + j * l.subscript.stride);
+      → HasOwnWord l.draft.window.items (site_of l.values) (l.first + j * l.subscript.stride) (l.word + j *
+      l.subscript.stride);
+  exact : (j : ℕ) → j < l.index → IsExact (site_of l.values) l.at.noted.items (l.word + j * l.subscript.stride);
 }
 
 abbrev pub decreases-loop-index : goal.decreases-loop-index

@@ -16,9 +16,9 @@ loop-index-preserved c = record {
   within = omega arith;
   same = c.in_ok-assign.ensures.same
       ∙ ap (λ (x : Point). record x { noted = c.assign.new.at.noted.items }) c.loop-index.invariant.same;
-  assigns = change_more at_assignment c.args.first c.args.count c.loop-index.index c.in-Some.slot
+  assigns = change_more at_assignment c.args.first c.args.count c.loop-index.index c.in_ok-word.word
       c.args.at.now.noted.items
-      c.loop-index.at.noted.items c.assign.new.at.noted.items c.in-Some.ensures.1
+      c.loop-index.at.noted.items c.assign.new.at.noted.items c.in_ok-word.ensures
       c.in_ok-assign.ensures.touches c.loop-index.invariant.assigns;
 }
 

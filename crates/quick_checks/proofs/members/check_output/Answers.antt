@@ -14,9 +14,9 @@ returns c =
     let is = seen ∙ ap (copied c.in-Copied.member) c.in-Some-Some.ensures in
     λ now library calls rest q more. copied_next (frame_of c.args.draft.now now) (site_of c.args.values.now)
     (quick_units (frame_of c.args.draft.now now) library calls) c.args.first (slot_argument_view c.args.argument.now)
-    c.in-Copied.member (anchor_view c.in-Some-Some.target) c.in-Some-Some.from c.in_ok-to.to rest
+    c.in-Copied.member (anchor_view c.in-Some-Some.target) c.in-Some-Some.from c.in_ok-slot.slot rest
     (point_of c.args.at.now) (point_of c.read_notes.new.at) (point_of c.give.new.at) q is c.in-Some-Some.ensures'.1
-    c.in_ok-to.ensures (c.in_ok-read_notes.ensures now) (record {
+    c.in_ok-slot.ensures (c.in_ok-read_notes.ensures now) (record {
       kind = c.in_ok-read.read.kind;
       word = c.in_ok-read.read.word;
       looked = point_of c.read_slot.new.at;
@@ -26,5 +26,6 @@ returns c =
         is = c.in_ok-read.ensures.same;
         touches = c.in_ok-read.ensures.touches;
       };
-      gives = c.in_ok-give.ensures now library calls;
+      to = c.in_ok-_to._to;
+      gives = c.in_ok-_to.ensures now library calls;
     }) more

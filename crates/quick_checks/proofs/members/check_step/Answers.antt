@@ -8,6 +8,7 @@ returns c =
     λ now. record {
       block = c.args.block;
       is_block = refl;
+      word = c.in_ok-word.word;
       members = c.if-not-are_members.ensures (search rules) now;
       stands = c.if-not-steps.ensures (search rules);
       looked = c.look_all.new.at.noted.items;

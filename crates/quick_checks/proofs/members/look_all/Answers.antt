@@ -16,8 +16,8 @@ loop-index-preserved c = record {
   within = omega arith;
   same = c.in_ok-look.ensures.same
       ∙ ap (λ (x : Point). record x { noted = c.look.new.at.noted.items }) c.loop-index.invariant.same;
-  looks = change_more at_look c.args.first c.args.count c.loop-index.index c.in-Some.slot c.args.at.now.noted.items
-      c.loop-index.at.noted.items c.look.new.at.noted.items c.in-Some.ensures.1
+  looks = change_more at_look c.args.first c.args.count c.loop-index.index c.in_ok-word.word c.args.at.now.noted.items
+      c.loop-index.at.noted.items c.look.new.at.noted.items c.in_ok-word.ensures
       c.in_ok-look.ensures.touches c.loop-index.invariant.looks;
 }
 

@@ -99,18 +99,21 @@ returns-clause-stands c = record {
           );
           begun = at 8 1 (LookedAssignmentAhead ∷ Assigned ∷ BothAhead ∷ []);
           gives = (
-            tt,
-            record {
-              middle = at 8 1 (LookedAssignmentAhead ∷ Assigned ∷ BothAhead ∷ []);
-              first = record {
-                of_type = refl;
-                own = refl;
-                stands = refl;
-                is = refl;
-                touches = record { old = AssignmentAhead; there = refl; new = Assigned; is = refl; rest = refl };
-              };
-              second = refl;
-            },
+            1,
+            (
+              tt,
+              record {
+                middle = at 8 1 (LookedAssignmentAhead ∷ Assigned ∷ BothAhead ∷ []);
+                first = record {
+                  of_type = refl;
+                  own = refl;
+                  stands = refl;
+                  is = refl;
+                  touches = record { old = AssignmentAhead; there = refl; new = Assigned; is = refl; rest = refl };
+                };
+                second = refl;
+              },
+            ),
           );
           done = at 9 0 (LookedAssignmentAhead ∷ Assigned ∷ Assigned ∷ []);
           does = (
@@ -209,6 +212,7 @@ returns-clause-stands c = record {
                   is = refl;
                   touches = record { old = Assigned; there = refl; new = Assigned; is = refl; rest = refl };
                 };
+                to = 0;
                 gives = record {
                   of_type = refl;
                   own = refl;

@@ -26,7 +26,7 @@ abbrev AreExact : List Noting → Type 0
 AreExact ns = (slice_get ns 2 ≡ Some Exact) × ((slice_get ns 3 ≡ Some Exact) × (slice_get ns 4 ≡ Some Exact))
 
 elements : (ns : List Noting) → AreExact ns → AreElements loop_frame (whole 0) ns 2 3 1 2 Int
-elements ns are = record { each = each; words = λ j lt. refl; exact = exact }
+elements ns are = record { each = each; words = words; exact = exact }
   where
     each : (j : ℕ) → j < 3 → slice_get loop_frame.kinds (2 + j * 1) ≡ Some Int
     each zero lt = refl
@@ -34,11 +34,21 @@ elements ns are = record { each = each; words = λ j lt. refl; exact = exact }
     each (suc (suc zero)) lt = refl
     each (suc (suc (suc j))) lt = absurd (omega arith)
 
+    words : (j : ℕ) → j < 3 → slice_get loop_frame.window (2 + j * 1) ≡ Some (2 + j * 1)
+    words zero lt = refl
+    words (suc zero) lt = refl
+    words (suc (suc zero)) lt = refl
+    words (suc (suc (suc j))) lt = absurd (omega arith)
+
     exact : (j : ℕ) → j < 3 → slice_get ns (2 + j * 1) ≡ Some Exact
     exact zero lt = are.0
     exact (suc zero) lt = are.1.0
     exact (suc (suc zero)) lt = are.1.1
     exact (suc (suc (suc j))) lt = absurd (omega arith)
+
+-- a temporary is the word of no slot
+no_word : (j : ℕ) → slice_get loop_frame.window 6 ≡ Some j → ⊥
+no_word j own = cc
 
 pub returns-clause-stands : goal.returns-clause-stands
 returns-clause-stands c = record {
@@ -79,7 +89,7 @@ returns-clause-stands c = record {
               refl,
               record { value = int 3; of_literal = refl; of_type = refl; index = 1; among = refl; place = refl },
             );
-            stays = λ j lt own. (let is : 6 ≡ j = own in omega arith);
+            stays = λ j lt own. no_word j own;
           };
           assigned = refl;
           test = at 3 0 (Assigned ∷ Exact ∷ Exact ∷ Exact ∷ Exact ∷ []);

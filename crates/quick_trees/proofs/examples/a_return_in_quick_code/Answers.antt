@@ -14,7 +14,7 @@ use Rattle.st_words.specs.declared.kind.Kind.{Kind}
 use Rattle.st_words.specs.Values.{Datum}
 use Rattle.quick_code.specs.declared.quick_instr.QuickInstr.TheVariants.{WhenFrom}
 use Rattle.quick_trees.specs.Calls.{AreInputs, kinds_in, quick_units}
-use Rattle.quick_trees.specs.ReturnExample.{found}
+use Rattle.quick_trees.specs.ReturnExample.{found, return_frame}
 use Rattle.quick_trees.specs.Sites.{HasOwnWord, Seat, called}
 use Rattle.quick_trees.proofs.Lists.{some_is}
 use Rattle.quick_trees.proofs.examples.a_return_in_quick_code.Goals as goal
@@ -50,7 +50,7 @@ seats =
 other_word : (w : ℕ) (s : Seat) → s.word ≡ w → Some s ≡ Some (record { word = 2; is_own = true }) → w ≡ 2
 other_word w s is e = sym is ∙ ap (λ (s : Seat). s.word) (some_is e)
 
-stays : (j : ℕ) → j < 3 → HasOwnWord (called (kinds_in found) seats) j 2 → ⊥
+stays : (j : ℕ) → j < 3 → HasOwnWord return_frame.window (called (kinds_in found) seats) j 2 → ⊥
 stays zero lt own = (let is = other_word 0 (record { word = 0; is_own = false }) refl own in omega arith)
 stays (suc zero) lt own = (let is = other_word 5 (record { word = 5; is_own = true }) refl own in omega arith)
 stays (suc (suc zero)) lt own = (let is = other_word 6 (record { word = 6; is_own = true }) refl own in omega arith)

@@ -115,24 +115,28 @@ returns-clause-stands c = record {
           );
           begun = at 9 0 (Looked ∷ Assigned ∷ BothAhead ∷ BothAhead ∷ AssignmentAhead ∷ []);
           gives = (
-            tt,
-            record {
-              middle = at 9 0 (Looked ∷ Assigned ∷ BothAhead ∷ BothAhead ∷ AssignmentAhead ∷ []);
-              first = record {
-                of_type = refl;
-                own = refl;
-                stands = refl;
-                is = refl;
-                touches = record { old = AssignmentAhead; there = refl; new = Assigned; is = refl; rest = refl };
-              };
-              second = refl;
-            },
+            1,
+            (
+              tt,
+              record {
+                middle = at 9 0 (Looked ∷ Assigned ∷ BothAhead ∷ BothAhead ∷ AssignmentAhead ∷ []);
+                first = record {
+                  of_type = refl;
+                  own = refl;
+                  stands = refl;
+                  is = refl;
+                  touches = record { old = AssignmentAhead; there = refl; new = Assigned; is = refl; rest = refl };
+                };
+                second = refl;
+              },
+            ),
           );
           done = at 10 0 (Looked ∷ Assigned ∷ Assigned ∷ Assigned ∷ AssignmentAhead ∷ []);
           does = record {
             block = RTrig;
             is_block = refl;
-            members = (refl, (refl, (refl, tt)));
+            word = 1;
+            members = (refl, (refl, (refl, (refl, (refl, (refl, tt))))));
             stands = refl;
             looked = (Looked ∷ Assigned ∷ LookedAssignmentAhead ∷ LookedAssignmentAhead ∷ AssignmentAhead ∷ []);
             looks = (
@@ -190,6 +194,7 @@ returns-clause-stands c = record {
                   is = refl;
                   touches = record { old = Assigned; there = refl; new = Assigned; is = refl; rest = refl };
                 };
+                to = 4;
                 gives = record {
                   of_type = refl;
                   own = refl;

@@ -34,11 +34,22 @@ alike a b v (suc (suc (suc (suc (suc (suc zero)))))) lt = refl
 alike a b v (suc (suc (suc (suc (suc (suc (suc zero))))))) lt = refl
 alike a b v (suc (suc (suc (suc (suc (suc (suc (suc o)))))))) lt = absurd (omega arith)
 
+words : (o : ℕ) → o < 8 → slice_get array_frame.window (2 + o) ≡ Some (2 + o)
+words zero lt = refl
+words (suc zero) lt = refl
+words (suc (suc zero)) lt = refl
+words (suc (suc (suc zero))) lt = refl
+words (suc (suc (suc (suc zero)))) lt = refl
+words (suc (suc (suc (suc (suc zero))))) lt = refl
+words (suc (suc (suc (suc (suc (suc zero)))))) lt = refl
+words (suc (suc (suc (suc (suc (suc (suc zero))))))) lt = refl
+words (suc (suc (suc (suc (suc (suc (suc (suc o)))))))) lt = absurd (omega arith)
+
 reached : (x y z : ℕ) → AreReached array_frame (whole 0)
     (Looked ∷ Looked ∷ Exact ∷ Exact ∷ Exact ∷ Exact ∷ Exact ∷ Exact ∷ Exact ∷ Exact ∷ []) 2 (cells x y z) 2 Int
 reached x y z = record {
   each = λ o leads. alike Int Int Int o (few x y z o leads);
-  words = λ o leads. refl;
+  words = λ o leads. words o (few x y z o leads);
   exact = λ o leads. alike Looked Looked Exact o (few x y z o leads);
 }
 
