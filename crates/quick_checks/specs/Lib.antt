@@ -1,3 +1,4 @@
 pub mod Checking
 pub mod Choices
 pub mod Within
+pub mod Sums

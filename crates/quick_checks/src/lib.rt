@@ -27,6 +27,7 @@ mod same;
 mod scope;
 mod signs;
 mod statements;
+mod subscripts;
 mod turning;
 mod within;
 
@@ -35,3 +36,4 @@ pub use draft::Landing;
 pub use instructions::{branch_for, branch_for_by, instr_by, instr_for, truth_branch, truth_for};
 pub use programs::{DraftedProgram, checked};
 pub use refusal::Refusal;
+pub use subscripts::{Sum, shift_for, summed};

@@ -13,6 +13,7 @@ pub mod LoopExample
 pub mod CountExample
 pub mod CallExample
 pub mod ArrayExample
+pub mod ShiftExample
 pub mod BlockExample
 pub mod StepExample
 pub mod SignExample

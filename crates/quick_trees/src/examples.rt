@@ -20,6 +20,7 @@ ghost use Rattle.quick_trees.specs.FunctionExample.{function_words};
 ghost use Rattle.quick_trees.specs.LoopExample.{loop_body, loop_code, loop_frame, loop_slots, loop_words};
 ghost use Rattle.quick_trees.specs.RepeatExample.{repeat_body, repeat_code, repeat_frame};
 ghost use Rattle.quick_trees.specs.ReturnExample.{return_body, return_code, return_frame, return_library, return_words};
+ghost use Rattle.quick_trees.specs.ShiftExample.{shift_body, shift_code, shift_frame, shift_slots, shift_words};
 ghost use Rattle.quick_trees.specs.SignExample.{sign_body, sign_code, sign_frame, sign_slots, sign_words};
 ghost use Rattle.quick_trees.specs.StepExample.{step_body, step_code, step_frame, step_slots, step_words};
 ghost use Rattle.quick_trees.specs.Programs.{beginning, IsProgram};
@@ -144,6 +145,18 @@ pub fn an_array_in_quick_code()
     ensures program { marked_ran in_runs no_units 0 array_body 0 0 (array_slots 2 1 7 0 untouched untouched) 20
         ≡ Ok (goes_on (array_slots 2 1 7 7 (mark true false) (mark false true)), 19) }
     ensures out_of_bounds { exec array_code [] 0 50 0 (array_words 3 1 7 0 0 0 0 0) 20 ≡ None }
+{}
+
+/// An element is assigned to the one two before it, by subscripts that are sums with a constant. With i = 2 both assign
+/// a[3] to a[1], and take a tick; the constants stand in the instructions alone. There is no a[4], so with i = 3 the
+/// code cannot tell.
+pub fn shifted_subscripts_in_quick_code()
+    ensures stands { IsProgram shift_frame no_units 0 0 shift_body }
+    ensures run { exec shift_code [] 0 50 0 (shift_words 2 0 7 0 0 0 0) 20
+        ≡ Some (left (shift_words 2 7 7 7 1 2 1) 19) }
+    ensures program { marked_ran in_runs no_units 0 shift_body 0 0 (shift_slots 2 0 7 untouched untouched untouched) 20
+        ≡ Ok (goes_on (shift_slots 2 7 7 (mark true false) (mark false true) (mark true false)), 19) }
+    ensures out_of_bounds { exec shift_code [] 0 50 0 (shift_words 3 0 7 0 0 0 0) 20 ≡ None }
 {}
 
 /// The sign of a number is turned, and each bit of a BOOL and of a DWORD. From 5, TRUE and 7 both come to -5, FALSE and

@@ -158,18 +158,23 @@ returns-clause-stands c = record {
                             subscript = record {
                               kind = Int;
                               narrow = refl;
-                              reads = record {
-                                of_type = refl;
-                                has = refl;
-                                is = refl;
-                                touches = record {
-                                  old = Assigned;
-                                  there = refl;
-                                  new = Assigned;
+                              added = pos 0;
+                              reads = inl (
+                                refl,
+                                record {
+                                  of_type = refl;
+                                  has = refl;
                                   is = refl;
-                                  rest = refl;
-                                };
-                              };
+                                  touches = record {
+                                    old = Assigned;
+                                    there = refl;
+                                    new = Assigned;
+                                    is = refl;
+                                    rest = refl;
+                                  };
+                                },
+                              );
+                              fits = inl refl;
                               from_lower = refl;
                             };
                             word = 2;
@@ -204,12 +209,17 @@ returns-clause-stands c = record {
                   subscript = record {
                     kind = Int;
                     narrow = refl;
-                    reads = record {
-                      of_type = refl;
-                      has = refl;
-                      is = refl;
-                      touches = record { old = Assigned; there = refl; new = Assigned; is = refl; rest = refl };
-                    };
+                    added = pos 0;
+                    reads = inl (
+                      refl,
+                      record {
+                        of_type = refl;
+                        has = refl;
+                        is = refl;
+                        touches = record { old = Assigned; there = refl; new = Assigned; is = refl; rest = refl };
+                      },
+                    );
+                    fits = inl refl;
                     from_lower = refl;
                   };
                   word = 2;
@@ -242,12 +252,17 @@ returns-clause-stands c = record {
                         subscript = record {
                           kind = Int;
                           narrow = refl;
-                          reads = record {
-                            of_type = refl;
-                            has = refl;
-                            is = refl;
-                            touches = record { old = Assigned; there = refl; new = Assigned; is = refl; rest = refl };
-                          };
+                          added = pos 0;
+                          reads = inl (
+                            refl,
+                            record {
+                              of_type = refl;
+                              has = refl;
+                              is = refl;
+                              touches = record { old = Assigned; there = refl; new = Assigned; is = refl; rest = refl };
+                            },
+                          );
+                          fits = inl refl;
                           from_lower = refl;
                         };
                         word = 2;

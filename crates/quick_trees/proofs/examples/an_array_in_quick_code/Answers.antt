@@ -89,12 +89,17 @@ returns-clause-stands c = record {
                   subscript = record {
                     kind = Int;
                     narrow = refl;
-                    reads = record {
-                      of_type = refl;
-                      has = refl;
-                      is = refl;
-                      touches = record { old = LookAhead; there = refl; new = Looked; is = refl; rest = refl };
-                    };
+                    added = pos 0;
+                    reads = inl (
+                      refl,
+                      record {
+                        of_type = refl;
+                        has = refl;
+                        is = refl;
+                        touches = record { old = LookAhead; there = refl; new = Looked; is = refl; rest = refl };
+                      },
+                    );
+                    fits = inl refl;
                     from_lower = refl;
                   };
                   stands = refl;
@@ -111,12 +116,17 @@ returns-clause-stands c = record {
                     subscript = record {
                       kind = Int;
                       narrow = refl;
-                      reads = record {
-                        of_type = refl;
-                        has = refl;
-                        is = refl;
-                        touches = record { old = LookAhead; there = refl; new = Looked; is = refl; rest = refl };
-                      };
+                      added = pos 0;
+                      reads = inl (
+                        refl,
+                        record {
+                          of_type = refl;
+                          has = refl;
+                          is = refl;
+                          touches = record { old = LookAhead; there = refl; new = Looked; is = refl; rest = refl };
+                        },
+                      );
+                      fits = inl refl;
                       from_lower = refl;
                     };
                     stands = refl;
@@ -130,12 +140,17 @@ returns-clause-stands c = record {
                     subscript = record {
                       kind = Int;
                       narrow = refl;
-                      reads = record {
-                        of_type = refl;
-                        has = refl;
-                        is = refl;
-                        touches = record { old = Looked; there = refl; new = Looked; is = refl; rest = refl };
-                      };
+                      added = pos 0;
+                      reads = inl (
+                        refl,
+                        record {
+                          of_type = refl;
+                          has = refl;
+                          is = refl;
+                          touches = record { old = Looked; there = refl; new = Looked; is = refl; rest = refl };
+                        },
+                      );
+                      fits = inl refl;
                       from_lower = refl;
                     };
                     stands = refl;
@@ -158,12 +173,17 @@ returns-clause-stands c = record {
                 subscript = record {
                   kind = Int;
                   narrow = refl;
-                  reads = record {
-                    of_type = refl;
-                    has = refl;
-                    is = refl;
-                    touches = record { old = Looked; there = refl; new = Looked; is = refl; rest = refl };
-                  };
+                  added = pos 0;
+                  reads = inl (
+                    refl,
+                    record {
+                      of_type = refl;
+                      has = refl;
+                      is = refl;
+                      touches = record { old = Looked; there = refl; new = Looked; is = refl; rest = refl };
+                    },
+                  );
+                  fits = inl refl;
                   from_lower = refl;
                 };
                 stands = refl;
@@ -180,12 +200,17 @@ returns-clause-stands c = record {
                   subscript = record {
                     kind = Int;
                     narrow = refl;
-                    reads = record {
-                      of_type = refl;
-                      has = refl;
-                      is = refl;
-                      touches = record { old = Looked; there = refl; new = Looked; is = refl; rest = refl };
-                    };
+                    added = pos 0;
+                    reads = inl (
+                      refl,
+                      record {
+                        of_type = refl;
+                        has = refl;
+                        is = refl;
+                        touches = record { old = Looked; there = refl; new = Looked; is = refl; rest = refl };
+                      },
+                    );
+                    fits = inl refl;
                     from_lower = refl;
                   };
                   stands = refl;
@@ -199,12 +224,17 @@ returns-clause-stands c = record {
                   subscript = record {
                     kind = Int;
                     narrow = refl;
-                    reads = record {
-                      of_type = refl;
-                      has = refl;
-                      is = refl;
-                      touches = record { old = Looked; there = refl; new = Looked; is = refl; rest = refl };
-                    };
+                    added = pos 0;
+                    reads = inl (
+                      refl,
+                      record {
+                        of_type = refl;
+                        has = refl;
+                        is = refl;
+                        touches = record { old = Looked; there = refl; new = Looked; is = refl; rest = refl };
+                      },
+                    );
+                    fits = inl refl;
                     from_lower = refl;
                   };
                   stands = refl;
