@@ -5,11 +5,13 @@ pub mod Sites
 pub mod Instructions
 pub mod Pieces
 pub mod Functions
+pub mod Counting
 pub mod Standing
 pub mod Calls
 pub mod Programs
 pub mod Example
 pub mod LoopExample
+pub mod ShortForExample
 pub mod CountExample
 pub mod CallExample
 pub mod ArrayExample

@@ -33,10 +33,11 @@ use Rattle.slot_bodies.specs.LibraryViews.{slot_function_view, slot_library_view
 use Rattle.code_drafts.specs.Emitting.{filled}
 use Rattle.code_drafts.proofs.Depths.{function_lighter}
 use Rattle.code_drafts.proofs.Filled.{filled_function}
+use Rattle.quick_checks.proofs.Standings.{passes_same}
 use Rattle.quick_checks.proofs.Standings.{arms_next, arms_over, meets_same, stmts_next, stmts_on, stmts_over, ticked}
 use Rattle.std.specs.Prelude.{Some, slice_get}
 use Rattle.std.proofs.Common.{ℕ}
-use Rattle.quick_trees.specs.Points.{Joins, along}
+use Rattle.quick_trees.specs.Points.{GoesBack, Joins, along}
 use Rattle.quick_trees.specs.Standing.{StmtsStand}
 use Rattle.slot_bodies.specs.declared.statement.SlotCaseArm as code_case_arm
 use Rattle.slot_bodies.specs.Chains.{case_arms_of}
@@ -711,9 +712,12 @@ counting::check_for-returns t c =
       known = c.if-not-is_assigned.ensures (search rules);
       back = c.in_ok-again.again.way;
       after = c.in_ok-again.again.past;
-      counts = rw (c.in_ok-turns.ensures.kind, c.in_ok-turns.ensures.control) at (c.in_ok-again.ensures now);
-      again = rw c.in_ok-head.ensures at (c.if-not-goes_back.ensures (search rules));
-      behind = rw q (c.if-not-passes_back.ensures (search rules));
+      foot = c.expect_counted.new.at.place;
+      counts = rw (c.in_ok-turns.ensures.kind, c.in_ok-turns.ensures.control) at (c.in_ok-again.ensures.counts now);
+      again = subst (λ (x : Point). GoesBack (along x c.in_ok-again.again.way) (point_of c.read_notes.new.at))
+          c.in_ok-again.ensures.same (rw c.in_ok-head.ensures at (c.if-not-goes_back.ensures (search rules)));
+      behind = rw q (passes_same _ _ _ c.in_ok-again.again.past c.in_ok-again.ensures.same
+          (c.if-not-passes_back.ensures (search rules)));
     }
 
 pub counting::check_kept-returns-then-is_same : goal.counting::check_kept-returns-then-is_same
