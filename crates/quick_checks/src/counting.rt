@@ -3,12 +3,11 @@
 ghost use Rattle.std.specs.Prelude.{◌≡◌, ◌<◌, ◌⊎◌, ℕ, ℤ, IfOk, IsTrue, OnOk, Some, length, map, option_map, pos};
 ghost use Rattle.std.specs.Prelude.{slice_get, suc, true};
 ghost use Rattle.st_words.specs.Values.{IsHeld};
-ghost use Rattle.st_words.specs.declared.kind.Kind.TheVariants.{Lint};
 ghost use Rattle.quick_code.specs.declared.quick_instr.QuickInstr.TheVariants as instrs;
 ghost use Rattle.st_words.specs.Words.{datum_at};
 ghost use Rattle.slot_bodies.specs.ExpressionViews.{anchor_view, slot_expr_view};
 ghost use Rattle.slot_bodies.specs.StatementViews.{slot_stmts_view};
-ghost use Rattle.quick_trees.specs.Counting.{BeginsToCount, Counts, CountsAtOnce, GoesOnCounting, IsStep};
+ghost use Rattle.quick_trees.specs.Counting.{BeginsToCount, Counts, CountsAtOnce, GoesOnCounting, IsLong, IsStep};
 ghost use Rattle.quick_trees.specs.Functions.{IsMovedWithin};
 ghost use Rattle.quick_trees.specs.Sites.{HasOwnWord, kinds_of};
 ghost use Rattle.quick_trees.specs.Standing.{IsFor, IsKept, StmtsStand};
@@ -57,7 +56,7 @@ fn turns_of(target: Reading, step: &Option<SlotExpr>) -> Result<Turns, Refusal>
     };
     match target.kind {
         Kind::Int | Kind::Dint | Kind::Lint | Kind::Sint => {}
-        Kind::Usint | Kind::Uint | Kind::Udint => {}
+        Kind::Usint | Kind::Uint | Kind::Udint | Kind::Ulint => {}
         _ => return Err(Refusal::Other),
     }
     if by == 0 || number < target.kind.least() || target.kind.greatest() < number {
@@ -243,7 +242,7 @@ fn goes_on_counting(
 fn expect_added(draft: &QuickDraft, turns: &Turns, at: &mut Cursor) -> Result<(), Refusal>
     ensures added { OnOk result (slice_get draft.now.code.instrs.items at.old.place
         ≡ Some (instrs.AddLintBy turns.now.control turns.now.by turns.now.control)) }
-    ensures within { OnOk result ((now : ℕ) → ((turns.now.kind ≡ Lint) × (at.new.place ≡ suc at.old.place))
+    ensures within { OnOk result ((now : ℕ) → (IsLong turns.now.kind × (at.new.place ≡ suc at.old.place))
         ⊎ (IsMovedWithin (frame_of draft.now now) turns.now.kind turns.now.control turns.now.control
         (suc at.old.place) × (at.new.place ≡ suc (suc at.old.place)))) }
     ensures same { OnOk result (point_of at.new ≡ record (point_of at.old) { place = at.new.place }) }
@@ -258,7 +257,7 @@ fn expect_added(draft: &QuickDraft, turns: &Turns, at: &mut Cursor) -> Result<()
             to: control,
         },
     )?;
-    if is_kind(turns.kind, Kind::Lint) {
+    if is_kind(turns.kind, Kind::Lint) || is_kind(turns.kind, Kind::Ulint) {
         return Ok(());
     }
     expect_within(draft, turns.kind, control, control, at)

@@ -300,7 +300,7 @@ impl Count {
             constant: self.step,
             to: self.control,
         })?;
-        if self.kind == Kind::Lint {
+        if self.kind == Kind::Lint || self.kind == Kind::Ulint {
             return Ok(());
         }
         put_within(unit, draft, self.kind, self.control, self.control)

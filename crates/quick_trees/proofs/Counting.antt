@@ -3,8 +3,10 @@ use Rattle.std.proofs.Common.{◌≡◌, ◌≢◌, ℕ, zero, suc, ◌+◌, ◌
 use Rattle.std.proofs.Common.{List, Option, length}
 use Rattle.std.proofs.Common.{Some, None, Ok, refl, sym, ap, subst, ◌∙◌, arith, inl, inr}
 use Rattle.std.specs.Prelude.{◌⊎◌, if◌then◌else◌, int_le, int_lt, not, slice_get}
+use Rattle.std.proofs.lemmas.Grind.{common_steps}
 use Rattle.std.proofs.lemmas.Int.{ints}
 use Rattle.st_words.specs.declared.kind.Kind.{Kind}
+use Rattle.st_words.specs.declared.kind.Kind.TheVariants as kinds
 use Rattle.st_words.specs.declared.operator.BinaryOperator.TheVariants.{Add}
 use Rattle.st_words.specs.Values.{IsHeld, in_range}
 use Rattle.st_words.specs.Kinds.{holds}
@@ -30,7 +32,8 @@ use Rattle.tree_code.specs.MarkedEvaluation.{MarkedScope, marked_value}
 use Rattle.tree_code.specs.MarkedExecution.{MarkedEnd, marked_counting, marked_guarded, marked_loop, marked_on}
 use Rattle.tree_code.specs.MarkedExecution.{marked_put}
 use Rattle.tree_code.specs.MarkedExecution.{marked_runs_on, marked_step, marked_step_of, marked_step_on, marked_turns}
-use Rattle.quick_trees.specs.Counting.{BeginsToCount, Counts, CountsAsLint, CountsAtOnce, GoesOnCounting, IsStep}
+use Rattle.quick_trees.specs.Counting.{BeginsToCount, Counts, CountsAsLint, CountsAtOnce, GoesOnCounting, IsLong}
+use Rattle.quick_trees.specs.Counting.{IsStep}
 use Rattle.quick_trees.specs.Functions.{IsMovedWithin}
 use Rattle.quick_trees.specs.Points.{Part, Point, along, past_branch}
 use Rattle.quick_trees.specs.QuickMemory.{Ends, Frame, first_temporary}
@@ -132,6 +135,21 @@ sum_within t v n w narrow is held = record {
   held = ap (holds t) (narrow_number t w narrow) ∙ held;
 }
 
+-- what is a LINT is the word of a ULINT
+long_word : (w : ℤ) → holds kinds.Lint w ≡ true → holds kinds.Ulint (number_at kinds.Ulint w) ≡ true
+long_word w held = grind (arith, common_steps)
+
+sum_long : (t : Kind) (v n w : ℤ) → IsLong t → v +ℤ n ≡ w → holds kinds.Lint w ≡ true
+    → IsResult (in_range t (number_at t v +ℤ n)) t w
+sum_long t v n w (inl lint) is held =
+    sum_within t v n w (ap is_wide lint) is (ap (λ t. holds t w) lint ∙ held)
+sum_long t v n w (inr ulint) is held =
+    subst (λ t. IsResult (in_range t (number_at t v +ℤ n)) t w) (sym ulint) (record {
+      value = sum_makes (number_at kinds.Ulint v) n (number_at kinds.Ulint w) (omega (arith, ints, is)) kinds.Ulint
+          (long_word w held);
+      held = long_word w held;
+    })
+
 -- what a sum is kept of is a LINT
 kept_held : (z w : ℤ) (h : Bool) → holds (kind_of signed.Lint) z ≡ h → (if h then Some z else None) ≡ Some w
     → holds (kind_of signed.Lint) w ≡ true
@@ -158,11 +176,11 @@ module _ (f : Frame) (ns : List Noting) (marks : List Mark) (p q : ℕ) (e : Lef
 
     by_within : (is : CountsAsLint f t k n limit w past p q) (word : ℤ) → look m k +ℤ n ≡ word
         → holds (kind_of signed.Lint) word ≡ true
-        → ((t ≡ kind_of signed.Lint) × (q ≡ suc p)) ⊎ (IsMovedWithin f t k k (suc p) × (q ≡ suc (suc p)))
+        → (IsLong t × (q ≡ suc p)) ⊎ (IsMovedWithin f t k k (suc p) × (q ≡ suc (suc p)))
         → Ends f (suc p) (with_word m k word) b e → HasCounted f q e t k (look m k) n (look m limit) w past m b
-    by_within is word sum held (inl (lint, at)) runs =
+    by_within is word sum held (inl (long, at)) runs =
         ends_counting word is.tested
-        (sum_within t (look m k) n word (ap is_wide lint) sum (ap (λ t. holds t word) lint ∙ held))
+        (sum_long t (look m k) n word long sum held)
         (subst (λ q. Ends f q (with_word m k word) b e) (sym at) runs)
     by_within is word sum held (inr (moves, at)) runs =
         let m' = with_word m k word in

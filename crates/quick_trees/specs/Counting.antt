@@ -1,7 +1,7 @@
 -- How a FOR counts.
 use Rattle.std.specs.Prelude.{◌≡◌, ◌⊎◌, ℕ, ℤ, suc, pos, negsuc, Option, Some, None, slice_get}
 use Rattle.st_words.specs.declared.kind.Kind.{Kind}
-use Rattle.st_words.specs.declared.kind.Kind.TheVariants.{Dint, Int, Lint}
+use Rattle.st_words.specs.declared.kind.Kind.TheVariants.{Dint, Int, Lint, Ulint}
 use Rattle.quick_code.specs.declared.quick_code.Way.{Way}
 use Rattle.quick_code.specs.declared.quick_instr.QuickInstr.TheVariants.{AddLintBy, CountDownDint, CountDownInt}
 use Rattle.quick_code.specs.declared.quick_instr.QuickInstr.TheVariants.{CountUpDint, CountUpInt, WhenAtMost, WhenLess}
@@ -42,10 +42,14 @@ abbrev pub GoesOnCounting : Frame → ℤ → ℕ → ℕ → Way → ℕ → �
 GoesOnCounting f (pos n) control limit w past p = slice_get f.code p ≡ Some (WhenAtMost control limit w past)
 GoesOnCounting f (negsuc n) control limit w past p = slice_get f.code p ≡ Some (WhenAtMost limit control w past)
 
+-- a type of 64 bits: a word is a LINT where the number is of the type
+abbrev pub IsLong : Kind → Type 0
+IsLong t = (t ≡ Lint) ⊎ (t ≡ Ulint)
+
 -- The step is added to the control variable as to a LINT, which is then a number of its type, and the limit is tested.
 pub record CountsAsLint (f : Frame) (t : Kind) (k : ℕ) (n : ℤ) (limit : ℕ) (w : Way) (past p q : ℕ) : Type 0 where
   pub added : slice_get f.code p ≡ Some (AddLintBy k n k)
-  pub within : ((t ≡ Lint) × (q ≡ suc p)) ⊎ (IsMovedWithin f t k k (suc p) × (q ≡ suc (suc p)))
+  pub within : (IsLong t × (q ≡ suc p)) ⊎ (IsMovedWithin f t k k (suc p) × (q ≡ suc (suc p)))
   pub tested : GoesOnCounting f n k limit w past q
 
 -- the end of a turn, from a place on: one instruction, or several of which the test is the last one
