@@ -5,7 +5,7 @@ pub mod Wider
 pub mod Below
 pub mod Chains
 pub mod Leading
-pub mod Subscripts
+pub mod AlongSubscripts
 pub mod Standings
 pub mod Arguments
 pub mod Inputs
@@ -16,3 +16,4 @@ pub mod Instances
 pub mod Given
 pub mod Evaluated
 mod Increasing
+pub mod Sums

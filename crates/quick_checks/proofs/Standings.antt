@@ -11,7 +11,7 @@ use Rattle.quick_trees.specs.declared.noting.Noting.TheVariants.{Exact, LookAhea
 use Rattle.quick_trees.specs.declared.noting.Noting.TheVariants.{Looked, LookedAssignmentAhead, Assigned}
 use Rattle.quick_trees.specs.Notes.{Tells, tells}
 use Rattle.quick_trees.specs.Pieces.{IsTicked}
-use Rattle.quick_trees.specs.Points.{AreNoted, Joins, Meets, Part, Point, along, past_branch}
+use Rattle.quick_trees.specs.Points.{AreNoted, GoesBack, Joins, Meets, Part, Point, along, past_branch}
 use Rattle.quick_trees.specs.QuickMemory.{Frame}
 use Rattle.quick_trees.specs.Sites.{Site}
 use Rattle.quick_trees.specs.Standing.{ArmsStand, Exits, IsTestedFor, QuickUnits, StandsFor, StmtsStand}
@@ -30,6 +30,11 @@ tells_same Assigned = refl
 
 pub tell_same : (ns : List Noting) → Tells ns ns
 tell_same ns = record { each = λ k n e. (n, (e, tells_same n)) }
+
+-- going on behind a branch at one point is so at another one
+pub passes_same : (x y z : Point) (past : ℕ) → x ≡ y → GoesBack (past_branch x past) z
+    → GoesBack (past_branch y past) z
+passes_same x y z past same h = subst (λ x. GoesBack (past_branch x past) z) same h
 
 pub meets_same : (p : Point) → Meets p p
 meets_same p = record { place = refl; ahead = refl; noted = tell_same p.noted }

@@ -2,3 +2,4 @@ pub mod Checking
 pub mod Choices
 pub mod Within
 pub mod Members
+pub mod Sums

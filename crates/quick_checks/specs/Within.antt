@@ -9,7 +9,7 @@ use Rattle.quick_trees.specs.Pieces.{IsLed}
 use Rattle.quick_trees.specs.Points.{Part}
 use Rattle.quick_trees.specs.QuickMemory.{Frame}
 use Rattle.quick_trees.specs.Sites.{Site, kinds_of, HasOwnWord, IsExact}
-use Rattle.quick_trees.specs.Standing.{IsLedOn, IsRead, IsStoredWithin, QuickUnits}
+use Rattle.quick_trees.specs.Standing.{IsLedOn, IsReadApart, IsStoredWithin, QuickUnits}
 use Rattle.quick_checks.specs.declared.reached.Access.{Access}
 use Rattle.quick_checks.specs.declared.reached.Access.TheVariants.{Load, Store}
 
@@ -29,7 +29,7 @@ pub record IsReached (f : Frame) (s : Site) (ns : List Noting) (k word : ℕ) (t
 abbrev pub AreLed : Frame → Site → QuickUnits → Subscripts → ℕ → (ℕ → ℤ → ℕ → ℕ → QuickInstr) → Part
 AreLed f s units no_subscripts d Instr p q = ⊥
 AreLed f s units (subscript_then e lower count stride ss) d Instr p q =
-    IsLed f (λ u. IsRead f s units e u d) lower count stride d (IsLedOn f s units ss d Instr) p q
+    IsLed f (λ u n. IsReadApart f s units e u n d) lower count stride d (IsLedOn f s units ss d Instr) p q
 
 -- an expression is assigned to a value of an array in an array
 abbrev pub PlaceStored : Frame → Site → QuickUnits → Place → SlotExpr → ℕ → Part

@@ -1,11 +1,14 @@
 //! The code of FOR.
 
-ghost use Rattle.std.specs.Prelude.{◌≡◌, ◌<◌, ℕ, ℤ, IfOk, IsTrue, OnOk, Some, length, map, option_map, pos, slice_get, suc, true};
+ghost use Rattle.std.specs.Prelude.{◌≡◌, ◌<◌, ◌⊎◌, ℕ, ℤ, IfOk, IsTrue, OnOk, Some, length, map, option_map, pos};
+ghost use Rattle.std.specs.Prelude.{slice_get, suc, true};
 ghost use Rattle.st_words.specs.Values.{IsHeld};
+ghost use Rattle.quick_code.specs.declared.quick_instr.QuickInstr.TheVariants as instrs;
 ghost use Rattle.st_words.specs.Words.{datum_at};
 ghost use Rattle.slot_bodies.specs.ExpressionViews.{anchor_view, slot_expr_view};
 ghost use Rattle.slot_bodies.specs.StatementViews.{slot_stmts_view};
-ghost use Rattle.quick_trees.specs.Pieces.{BeginsToCount, Counts, IsStep};
+ghost use Rattle.quick_trees.specs.Counting.{BeginsToCount, Counts, CountsAtOnce, GoesOnCounting, IsLong, IsStep};
+ghost use Rattle.quick_trees.specs.Functions.{IsMovedWithin};
 ghost use Rattle.quick_trees.specs.Sites.{HasOwnWord, kinds_of};
 ghost use Rattle.quick_trees.specs.Standing.{IsFor, IsKept, StmtsStand};
 ghost use Rattle.quick_checks.specs.Checking.{Always, exits_of, frame_of, point_of, seat_of, site_of};
@@ -17,6 +20,7 @@ use crate::cursor::{
 };
 use crate::draft::{Exits, QuickDraft};
 use crate::expressions::{deeper, temporary};
+use crate::ranges::expect_within;
 use crate::reading::check_read;
 use crate::refusal::Refusal;
 use crate::same::is_same;
@@ -51,7 +55,8 @@ fn turns_of(target: Reading, step: &Option<SlotExpr>) -> Result<Turns, Refusal>
         return Err(Refusal::Other);
     };
     match target.kind {
-        Kind::Int | Kind::Dint => {}
+        Kind::Int | Kind::Dint | Kind::Lint | Kind::Sint => {}
+        Kind::Usint | Kind::Uint | Kind::Udint | Kind::Ulint => {}
         _ => return Err(Refusal::Other),
     }
     if by == 0 || number < target.kind.least() || target.kind.greatest() < number {
@@ -137,8 +142,13 @@ fn begins_to_count(
 }
 
 /// The ways of the branch here, if it adds the step and tests the limit.
-fn counts(draft: &QuickDraft, at: &Cursor, turns: &Turns, limit: u16) -> Result<Leg, Refusal>
-    ensures { IfOk result (λ l. (now : ℕ) → Counts (frame_of draft.now now) turns.now.kind turns.now.control
+fn counts_at_once(
+    draft: &QuickDraft,
+    at: &Cursor,
+    turns: &Turns,
+    limit: u16,
+) -> Result<Leg, Refusal>
+    ensures { IfOk result (λ l. (now : ℕ) → CountsAtOnce (frame_of draft.now now) turns.now.kind turns.now.control
         turns.now.by limit l.way l.past at.now.place) }
 {
     let control = turns.control;
@@ -190,6 +200,86 @@ fn counts(draft: &QuickDraft, at: &Cursor, turns: &Turns, limit: u16) -> Result<
     if !is_same(there, instr) {
         return Err(Refusal::Other);
     }
+    Ok(leg)
+}
+
+/// The ways of the branch here, if it tests the limit for a further turn.
+fn goes_on_counting(
+    draft: &QuickDraft,
+    at: &Cursor,
+    turns: &Turns,
+    limit: u16,
+) -> Result<Leg, Refusal>
+    ensures { IfOk result (λ l. (now : ℕ) → GoesOnCounting (frame_of draft.now now) turns.now.by turns.now.control
+        limit l.way l.past at.now.place) }
+{
+    let control = turns.control;
+    let leg = leg_at(draft, at)?;
+    let there = instr_at(draft, at.place)?;
+    let (way, past) = (leg.way, leg.past);
+    let instr = if turns.by < 0 {
+        QuickInstr::WhenAtMost {
+            left: limit,
+            right: control,
+            way,
+            past,
+        }
+    } else {
+        QuickInstr::WhenAtMost {
+            left: control,
+            right: limit,
+            way,
+            past,
+        }
+    };
+    if !is_same(there, instr) {
+        return Err(Refusal::Other);
+    }
+    Ok(leg)
+}
+
+/// Finds the instructions that add the step to the control variable, which is then a number of its type.
+fn expect_added(draft: &QuickDraft, turns: &Turns, at: &mut Cursor) -> Result<(), Refusal>
+    ensures added { OnOk result (slice_get draft.now.code.instrs.items at.old.place
+        ≡ Some (instrs.AddLintBy turns.now.control turns.now.by turns.now.control)) }
+    ensures within { OnOk result ((now : ℕ) → (IsLong turns.now.kind × (at.new.place ≡ suc at.old.place))
+        ⊎ (IsMovedWithin (frame_of draft.now now) turns.now.kind turns.now.control turns.now.control
+        (suc at.old.place) × (at.new.place ≡ suc (suc at.old.place)))) }
+    ensures same { OnOk result (point_of at.new ≡ record (point_of at.old) { place = at.new.place }) }
+{
+    let control = turns.control;
+    expect(
+        draft,
+        at,
+        QuickInstr::AddLintBy {
+            left: control,
+            constant: turns.by,
+            to: control,
+        },
+    )?;
+    if is_kind(turns.kind, Kind::Lint) || is_kind(turns.kind, Kind::Ulint) {
+        return Ok(());
+    }
+    expect_within(draft, turns.kind, control, control, at)
+}
+
+/// Finds the code that adds the step and tests the limit, up to the test: its ways.
+fn expect_counted(
+    draft: &QuickDraft,
+    turns: &Turns,
+    limit: u16,
+    at: &mut Cursor,
+) -> Result<Leg, Refusal>
+    ensures counts { IfOk result (λ l. (now : ℕ) → Counts (frame_of draft.now now) turns.now.kind turns.now.control
+        turns.now.by limit l.way l.past at.old.place at.new.place) }
+    ensures same { OnOk result (point_of at.new ≡ record (point_of at.old) { place = at.new.place }) }
+{
+    if is_kind(turns.kind, Kind::Int) || is_kind(turns.kind, Kind::Dint) {
+        let leg = counts_at_once(draft, at, turns, limit)?;
+        return Ok(leg);
+    }
+    expect_added(draft, turns, at)?;
+    let leg = goes_on_counting(draft, at, turns, limit)?;
     Ok(leg)
 }
 
@@ -288,7 +378,7 @@ pub fn check_for(
     if !is_assigned(&scope.values, target.word, at) {
         return Err(Refusal::Other);
     }
-    let again = counts(draft, at, &turns, kept.word)?;
+    let again = expect_counted(draft, &turns, kept.word, at)?;
     if !goes_back(at, again.way, &head) || !passes_back(at, again.past, &behind) {
         return Err(Refusal::Other);
     }

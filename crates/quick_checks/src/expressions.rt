@@ -1,6 +1,6 @@
 //! Values of expressions.
 
-ghost use Rattle.std.specs.Prelude.{◌≡◌, ◌+ℤ◌, ◌<◌, ◌+◌, ◌*◌, ◌⊎◌, ℕ, IfOk, IfSome, IsTrue, OnOk, Some, map, pos, slice_get, suc};
+ghost use Rattle.std.specs.Prelude.{◌≡◌, ◌<◌, ◌+◌, ◌*◌, ◌⊎◌, ℕ, IfOk, IfSome, IsTrue, OnOk, Some, map, slice_get, suc};
 ghost use Rattle.slot_trees.specs.SlotEvaluation.{slot_at};
 ghost use Rattle.slot_trees.specs.SlotTrees as tree;
 ghost use Rattle.slot_bodies.specs.Chains.{exprs_of};
@@ -18,6 +18,7 @@ use crate::draft::QuickDraft;
 use crate::instructions::instr_by;
 use crate::refusal::Refusal;
 use crate::scope::{Values, is_kind, kind_at, narrow, own_word_of, slot_of, word_of};
+use crate::subscripts::Indexed;
 use quick_code::QuickInstr;
 use quick_trees::Noting;
 use slot_bodies::{Anchor, Place, SlotExpr, Subscript};
@@ -73,19 +74,6 @@ pub fn variable_of(place: &Place) -> Option<Anchor>
         Some(place.anchor)
     } else {
         None
-    }
-}
-
-/// What is added to a subscript, so that the first element's is 0.
-pub fn shift_for(subscript: &Subscript) -> Result<i32, Refusal>
-    ensures { IfOk result (λ n. subscript.now.lower +ℤ n ≡ pos 0) }
-{
-    let Some(shift) = subscript.lower.checked_neg() else {
-        return Err(Refusal::Other);
-    };
-    match i32::try_from(shift) {
-        Ok(shift) => Ok(shift),
-        Err(_) => Err(Refusal::Other),
     }
 }
 
@@ -181,21 +169,20 @@ pub fn read_elements(
     Ok(Reading { kind, word })
 }
 
-/// Finds the instruction that loads an element: what it adds to the subscript, so that the first element's is 0.
+/// Finds the instruction that loads an element.
 pub fn expect_load(
     draft: &QuickDraft,
     at: &mut Cursor,
-    index: u16,
+    index: Indexed,
     to: u16,
     first: u16,
     subscript: &Subscript,
-) -> Result<i32, Refusal>
-    ensures from_lower { IfOk result (λ shift. subscript.now.lower +ℤ shift ≡ pos 0) }
-    ensures loads { IfOk result (λ shift. (now : ℕ) → Loads (frame_of draft.now now) index shift to first
+) -> Result<(), Refusal>
+    ensures loads { OnOk result ((now : ℕ) → Loads (frame_of draft.now now) index.word index.shift to first
         subscript.now.count subscript.now.stride at.old.place) }
     ensures next { OnOk result (point_of at.new ≡ next (point_of at.old)) }
 {
-    let shift = shift_for(subscript)?;
+    let Indexed { word, shift } = index;
     let count = narrow(subscript.count)?;
     let stride = narrow(subscript.stride)?;
     if stride == 1 {
@@ -203,7 +190,7 @@ pub fn expect_load(
             draft,
             at,
             QuickInstr::LoadElement {
-                subscript: index,
+                subscript: word,
                 shift,
                 to,
                 first,
@@ -215,7 +202,7 @@ pub fn expect_load(
             draft,
             at,
             QuickInstr::LoadMember {
-                subscript: index,
+                subscript: word,
                 shift,
                 to,
                 first,
@@ -224,24 +211,23 @@ pub fn expect_load(
             },
         )?;
     }
-    Ok(shift)
+    Ok(())
 }
 
 /// The same of the instruction that assigns to an element.
 pub fn expect_store(
     draft: &QuickDraft,
     at: &mut Cursor,
-    index: u16,
+    index: Indexed,
     from: u16,
     first: u16,
     subscript: &Subscript,
-) -> Result<i32, Refusal>
-    ensures from_lower { IfOk result (λ shift. subscript.now.lower +ℤ shift ≡ pos 0) }
-    ensures stores { IfOk result (λ shift. (now : ℕ) → Stores (frame_of draft.now now) index shift from first
+) -> Result<(), Refusal>
+    ensures stores { OnOk result ((now : ℕ) → Stores (frame_of draft.now now) index.word index.shift from first
         subscript.now.count subscript.now.stride at.old.place) }
     ensures next { OnOk result (point_of at.new ≡ next (point_of at.old)) }
 {
-    let shift = shift_for(subscript)?;
+    let Indexed { word, shift } = index;
     let count = narrow(subscript.count)?;
     let stride = narrow(subscript.stride)?;
     if stride == 1 {
@@ -249,7 +235,7 @@ pub fn expect_store(
             draft,
             at,
             QuickInstr::StoreElement {
-                subscript: index,
+                subscript: word,
                 shift,
                 from,
                 first,
@@ -261,7 +247,7 @@ pub fn expect_store(
             draft,
             at,
             QuickInstr::StoreMember {
-                subscript: index,
+                subscript: word,
                 shift,
                 from,
                 first,
@@ -270,7 +256,7 @@ pub fn expect_store(
             },
         )?;
     }
-    Ok(shift)
+    Ok(())
 }
 
 /// The constant with which the instruction here makes what an operator makes of a word and an expression.

@@ -1,6 +1,6 @@
 //! Values of arrays in arrays: where subscripts may lead, and the instructions that go there.
 
-ghost use Rattle.std.specs.Prelude.{◌≡◌, ◌+◌, ◌+ℤ◌, ℕ, IfOk, IsTrue, OnOk, Some, map, pos, slice_get};
+ghost use Rattle.std.specs.Prelude.{◌≡◌, ◌+◌, ℕ, IfOk, IsTrue, OnOk, Some, map, slice_get};
 ghost use Rattle.quick_code.specs.declared.quick_instr.QuickInstr.TheVariants as instrs;
 ghost use Rattle.slot_bodies.specs.Chains.{subscripts_of};
 ghost use Rattle.slot_bodies.specs.ExpressionViews.{subscript_view};
@@ -11,9 +11,10 @@ ghost use Rattle.quick_checks.specs.Within.{IsReached, access_instr};
 
 use crate::cursor::{Cursor, expect};
 use crate::draft::QuickDraft;
-use crate::expressions::{element_at, is_exact, shift_for};
+use crate::expressions::{element_at, is_exact};
 use crate::refusal::Refusal;
 use crate::scope::{Values, is_kind, kind_at, narrow, own_word_of};
+use crate::subscripts::Indexed;
 use quick_code::QuickInstr;
 use slot_bodies::Subscript;
 use st_words::Kind;
@@ -28,61 +29,57 @@ pub enum Access {
     Store(u16),
 }
 
-/// What is added to a subscript that has less room in an instruction, so that the first element's is 0.
-fn short_shift_for(subscript: &Subscript) -> Result<i16, Refusal>
-    ensures { IfOk result (λ n. subscript.now.lower +ℤ n ≡ pos 0) }
+/// What is added to a subscript, where an instruction has less room for it.
+fn short(shift: i32) -> Result<i16, Refusal>
+    ensures { IfOk result (λ n. n ≡ shift) }
 {
-    let shift = shift_for(subscript)?;
     match i16::try_from(shift) {
         Ok(short) => Ok(short),
         Err(_) => Err(Refusal::Other),
     }
 }
 
-/// Finds the instruction that assigns the offset of an element to a temporary: what it adds to the subscript.
+/// Finds the instruction that assigns the offset of an element to a temporary.
 pub fn expect_located(
     draft: &QuickDraft,
     at: &mut Cursor,
-    index: u16,
+    index: Indexed,
     subscript: &Subscript,
     depth: u16,
-) -> Result<i32, Refusal>
-    ensures from_lower { IfOk result (λ shift. subscript.now.lower +ℤ shift ≡ pos 0) }
-    ensures stands { IfOk result (λ shift. slice_get draft.now.code.instrs.items at.old.place
-        ≡ Some (instrs.Locate index shift depth subscript.now.count subscript.now.stride)) }
+) -> Result<(), Refusal>
+    ensures stands { OnOk result (slice_get draft.now.code.instrs.items at.old.place
+        ≡ Some (instrs.Locate index.word index.shift depth subscript.now.count subscript.now.stride)) }
     ensures next { OnOk result (point_of at.new ≡ next (point_of at.old)) }
 {
-    let shift = shift_for(subscript)?;
     let count = narrow(subscript.count)?;
     let stride = narrow(subscript.stride)?;
     expect(
         draft,
         at,
         QuickInstr::Locate {
-            subscript: index,
-            shift,
+            subscript: index.word,
+            shift: index.shift,
             to: depth,
             count,
             stride,
         },
     )?;
-    Ok(shift)
+    Ok(())
 }
 
 /// The same of an element of an array that lies so far behind already.
 pub fn expect_located_behind(
     draft: &QuickDraft,
     at: &mut Cursor,
-    index: u16,
+    index: Indexed,
     subscript: &Subscript,
     depth: u16,
-) -> Result<i16, Refusal>
-    ensures from_lower { IfOk result (λ shift. subscript.now.lower +ℤ shift ≡ pos 0) }
-    ensures stands { IfOk result (λ shift. slice_get draft.now.code.instrs.items at.old.place
-        ≡ Some (instrs.LocateBehind depth index shift depth subscript.now.count subscript.now.stride)) }
+) -> Result<(), Refusal>
+    ensures stands { OnOk result (slice_get draft.now.code.instrs.items at.old.place
+        ≡ Some (instrs.LocateBehind depth index.word index.shift depth subscript.now.count subscript.now.stride)) }
     ensures next { OnOk result (point_of at.new ≡ next (point_of at.old)) }
 {
-    let shift = short_shift_for(subscript)?;
+    let shift = short(index.shift)?;
     let count = narrow(subscript.count)?;
     let stride = narrow(subscript.stride)?;
     expect(
@@ -90,38 +87,37 @@ pub fn expect_located_behind(
         at,
         QuickInstr::LocateBehind {
             offset: depth,
-            subscript: index,
+            subscript: index.word,
             shift,
             to: depth,
             count,
             stride,
         },
     )?;
-    Ok(shift)
+    Ok(())
 }
 
 /// The same of the instruction that loads such an element, or assigns to it.
 pub fn expect_access(
     draft: &QuickDraft,
     at: &mut Cursor,
-    index: u16,
+    index: Indexed,
     subscript: &Subscript,
     depth: u16,
     word: u16,
     access: Access,
-) -> Result<i16, Refusal>
-    ensures from_lower { IfOk result (λ shift. subscript.now.lower +ℤ shift ≡ pos 0) }
-    ensures stands { IfOk result (λ shift. slice_get draft.now.code.instrs.items at.old.place
-        ≡ Some (access_instr access depth word index shift subscript.now.count subscript.now.stride)) }
+) -> Result<(), Refusal>
+    ensures stands { OnOk result (slice_get draft.now.code.instrs.items at.old.place
+        ≡ Some (access_instr access depth word index.word index.shift subscript.now.count subscript.now.stride)) }
     ensures next { OnOk result (point_of at.new ≡ next (point_of at.old)) }
 {
-    let shift = short_shift_for(subscript)?;
+    let shift = short(index.shift)?;
     let count = narrow(subscript.count)?;
     let stride = narrow(subscript.stride)?;
     let instr = match access {
         Access::Load(to) => QuickInstr::LoadBehind {
             offset: depth,
-            subscript: index,
+            subscript: index.word,
             shift,
             to,
             first: word,
@@ -130,7 +126,7 @@ pub fn expect_access(
         },
         Access::Store(from) => QuickInstr::StoreBehind {
             offset: depth,
-            subscript: index,
+            subscript: index.word,
             shift,
             from,
             first: word,
@@ -139,7 +135,7 @@ pub fn expect_access(
         },
     };
     expect(draft, at, instr)?;
-    Ok(shift)
+    Ok(())
 }
 
 /// The array whose values are looked at: its first slot and the word of that, and the type of the values.

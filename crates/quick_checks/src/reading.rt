@@ -9,7 +9,7 @@ ghost use Rattle.slot_bodies.specs.ExpressionViews.{anchor_view, slot_expr_view}
 ghost use Rattle.quick_code.specs.declared.quick_instr.QuickInstr.TheVariants as instrs;
 ghost use Rattle.quick_trees.specs.Pieces.{IsConstant, IsFetched, IsMoved, IsNumber, IsSet};
 ghost use Rattle.quick_trees.specs.Sites.{base_of};
-ghost use Rattle.quick_trees.specs.Standing.{IsMade, IsRead};
+ghost use Rattle.quick_trees.specs.Standing.{IsMade, IsRead, IsReadApart};
 ghost use Rattle.quick_checks.specs.Checking.{Always, frame_of, point_of};
 
 use crate::calls::check_call;
@@ -27,11 +27,12 @@ use crate::refusal::Refusal;
 use crate::same::is_same;
 use crate::scope::{Scope, is_kind};
 use crate::signs::check_unary;
+use crate::subscripts::check_subscript;
 use crate::within::{check_made_within, check_read_within};
 use quick_code::QuickInstr;
 use slot_bodies::{Anchor, Operands, SlotExpr, SlotLibrary, Subscript};
 use st_names::Standard;
-use st_words::{BinaryOperator, Kind, Literal, is_wide};
+use st_words::{BinaryOperator, Kind, Literal};
 
 /// Finds the code that reads an expression: the type of its value, and the word that has it then. Temporaries from a
 /// depth on are free.
@@ -246,16 +247,13 @@ pub fn check_fetched(
     at: &mut Cursor,
 ) -> Result<Kind, Refusal>
     ensures { IfOk result (λ t. Always draft.now library.now scope.now (λ f s units. IsFetched f s
-        (λ u. IsRead f s units (slot_expr_view subscript.now.index) u depth) subscript.now.lower
+        (λ u n. IsReadApart f s units (slot_expr_view subscript.now.index) u n depth) subscript.now.lower
         (slot_at (base_of s) (anchor_view anchor)) subscript.now.count subscript.now.stride t to
         (point_of at.old) (point_of at.new))) }
 {
-    let index = check_read(draft, library, scope, &subscript.index, depth, at)?;
-    if is_wide(index.kind) {
-        return Err(Refusal::Other);
-    }
+    let index = check_subscript(draft, library, scope, subscript, depth, at)?;
     let elements = read_elements(draft, &scope.values, at, anchor, subscript)?;
-    expect_load(draft, at, index.word, to, elements.word, subscript)?;
+    expect_load(draft, at, index, to, elements.word, subscript)?;
     Ok(elements.kind)
 }
 

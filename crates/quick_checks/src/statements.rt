@@ -23,9 +23,9 @@ use crate::expressions::{deeper, element_of, expect_store, read_elements, variab
 use crate::reading::{check_made, check_read};
 use crate::refusal::Refusal;
 use crate::scope::{Scope, is_kind, target_of};
+use crate::subscripts::check_subscript;
 use crate::within::check_stored_within;
 use slot_bodies::{Anchor, SlotArm, SlotExpr, SlotLibrary, SlotStmt, Subscript};
-use st_words::is_wide;
 
 /// Finds the code of statements one after another, and what is noted before each.
 #[cycle(check)]
@@ -185,15 +185,12 @@ fn check_stored(
 {
     let from = check_read(draft, library, scope, value, depth, at)?;
     let below = deeper(depth)?;
-    let index = check_read(draft, library, scope, &subscript.index, below, at)?;
-    if is_wide(index.kind) {
-        return Err(Refusal::Other);
-    }
+    let index = check_subscript(draft, library, scope, subscript, below, at)?;
     let elements = read_elements(draft, &scope.values, at, anchor, subscript)?;
     if !is_kind(elements.kind, from.kind) {
         return Err(Refusal::Other);
     }
-    expect_store(draft, at, index.word, from.word, elements.word, subscript)?;
+    expect_store(draft, at, index, from.word, elements.word, subscript)?;
     Ok(())
 }
 

@@ -1,11 +1,11 @@
 //! The code of arrays in arrays.
 
-ghost use Rattle.std.specs.Prelude.{◌≡◌, ℤ, ◌+ℤ◌, IfOk, OnOk, map, pos};
+ghost use Rattle.std.specs.Prelude.{IfOk, OnOk, map};
 ghost use Rattle.slot_trees.specs.SlotTrees as tree;
 ghost use Rattle.slot_trees.specs.SlotEvaluation.{slot_at};
 ghost use Rattle.slot_bodies.specs.Chains.{subscripts_of};
 ghost use Rattle.slot_bodies.specs.ExpressionViews.{anchor_view, place_view, slot_expr_view, subscript_view};
-ghost use Rattle.quick_trees.specs.Pieces.{IsSubscript, IsWithin};
+ghost use Rattle.quick_trees.specs.Pieces.{IsWithin};
 ghost use Rattle.quick_trees.specs.Sites.{base_of};
 ghost use Rattle.quick_trees.specs.Standing.{IsLedOn, IsMade, IsRead};
 ghost use Rattle.quick_checks.specs.Checking.{Always, point_of};
@@ -19,8 +19,9 @@ use crate::reached::{Access, expect_access, expect_located, expect_located_behin
 use crate::reading::check_read;
 use crate::refusal::Refusal;
 use crate::scope::{Scope, is_kind, own_word_of, slot_of};
+use crate::subscripts::check_subscript;
 use slot_bodies::{Anchor, Place, SlotExpr, SlotLibrary, Subscript};
-use st_words::{Kind, is_wide};
+use st_words::Kind;
 
 /// Finds the code that reads a value of an array in an array.
 #[cycle(check)]
@@ -198,26 +199,4 @@ fn check_led_on(
     expect_located_behind(draft, at, index, subscript, depth)?;
     check_led_on(draft, library, scope, rest, depth, word, access, at)?;
     Ok(())
-}
-
-/// Finds the code that reads a subscript: the word that has it.
-#[cycle(check)]
-fn check_subscript(
-    draft: &QuickDraft,
-    library: &SlotLibrary,
-    scope: &Scope,
-    subscript: &Subscript,
-    depth: u16,
-    at: &mut Cursor,
-) -> Result<u16, Refusal>
-    ensures { IfOk result (λ k. (shift : ℤ) → subscript.now.lower +ℤ shift ≡ pos 0
-        → Always draft.now library.now scope.now (λ f s units. IsSubscript
-        (λ u. IsRead f s units (slot_expr_view subscript.now.index) u depth) subscript.now.lower shift k
-        (point_of at.old) (point_of at.new))) }
-{
-    let read = check_read(draft, library, scope, &subscript.index, depth, at)?;
-    if is_wide(read.kind) {
-        return Err(Refusal::Other);
-    }
-    Ok(read.word)
 }

@@ -27,6 +27,7 @@ mod signs;
 mod spot;
 mod statements;
 mod stop;
+mod subscripts;
 mod survey;
 mod touch;
 mod turning;

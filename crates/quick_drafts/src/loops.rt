@@ -4,6 +4,7 @@ use crate::conditions::{Branch, put_test};
 use crate::draft::Draft;
 use crate::known::Ways;
 use crate::notes::note_turns;
+use crate::ranges::put_within;
 use crate::reading::{Reading, put_read};
 use crate::sheet::{Lead, NO_WAY};
 use crate::spot::Spot;
@@ -195,7 +196,7 @@ pub fn put_for(
         mark: turned.head,
         is_turn: true,
     };
-    draft.sheet.put_branch(count.next(limit), back)?;
+    count.put_next(unit, draft, limit, back)?;
     turned.end(draft, goes_on)
 }
 
@@ -236,7 +237,7 @@ impl Count {
         }
     }
 
-    /// The end of a turn.
+    /// The end of a turn by one instruction, where there is one.
     fn next(self, limit: u16) -> Option<QuickInstr> {
         let Count {
             kind,
@@ -275,6 +276,46 @@ impl Count {
             }),
             _ => None,
         }
+    }
+
+    /// The test for a further turn alone.
+    fn further_test(self, limit: u16) -> QuickInstr {
+        let (left, right) = if self.step > 0 {
+            (self.control, limit)
+        } else {
+            (limit, self.control)
+        };
+        QuickInstr::WhenAtMost {
+            left,
+            right,
+            way: NO_WAY,
+            past: 0,
+        }
+    }
+
+    /// Adds the step, as to a LINT.
+    fn put_step(self, unit: Unit, draft: &mut Draft) -> Result<(), Stop> {
+        draft.sheet.put(QuickInstr::AddLintBy {
+            left: self.control,
+            constant: self.step,
+            to: self.control,
+        })?;
+        if self.kind == Kind::Lint || self.kind == Kind::Ulint {
+            return Ok(());
+        }
+        put_within(unit, draft, self.kind, self.control, self.control)
+    }
+
+    /// Writes the end of a turn, which takes a tick whether a further one follows or not.
+    fn put_next(self, unit: Unit, draft: &mut Draft, limit: u16, back: Lead) -> Result<(), Stop> {
+        if let Some(instr) = self.next(limit) {
+            return draft.sheet.put_branch(Some(instr), back);
+        }
+        self.put_step(unit, draft)?;
+        draft
+            .sheet
+            .put_branch(Some(self.further_test(limit)), back)?;
+        draft.sheet.tick()
     }
 }
 

@@ -121,8 +121,7 @@ fn note_touch(draft: &mut Draft, word: u16, touch: Touch) -> Result<(), Stop> {
     if is_exact && touch.looks() {
         draft.note_look(word)?;
     }
-    let is_first = touch == Touch::LookedThenAssigned || touch == Touch::Assigned;
-    if touch.assigns() && (is_first || !is_exact) {
+    if touch.assigns() && (touch.is_alike() || !is_exact) {
         draft.note_assignment(word)?;
     }
     Ok(())

@@ -3,6 +3,7 @@
 use crate::draft::Draft;
 use crate::reading::Reading;
 use crate::stop::Stop;
+use crate::subscripts::Indexed;
 use crate::unit::{Unit, narrow};
 use quick_code::QuickInstr;
 use slot_bodies::{Anchor, Place, Subscript};
@@ -40,21 +41,9 @@ pub fn read_variable(unit: Unit, draft: &mut Draft, anchor: Anchor) -> Result<Re
 /// The elements of an array, as instructions name them.
 #[derive(Clone, Copy)]
 struct Elements {
-    shift: i32,
     first: u16,
     count: u16,
     stride: u16,
-}
-
-/// What is added to a subscript, so that the first element's is 0.
-pub fn shift_of(subscript: &Subscript) -> Result<i32, Stop> {
-    let Some(shift) = subscript.lower.checked_neg() else {
-        return Err(Stop::NotCovered);
-    };
-    match i32::try_from(shift) {
-        Ok(shift) => Ok(shift),
-        Err(_) => Err(Stop::NotCovered),
-    }
 }
 
 fn elements_of(unit: Unit, anchor: Anchor, subscript: &Subscript) -> Result<Elements, Stop> {
@@ -62,7 +51,6 @@ fn elements_of(unit: Unit, anchor: Anchor, subscript: &Subscript) -> Result<Elem
         return Err(Stop::NotCovered);
     }
     Ok(Elements {
-        shift: shift_of(subscript)?,
         first: unit.own_word_of(unit.slot_of(anchor)?)?,
         count: narrow(subscript.count)?,
         stride: narrow(subscript.stride)?,
@@ -75,18 +63,18 @@ pub fn put_load(
     draft: &mut Draft,
     anchor: Anchor,
     subscript: &Subscript,
-    index: u16,
+    index: Indexed,
     to: u16,
 ) -> Result<(), Stop> {
     let Elements {
-        shift,
         first,
         count,
         stride,
     } = elements_of(unit, anchor, subscript)?;
+    let Indexed { word, shift } = index;
     draft.sheet.put(if stride == 1 {
         QuickInstr::LoadElement {
-            subscript: index,
+            subscript: word,
             shift,
             to,
             first,
@@ -94,7 +82,7 @@ pub fn put_load(
         }
     } else {
         QuickInstr::LoadMember {
-            subscript: index,
+            subscript: word,
             shift,
             to,
             first,
@@ -110,18 +98,18 @@ pub fn put_store(
     draft: &mut Draft,
     anchor: Anchor,
     subscript: &Subscript,
-    index: u16,
+    index: Indexed,
     from: u16,
 ) -> Result<(), Stop> {
     let Elements {
-        shift,
         first,
         count,
         stride,
     } = elements_of(unit, anchor, subscript)?;
+    let Indexed { word, shift } = index;
     draft.sheet.put(if stride == 1 {
         QuickInstr::StoreElement {
-            subscript: index,
+            subscript: word,
             shift,
             from,
             first,
@@ -129,7 +117,7 @@ pub fn put_store(
         }
     } else {
         QuickInstr::StoreMember {
-            subscript: index,
+            subscript: word,
             shift,
             from,
             first,

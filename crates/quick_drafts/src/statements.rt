@@ -11,6 +11,7 @@ use crate::places::{Variable, put_store, variable_of};
 use crate::reading::{put_made, put_read};
 use crate::spot::Spot;
 use crate::stop::Stop;
+use crate::subscripts::put_subscript;
 use crate::unit::{Unit, narrow};
 use crate::within::{Access, put_within};
 use quick_code::QuickInstr;
@@ -137,11 +138,11 @@ fn put_assignment(
         }
         Variable::Element(anchor, subscript) => {
             let from = put_read(unit, draft, value, spot.inside()?)?;
-            let index = put_read(unit, draft, &subscript.index, spot.behind(1)?)?;
-            if is_wide(index.kind) || from.kind != unit.kind_at(unit.slot_of(anchor)?)? {
+            let index = put_subscript(unit, draft, subscript, spot.behind(1)?)?;
+            if from.kind != unit.kind_at(unit.slot_of(anchor)?)? {
                 return Err(Stop::NotCovered);
             }
-            put_store(unit, draft, anchor, subscript, index.word, from.word)
+            put_store(unit, draft, anchor, subscript, index, from.word)
         }
         Variable::Within => {
             let from = put_read(unit, draft, value, spot.inside()?)?;

@@ -41,7 +41,7 @@ impl Survey {
     pub fn new(alloc: Global, slots: usize) -> Result<Survey, AllocError> {
         Ok(Survey {
             alloc,
-            known: Known::new(alloc, slots, Touch::Untouched)?,
+            known: Known::new(alloc, slots, Touch::NONE)?,
             outs: Vec::new(alloc),
             back: 0,
             left: MAX_LOOKED_AT,

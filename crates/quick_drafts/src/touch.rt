@@ -3,70 +3,71 @@
 use crate::known::State;
 use quick_trees::Noting;
 
-/// How statements touch a slot, on all ways through them.
+/// How statements touch a slot: what there is among the ways through them.
 #[derive(Clone, Copy, PartialEq, Eq)]
-pub enum Touch {
-    Untouched,
-    /// Each way looks it up before any assigns it.
-    Looked,
-    /// The same, and then each assigns it.
-    LookedThenAssigned,
-    /// Each way assigns it before any looks it up.
-    Assigned,
-    /// Each way assigns it; some may look it up before.
-    AssignedSomehow,
-    /// Nothing of these.
-    Somehow,
+pub struct Touch {
+    /// A way neither looks it up nor assigns it.
+    is_untouched: bool,
+    /// A way looks it up and does not assign it.
+    is_looked_up: bool,
+    /// A way looks it up first, and then assigns it.
+    is_changed: bool,
+    /// A way assigns it before it looks it up, if it does.
+    is_assigned: bool,
 }
 
 impl Touch {
+    /// No way touches the slot.
+    pub const NONE: Touch = Touch {
+        is_untouched: true,
+        is_looked_up: false,
+        is_changed: false,
+        is_assigned: false,
+    };
+
     /// With a look behind it.
     pub fn then_look(self) -> Touch {
-        match self {
-            Touch::Untouched => Touch::Looked,
-            touch => touch,
+        Touch {
+            is_untouched: false,
+            is_looked_up: self.is_looked_up || self.is_untouched,
+            ..self
         }
     }
 
     /// With an assignment behind it.
     pub fn then_assignment(self) -> Touch {
-        match self {
-            Touch::Untouched => Touch::Assigned,
-            Touch::Looked => Touch::LookedThenAssigned,
-            Touch::Somehow => Touch::AssignedSomehow,
-            touch => touch,
+        Touch {
+            is_untouched: false,
+            is_looked_up: false,
+            is_changed: self.is_changed || self.is_looked_up,
+            is_assigned: self.is_assigned || self.is_untouched,
         }
     }
 
     /// Whether each way assigns the slot.
     pub fn assigns(self) -> bool {
-        match self {
-            Touch::LookedThenAssigned | Touch::Assigned | Touch::AssignedSomehow => true,
-            Touch::Untouched | Touch::Looked | Touch::Somehow => false,
-        }
+        !self.is_untouched && !self.is_looked_up
     }
 
     /// Whether each way looks the slot up first.
     pub fn looks(self) -> bool {
-        match self {
-            Touch::Looked | Touch::LookedThenAssigned => true,
-            _ => false,
-        }
+        !self.is_untouched && !self.is_assigned
+    }
+
+    /// Whether all ways look it up before they assign it, or none does.
+    pub fn is_alike(self) -> bool {
+        !self.is_changed || !self.is_assigned
     }
 }
 
 impl State for Touch {
     fn joined(self, other: Touch) -> Option<Touch> {
-        if self == other {
-            return Some(self);
-        }
-        if self.assigns() && other.assigns() {
-            return Some(Touch::AssignedSomehow);
-        }
-        if self.looks() && other.looks() {
-            return Some(Touch::Looked);
-        }
-        Some(Touch::Somehow)
+        Some(Touch {
+            is_untouched: self.is_untouched || other.is_untouched,
+            is_looked_up: self.is_looked_up || other.is_looked_up,
+            is_changed: self.is_changed || other.is_changed,
+            is_assigned: self.is_assigned || other.is_assigned,
+        })
     }
 }
 

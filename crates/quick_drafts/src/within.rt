@@ -1,14 +1,13 @@
 //! The code of arrays in arrays.
 
 use crate::draft::Draft;
-use crate::places::shift_of;
-use crate::reading::put_read;
 use crate::spot::Spot;
 use crate::stop::Stop;
+use crate::subscripts::{Indexed, put_subscript};
 use crate::unit::{Unit, narrow};
 use quick_code::QuickInstr;
 use slot_bodies::{Place, Subscript};
-use st_words::{Kind, is_wide};
+use st_words::Kind;
 
 /// What is done with a value of an array in an array: it is loaded to a word, or assigned from one.
 #[derive(Clone, Copy)]
@@ -34,14 +33,11 @@ pub fn put_within(
     };
     let subscripts = place.subscripts.as_slice();
     for (number, subscript) in subscripts.iter().enumerate() {
-        let read = if number == 0 {
-            put_read(unit, draft, &subscript.index, spot.inside()?)?
+        let index = if number == 0 {
+            put_subscript(unit, draft, subscript, spot.inside()?)?
         } else {
-            put_read(unit, draft, &subscript.index, spot.behind(1)?)?
+            put_subscript(unit, draft, subscript, spot.behind(1)?)?
         };
-        if is_wide(read.kind) {
-            return Err(Stop::NotCovered);
-        }
         let step = if number == 0 {
             Step::First
         } else if subscripts.len() - number == 1 {
@@ -49,7 +45,7 @@ pub fn put_within(
         } else {
             Step::Further
         };
-        draft.sheet.put(array.instr(step, read.word, subscript)?)?;
+        draft.sheet.put(array.instr(step, index, subscript)?)?;
     }
     unit.kind_at(slot)
 }
@@ -72,10 +68,10 @@ struct Array {
 
 impl Array {
     /// The instruction that a subscript has.
-    fn instr(self, step: Step, index: u16, subscript: &Subscript) -> Result<QuickInstr, Stop> {
+    fn instr(self, step: Step, index: Indexed, subscript: &Subscript) -> Result<QuickInstr, Stop> {
         let count = narrow(subscript.count)?;
         let stride = narrow(subscript.stride)?;
-        let shift = shift_of(subscript)?;
+        let Indexed { word, shift } = index;
         let Array {
             offset,
             first,
@@ -83,7 +79,7 @@ impl Array {
         } = self;
         if let Step::First = step {
             return Ok(QuickInstr::Locate {
-                subscript: index,
+                subscript: word,
                 shift,
                 to: offset,
                 count,
@@ -96,7 +92,7 @@ impl Array {
         Ok(match (step, access) {
             (Step::Last, Access::Load(to)) => QuickInstr::LoadBehind {
                 offset,
-                subscript: index,
+                subscript: word,
                 shift,
                 to,
                 first,
@@ -105,7 +101,7 @@ impl Array {
             },
             (Step::Last, Access::Store(from)) => QuickInstr::StoreBehind {
                 offset,
-                subscript: index,
+                subscript: word,
                 shift,
                 from,
                 first,
@@ -114,7 +110,7 @@ impl Array {
             },
             _ => QuickInstr::LocateBehind {
                 offset,
-                subscript: index,
+                subscript: word,
                 shift,
                 to: offset,
                 count,

@@ -1,17 +1,22 @@
 -- Code that stands for a FOR does what it means.
 use Rattle.std.proofs.Common.{◌≡◌, ◌≢◌, ℕ, zero, suc, ◌+◌, ◌-◌, ◌<◌, ◌≤◌, ◌+ℤ◌, ℤ, pos, negsuc, Bool, true, false}
-use Rattle.std.proofs.Common.{Option}
+use Rattle.std.proofs.Common.{List, Option, length}
 use Rattle.std.proofs.Common.{Some, None, Ok, refl, sym, ap, subst, ◌∙◌, arith, inl, inr}
-use Rattle.std.specs.Prelude.{if◌then◌else◌, int_le, int_lt, not, slice_get}
+use Rattle.std.specs.Prelude.{◌⊎◌, if◌then◌else◌, int_le, int_lt, not, slice_get}
+use Rattle.std.proofs.lemmas.Grind.{common_steps}
 use Rattle.std.proofs.lemmas.Int.{ints}
 use Rattle.st_words.specs.declared.kind.Kind.{Kind}
+use Rattle.st_words.specs.declared.kind.Kind.TheVariants as kinds
 use Rattle.st_words.specs.declared.operator.BinaryOperator.TheVariants.{Add}
 use Rattle.st_words.specs.Values.{IsHeld, in_range}
-use Rattle.st_words.specs.Words.{datum_at, number_at, shift_of}
+use Rattle.st_words.specs.Kinds.{holds}
+use Rattle.st_words.specs.Words.{datum_at, is_wide, number_at, shift_of}
 use Rattle.st_types.specs.Failures.{StandIns, ill_typed, or_failure}
 use Rattle.st_types.specs.Loops.{TurnOf, again, goes_on, nonzero, stepped_on, unless_fault}
 use Rattle.st_types.specs.Ticks.{Run, attempt, follow, give}
+use Rattle.machine_code.specs.declared.mark.Mark.{Mark}
 use Rattle.machine_code.specs.Tracking.{Tracked, looked, written}
+use Rattle.quick_trees.specs.declared.noting.Noting.{Noting}
 use Rattle.quick_code.specs.declared.operation.Operation.TheVariants as op
 use Rattle.quick_code.specs.declared.operation.Signed.{Signed}
 use Rattle.quick_code.specs.declared.operation.Signed.TheVariants as signed
@@ -27,17 +32,23 @@ use Rattle.tree_code.specs.MarkedEvaluation.{MarkedScope, marked_value}
 use Rattle.tree_code.specs.MarkedExecution.{MarkedEnd, marked_counting, marked_guarded, marked_loop, marked_on}
 use Rattle.tree_code.specs.MarkedExecution.{marked_put}
 use Rattle.tree_code.specs.MarkedExecution.{marked_runs_on, marked_step, marked_step_of, marked_step_on, marked_turns}
-use Rattle.quick_trees.specs.Pieces.{BeginsToCount, Counts, IsStep}
+use Rattle.quick_trees.specs.Counting.{BeginsToCount, Counts, CountsAsLint, CountsAtOnce, GoesOnCounting, IsLong}
+use Rattle.quick_trees.specs.Counting.{IsStep}
+use Rattle.quick_trees.specs.Functions.{IsMovedWithin}
 use Rattle.quick_trees.specs.Points.{Part, Point, along, past_branch}
-use Rattle.quick_trees.specs.QuickMemory.{Ends, Frame}
+use Rattle.quick_trees.specs.QuickMemory.{Ends, Frame, first_temporary}
 use Rattle.quick_trees.specs.Sites.{HasOwnWord, base_of, kinds_of}
 use Rattle.quick_trees.specs.Standing.{Exits, IsFor}
-use Rattle.quick_trees.proofs.Stepping.{Follows, HasBranched, has_branched, stepped}
+use Rattle.quick_trees.proofs.Stepping.{Follows, HasBranched, has_branched, has_put, stepped}
 use Rattle.quick_trees.proofs.Memories.{IsSite, Spares, assigned_again, assigned_look, assigned_then, deeper}
 use Rattle.quick_trees.proofs.Memories.{holds_assigned, holds_looked, keeps_both, keeps_word, own_inside, own_value}
 use Rattle.quick_trees.proofs.Memories.{spares_both, spares_kept, spares_own, spares_word, still_told}
+use Rattle.quick_trees.proofs.Memories.{IsNoted, marks_of, noted_word, own_no_constant, own_place}
 use Rattle.quick_trees.proofs.Memories.{with_look, word_elsewhere, word_here}
-use Rattle.quick_trees.proofs.Operators.{IsResult, at_most_shifted, made_is, number_is, word_held}
+use Rattle.quick_trees.proofs.Operators.{IsResult, at_most_shifted, made_is, made_number, number_is, sum_makes}
+use Rattle.quick_trees.proofs.Operators.{word_held}
+use Rattle.quick_trees.proofs.Computing.{moved_within}
+use Rattle.quick_trees.proofs.Elements.{narrow_number}
 use Rattle.quick_trees.proofs.Settings.{Setting, scope_of}
 use Rattle.quick_trees.proofs.Truths.{then_gives}
 use Rattle.quick_trees.proofs.Reading.{AreHeld, From, reads}
@@ -45,7 +56,7 @@ use Rattle.quick_trees.proofs.Testing.{kept_in}
 use Rattle.quick_trees.proofs.Running.{Does, HasEnded, HasRun, ends_met, gives_same, has_noted, held_met, nothing, puts}
 use Rattle.quick_trees.proofs.Running.{spares_words}
 use Rattle.quick_trees.proofs.Looping.{behind_body, behind_test, going_back, turn_is}
-use Rattle.quick_trees.proofs.Lists.{there_within}
+use Rattle.quick_trees.proofs.Lists.{set_here, set_same, some_is, there_within}
 use Rattle.quick_trees.specs.Sites.{IsValueAt}
 use Rattle.quick_code.specs.Words.{word_at}
 
@@ -89,21 +100,110 @@ module _ (f : Frame) (p : ℕ) (e : Left) (k limit : ℕ) (n : ℤ) (w : Way) (p
       subst (λ u. HasCounted f p e u k (look m k) n (look m limit) w past m b) (sym is)
       (of_signed s (subst (λ u. IsHeld (datum_at u (look m k))) is g) (subst (λ u. IsHeld (datum_at u n)) is h) runs)
 
-has_counted : (f : Frame) (p : ℕ) (e : Left) (k limit : ℕ) (n : ℤ) (w : Way) (past : ℕ) (m : Memory) (b : ℕ) (t : Kind)
-    → Counts f t k n limit w past p → IsHeld (datum_at t (look m k)) → IsHeld (datum_at t n)
+counted_at_once : (f : Frame) (p : ℕ) (e : Left) (k limit : ℕ) (n : ℤ) (w : Way) (past : ℕ) (m : Memory) (b : ℕ)
+    (t : Kind) → CountsAtOnce f t k n limit w past p → IsHeld (datum_at t (look m k)) → IsHeld (datum_at t n)
     → Ends f p m b e → HasCounted f p e t k (look m k) n (look m limit) w past m b
-has_counted f p e k limit (pos n) w past m b t (inl is) g h runs =
+counted_at_once f p e k limit (pos n) w past m b t (inl is) g h runs =
     of_type f p e k limit (pos n) w past m b test.AtMost (λ v l. refl) signed.Int t is.0 g h
     (stepped f p e m b _ runs is.1)
-has_counted f p e k limit (pos n) w past m b t (inr is) g h runs =
+counted_at_once f p e k limit (pos n) w past m b t (inr is) g h runs =
     of_type f p e k limit (pos n) w past m b test.AtMost (λ v l. refl) signed.Dint t is.0 g h
     (stepped f p e m b _ runs is.1)
-has_counted f p e k limit (negsuc n) w past m b t (inl is) g h runs =
+counted_at_once f p e k limit (negsuc n) w past m b t (inl is) g h runs =
     of_type f p e k limit (negsuc n) w past m b test.AtLeast (λ v l. refl) signed.Int t is.0 g h
     (stepped f p e m b _ runs is.1)
-has_counted f p e k limit (negsuc n) w past m b t (inr is) g h runs =
+counted_at_once f p e k limit (negsuc n) w past m b t (inr is) g h runs =
     of_type f p e k limit (negsuc n) w past m b test.AtLeast (λ v l. refl) signed.Dint t is.0 g h
     (stepped f p e m b _ runs is.1)
+
+-- the test for a further turn
+goes_on_counting : (f : Frame) (q : ℕ) (e : Left) (k limit : ℕ) (n : ℤ) (w : Way) (past : ℕ) (m : Memory) (b : ℕ)
+    → GoesOnCounting f n k limit w past q → Ends f q m b e
+    → HasBranched f q e (goes_for n (look m k) (look m limit)) w past m b
+goes_on_counting f q e k limit (pos n) w past m b is runs =
+    has_branched f q e (int_le (look m k) (look m limit)) w past m b (stepped f q e m b _ runs is)
+goes_on_counting f q e k limit (negsuc n) w past m b is runs =
+    has_branched f q e (int_le (look m limit) (look m k)) w past m b (stepped f q e m b _ runs is)
+
+-- a sum of LINT is a number of another type
+sum_within : (t : Kind) (v n w : ℤ) → is_wide t ≡ false → v +ℤ n ≡ w → holds t w ≡ true
+    → IsResult (in_range t (number_at t v +ℤ n)) t w
+sum_within t v n w narrow is held = record {
+  value = ap (λ u. in_range t (u +ℤ n)) (narrow_number t v narrow)
+      ∙ sum_makes v n w is t held
+      ∙ ap (λ u. Ok (record { kind = t; number = u })) (sym (narrow_number t w narrow));
+  held = ap (holds t) (narrow_number t w narrow) ∙ held;
+}
+
+-- what is a LINT is the word of a ULINT
+long_word : (w : ℤ) → holds kinds.Lint w ≡ true → holds kinds.Ulint (number_at kinds.Ulint w) ≡ true
+long_word w held = grind (arith, common_steps)
+
+sum_long : (t : Kind) (v n w : ℤ) → IsLong t → v +ℤ n ≡ w → holds kinds.Lint w ≡ true
+    → IsResult (in_range t (number_at t v +ℤ n)) t w
+sum_long t v n w (inl lint) is held =
+    sum_within t v n w (ap is_wide lint) is (ap (λ t. holds t w) lint ∙ held)
+sum_long t v n w (inr ulint) is held =
+    subst (λ t. IsResult (in_range t (number_at t v +ℤ n)) t w) (sym ulint) (record {
+      value = sum_makes (number_at kinds.Ulint v) n (number_at kinds.Ulint w) (omega (arith, ints, is)) kinds.Ulint
+          (long_word w held);
+      held = long_word w held;
+    })
+
+-- what a sum is kept of is a LINT
+kept_held : (z w : ℤ) (h : Bool) → holds (kind_of signed.Lint) z ≡ h → (if h then Some z else None) ≡ Some w
+    → holds (kind_of signed.Lint) w ≡ true
+kept_held z w true h is = ap (holds (kind_of signed.Lint)) (sym (some_is is)) ∙ h
+kept_held z w false h is = absurd cc
+
+module _ (f : Frame) (ns : List Noting) (marks : List Mark) (p q : ℕ) (e : Left) (k limit : ℕ) (n : ℤ) (w : Way)
+    (past : ℕ) (m : Memory) (b : ℕ) (t : Kind) (inside : k < length m.words)
+    (place : (k < length f.window) ⊎ (first_temporary f ≤ k)) (apart : limit ≡ k → ⊥) (noted : IsNoted f ns marks m)
+  where
+    -- behind the sum and the test of its type
+    ends_counting : (word : ℤ) → GoesOnCounting f n k limit w past q
+        → IsResult (in_range t (number_at t (look m k) +ℤ n)) t word
+        → Ends f q (with_word m k word) b e → HasCounted f q e t k (look m k) n (look m limit) w past m b
+    ends_counting word tested result runs = record {
+      word = word;
+      result = result;
+      ends = subst (λ v. HasBranched f q e (goes_for n v (look m limit)) w past (with_word m k word) b)
+          (word_here m k word inside)
+          (subst (λ l. HasBranched f q e (goes_for n (look (with_word m k word) k) l) w past (with_word m k word) b)
+          (word_elsewhere m limit k word apart)
+          (goes_on_counting f q e k limit n w past (with_word m k word) b tested runs));
+    }
+
+    by_within : (is : CountsAsLint f t k n limit w past p q) (word : ℤ) → look m k +ℤ n ≡ word
+        → holds (kind_of signed.Lint) word ≡ true
+        → (IsLong t × (q ≡ suc p)) ⊎ (IsMovedWithin f t k k (suc p) × (q ≡ suc (suc p)))
+        → Ends f (suc p) (with_word m k word) b e → HasCounted f q e t k (look m k) n (look m limit) w past m b
+    by_within is word sum held (inl (long, at)) runs =
+        ends_counting word is.tested
+        (sum_long t (look m k) n word long sum held)
+        (subst (λ q. Ends f q (with_word m k word) b e) (sym at) runs)
+    by_within is word sum held (inr (moves, at)) runs =
+        let m' = with_word m k word in
+        let here : look m' k ≡ word = word_here m k word inside in
+        let itself : with_word m' k (look m' k) ≡ m' = ap (λ ws. record m { words = ws })
+        (sym (set_same m'.words k (look m' k) (set_here m.words k word inside ∙ ap Some (sym here)))) in
+        let moved = moved_within f e ns marks t k k (suc p) m' b moves (noted_word f ns marks m noted k word place) runs
+        in
+        ends_counting word is.tested
+        (sum_within t (look m k) n word moves.narrow sum (ap (holds t) (sym here) ∙ moved.held))
+        (subst (λ q. Ends f q m' b e) (sym at)
+        (subst (λ m. Ends f (suc (suc p)) m b e) itself moved.ends))
+
+    has_counted : Counts f t k n limit w past p q → IsHeld (datum_at t (look m k)) → IsHeld (datum_at t n)
+        → Ends f p m b e → HasCounted f q e t k (look m k) n (look m limit) w past m b
+    has_counted (inl (at, is)) g h runs =
+        subst (λ q. HasCounted f q e t k (look m k) n (look m limit) w past m b) (sym at)
+        (counted_at_once f p e k limit n w past m b t is g h runs)
+    has_counted (inr is) g h runs =
+        let done = has_put f p e k (made op.Add signed.Lint (look m k) n) m b (stepped f p e m b _ runs is.added) in
+        by_within is done.word (made_number (look m k +ℤ n) done.word done.is)
+        (kept_held (look m k +ℤ n) done.word (holds (kind_of signed.Lint) (look m k +ℤ n)) refl done.is)
+        is.within done.ends
 
 passed_up : (w l : ℤ) → int_lt l w ≡ not (int_le w l)
 passed_up w l = grind (arith, ints)
@@ -225,13 +325,16 @@ module _ (s : Setting) where
               own_value s.frame s.site s.around r.end.noted h.memory us h.is d site k r.control t r.target r.own
 
           -- the step is added
-          count : HasCounted s.frame r.end.place s.finish t r.control here r.by l r.back r.after h.memory h.left
+          count : HasCounted s.frame r.foot s.finish t r.control here r.by l r.back r.after h.memory h.left
           count =
-              subst (λ l. HasCounted s.frame r.end.place s.finish t r.control here r.by l r.back r.after h.memory
-              h.left)
+              subst (λ l. HasCounted s.frame r.foot s.finish t r.control here r.by l r.back r.after h.memory h.left)
               still
-              (has_counted s.frame r.end.place s.finish r.control r.to r.by r.back r.after h.memory h.left t r.counts
-              control_value.held r.small h.ends)
+              (has_counted s.frame r.end.noted (marks_of s.site s.around us) r.end.place r.foot s.finish r.control r.to
+              r.by r.back r.after h.memory h.left t
+              (own_inside s.frame s.site s.around r.end.noted h.memory us h.is d site k r.control t r.target r.own)
+              (own_no_constant s.frame s.site r.control
+              (own_place s.frame s.site s.around r.end.noted h.memory us h.is d site k r.control t r.target r.own))
+              apart h.is.noted r.counts control_value.held r.small h.ends)
 
           abbrev after : Memory
           after = with_word h.memory r.control count.word
@@ -278,14 +381,14 @@ module _ (s : Setting) where
               (runs_on_is s.stand_ins k t count.word l r.by stepped_to u now_value)
 
           -- the tick was paid
-          paid : (go : Bool) → HasBranched s.frame r.end.place s.finish go r.back r.after after h.left → 0 < rest
+          paid : (go : Bool) → HasBranched s.frame r.foot s.finish go r.back r.after after h.left → 0 < rest
           paid true b =
               let enough = b.0 in let ahead = r.again.ahead in let ticks = h.ticks in omega arith
           paid false b =
               let enough = b.0 in let ahead = r.behind.ahead in let ticks = h.ticks in omega arith
 
           by_count : (n : ℕ) → Around n → rest ≤ suc n → (go : Bool) → goes_for r.by count.word l ≡ go
-              → HasBranched s.frame r.end.place s.finish go r.back r.after after h.left
+              → HasBranched s.frame r.foot s.finish go r.back r.after after h.left
               → HasRun s (going_back on_step (rounds (suc n))) d e q h.memory us rest
           by_count n around le true goes b =
               let enough = b.0 in

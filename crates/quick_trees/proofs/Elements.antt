@@ -40,6 +40,7 @@ pub record IsElement (lower : ℤ) (first word count stride : ℕ) (n : ℤ) (w 
   pub before : ℕ
   pub less : before < count
   pub place : w ≡ word + before * stride
+  pub number : n ≡ lower +ℤ pos before
   pub leads : LeadsTo lower first count stride n (first + before * stride)
 
 leads_to : (lower shift : ℤ) (first word count stride : ℕ) (n z : ℤ) (w : ℕ) → lower +ℤ shift ≡ pos 0 → z ≡ n +ℤ shift
@@ -55,6 +56,7 @@ leads_to lower shift first word count stride n (pos j) w from is e = by_test (na
           before = j;
           less = less;
           place = cc;
+          number = at;
           leads = record {
             before = j;
             less = less;

@@ -211,7 +211,7 @@ whole_site f base window = record {
 }
 
 -- an own word is no constant
-own_no_constant : (f : Frame) (s : Site) (w : ℕ) → IsOwnPlace f s w → (w < length f.window) ⊎ (first_temporary f ≤ w)
+pub own_no_constant : (f : Frame) (s : Site) (w : ℕ) → IsOwnPlace f s w → (w < length f.window) ⊎ (first_temporary f ≤ w)
 own_no_constant f (whole base) w h = inl h
 own_no_constant f (called kinds seats) w h = inr h.0
 

@@ -261,6 +261,12 @@ in_kind : (z w : ℤ) (k : Kind) → z ≡ w → holds k w ≡ true → in_range
 in_kind z w k same h =
     ap (in_range k) same ∙ ap (λ t. if t then Ok (record { kind = k; number = w }) else Err Range) h
 
+pub sum_makes : (x y w : ℤ) → x +ℤ y ≡ w → IsMadeOf Add x y w
+sum_makes x y w is = λ k h. in_kind (x +ℤ y) w k is h
+
+pub difference_makes : (x y w : ℤ) → x -ℤ y ≡ w → IsMadeOf Subtract x y w
+difference_makes x y w is = λ k h. in_kind (x -ℤ y) w k is h
+
 quotient_made : (x y w : ℤ) (t : Bool) → int_eq y (pos 0) ≡ t
     → (if t then None else kept signed.Lint (int_div x y)) ≡ Some w → IsMadeOf Divide x y w
 quotient_made x y w true z e = absurd cc

@@ -1,11 +1,14 @@
 -- Code that reads an expression gives the value that the expression has.
 use Rattle.std.proofs.Common.{◌≡◌, ℕ, zero, suc, ◌<◌, ◌≤◌, ℤ, true, List, [], ◌∷◌, length, Some, None, Ok, Err, refl}
-use Rattle.std.proofs.Common.{sym, ap, ap₂, subst, ◌∙◌, arith, ◌+◌, ◌*◌, inl, inr, ◌+ℤ◌, pos, false}
+use Rattle.std.proofs.Common.{sym, ap, ap₂, subst, ◌∙◌, arith, ◌+◌, ◌*◌, inl, inr, ◌+ℤ◌, ◌-ℤ◌, pos, false}
 use Rattle.std.specs.Prelude.{◌⊎◌, if◌then◌else◌, slice_get}
 use Rattle.st_words.specs.declared.fault.Fault.TheVariants.{Conversion, Index}
 use Rattle.st_words.specs.declared.kind.Kind.{Kind}
 use Rattle.st_words.specs.declared.literal.Literal.{Literal}
 use Rattle.st_words.specs.declared.operator.BinaryOperator.{BinaryOperator}
+use Rattle.st_words.specs.declared.operator.BinaryOperator.TheVariants.{Add, And, Divide, Equal, Greater}
+use Rattle.st_words.specs.declared.operator.BinaryOperator.TheVariants.{GreaterOrEqual, Less, LessOrEqual, Modulo}
+use Rattle.st_words.specs.declared.operator.BinaryOperator.TheVariants.{Multiply, NotEqual, Or, Subtract, Xor}
 use Rattle.st_words.proofs.KindLemmas.{same_kind-refl}
 use Rattle.st_words.specs.Kinds.{holds, greatest}
 use Rattle.st_words.specs.Values.{Datum, IsHeld, datum_of_truth}
@@ -22,7 +25,9 @@ use Rattle.quick_code.specs.QuickSteps.{Memory, behind, look, note, noted_read, 
 use Rattle.quick_code.specs.declared.quick_instr.QuickInstr.{QuickInstr}
 use Rattle.quick_code.specs.declared.quick_instr.QuickInstr.TheVariants.{LoadBehind, Locate, LocateBehind}
 use Rattle.quick_code.specs.Words.{element_place, word_of_truth}
+use Rattle.std.proofs.Math.IntN.{+ℤ_idr}
 use Rattle.std.proofs.Math.Nat.{add_assoc}
+use Rattle.std.proofs.lemmas.Int.{ints}
 use Rattle.slot_trees.specs.SlotTrees.{Anchor, SlotExpr, SlotExprs, binary, call, compute, constant, expr_then, load}
 use Rattle.slot_trees.specs.SlotTrees.{Subscripts, no_exprs, no_subscripts, place, subscript_then, unary}
 use Rattle.slot_trees.specs.SlotEvaluation.{slot_at}
@@ -33,15 +38,15 @@ use Rattle.quick_trees.specs.Sites.{HasOwnWord, base_of}
 use Rattle.quick_trees.specs.Sites.{IsExact}
 use Rattle.quick_trees.specs.Pieces.{AreRead, IsComputed, IsComputedBy, IsFetched, IsNumber, IsTemporary, AreBoth}
 use Rattle.quick_trees.specs.Pieces.{IsIndexed, IsLed, IsTruth, IsWider, IsWithin, LeadsBehind, IsNegated, IsNumberAt}
-use Rattle.quick_trees.specs.Pieces.{IsTurned, TurnsBits}
-use Rattle.quick_trees.specs.Standing.{AreArguments, IsCall, IsLedOn, IsRead}
+use Rattle.quick_trees.specs.Pieces.{HasNumbers, IsSubscript, IsTurned, TurnsBits}
+use Rattle.quick_trees.specs.Standing.{AreArguments, IsCall, IsLedOn, IsRead, IsReadApart, IsReadWithout}
 use Rattle.quick_trees.proofs.Lists.{some_is, there_within}
 use Rattle.quick_trees.proofs.Stepping.{stepped}
 use Rattle.quick_trees.proofs.Memories.{Holds, IsSite, Keeps, deeper, holds_kept, holds_loaded, holds_looked}
 use Rattle.quick_trees.proofs.Memories.{holds_temporary, keeps_all, keeps_below, keeps_both, keeps_less, keeps_word}
 use Rattle.quick_trees.proofs.Memories.{marks_of, own_value, with_look, word_here}
-use Rattle.quick_trees.proofs.Elements.{LeadsTo, element_is, has_loaded, has_located, is_behind, narrow_number, of_load}
-use Rattle.quick_trees.proofs.Elements.{place_is}
+use Rattle.quick_trees.proofs.Elements.{IsElement, LeadsTo, element_is, has_loaded, has_located, is_behind}
+use Rattle.quick_trees.proofs.Elements.{narrow_number, of_load, place_is}
 use Rattle.st_words.specs.declared.operator.UnaryOperator.{UnaryOperator}
 use Rattle.st_words.specs.declared.operator.UnaryOperator.TheVariants.{Negate, Not}
 use Rattle.quick_trees.proofs.Operators.{HasApplied, has_negated, has_turned, has_turned_by, has_computed}
@@ -50,7 +55,7 @@ use Rattle.quick_trees.proofs.Truths.{then_gives, truth_held, truth_word}
 use Rattle.quick_trees.proofs.Settings.{AreGiven, Setting, scope_of}
 use Rattle.quick_trees.specs.Functions.{IsComputedByWithin, IsComputedWithin, IsEvaluated}
 use Rattle.quick_trees.proofs.Computing.{has_value, moved_within}
-use Rattle.quick_trees.proofs.Operators.{has_made_of, has_made_of_by, IsMadeOf}
+use Rattle.quick_trees.proofs.Operators.{difference_makes, has_made_of, has_made_of_by, IsMadeOf, sum_makes}
 use Rattle.quick_trees.proofs.Memories.{IsNoted}
 use Rattle.st_types.specs.StandardFunctions.{Standard}
 use Rattle.st_words.specs.declared.kind.Kind.TheVariants.{Bool as Boolean}
@@ -464,6 +469,152 @@ module _ (s : Setting) where
         ends = runs;
       })
 
+  -- A value was read but for a number, which is not added: with it a word has the value now, where its type has that.
+  pub record HasReadApart (e : SlotExpr) (t : Kind) (n : ℤ) (d k : ℕ) (p q : Point) (m : Memory) (tr : Tracked)
+      (b : ℕ) : Type 0
+    where
+      pub memory : Memory
+      pub tracked : Tracked
+      pub left : ℕ
+      pub gives : is_wide t ≡ false → (n ≡ pos 0) ⊎ (holds t (look memory k +ℤ n) ≡ true)
+          → marked_value z tr e (b + p.ahead) ≡ Ok ((datum_at t (look memory k +ℤ n), tracked), left + q.ahead)
+      pub fewer : left + q.ahead ≤ b + p.ahead
+      pub keeps : Keeps d m memory
+      pub is : AreHeld q memory tracked
+      pub ends : Ends f q.place memory left s.finish
+
+  abbrev pub ReadsApart : SlotExpr → ℕ → Type 0
+  ReadsApart e d = (t : Kind) (n : ℤ) (k : ℕ) (p q : Point) → IsReadApart s.frame s.site s.units e t n d k p q
+      → From d p (HasReadApart e t n d k p q)
+
+  abbrev pub ReadsWithout : SlotExpr → ℕ → Type 0
+  ReadsWithout e d = (t : Kind) (n : ℤ) (k : ℕ) (p q : Point) → IsReadWithout s.frame s.site s.units e t n d k p q
+      → From d p (HasReadApart e t n d k p q)
+
+  pub apart_by : (e : SlotExpr) (d : ℕ) → ((t : Kind) → Reads e t d) → ReadsWithout e d → ReadsApart e d
+  apart_by e d reads_e without t n k p q (inl is) = λ m tr b site of runs.
+      let one = reads_e t k p q is.1 m tr b site of runs in
+      let w = look one.memory k in
+      let same : w ≡ w +ℤ n = sym (+ℤ_idr w) ∙ ap (λ n. w +ℤ n) (sym is.0) in
+      record {
+        memory = one.memory;
+        tracked = one.tracked;
+        left = one.left;
+        gives = λ narrow has. one.gives ∙ ap (λ w. Ok ((datum_at t w, one.tracked), one.left + q.ahead)) same;
+        fewer = one.fewer;
+        keeps = one.keeps;
+        is = one.is;
+        ends = one.ends;
+      }
+  apart_by e d reads_e without t n k p q (inr is) = without t n k p q is
+
+  -- where the number is 0, the type has the word with it
+  with_number : (t : Kind) (w n : ℤ) → is_wide t ≡ false → IsHeld (datum_at t w)
+      → (n ≡ pos 0) ⊎ (holds t (w +ℤ n) ≡ true) → holds t (w +ℤ n) ≡ true
+  with_number t w n narrow held (inl is) =
+      ap (λ n. holds t (w +ℤ n)) is ∙ ap (holds t) (+ℤ_idr w) ∙ ap (holds t) (sym (narrow_number t w narrow)) ∙ held
+  with_number t w n narrow held (inr is) = is
+
+  -- a constant on the right of a sum or a difference was left out
+  without_right : (op : BinaryOperator) (l r : SlotExpr) (d : ℕ) (t : Kind) (n : ℤ) (k : ℕ) (p q : Point)
+      → Reads l t d → (by : ℤ) → IsNumber r t by
+      → ((w : ℤ) → IsMadeOf op w by (w +ℤ n)) → Is l t d k p q
+      → From d p (HasReadApart (binary op l r) t n d k p q)
+  without_right op l r d t n k p q reads_l by number makes is m tr b site of runs =
+      let one = reads_l k p q is m tr b site of runs in
+      let w = look one.memory k in
+      record {
+        memory = one.memory;
+        tracked = one.tracked;
+        left = one.left;
+        gives = λ narrow has. applied_to op l r t w by tr one.tracked one.tracked (b + p.ahead)
+            (one.left + q.ahead) (one.left + q.ahead) (datum_at t (w +ℤ n)) one.gives
+            (number_gives r t by one.tracked (one.left + q.ahead) number)
+            (made_within op t w by (w +ℤ n) narrow (makes w) (with_number t w n narrow one.held has));
+        fewer = one.fewer;
+        keeps = one.keeps;
+        is = one.is;
+        ends = one.ends;
+      }
+
+  -- a constant on the left of a sum was left out
+  without_left : (l r : SlotExpr) (d : ℕ) (t : Kind) (n : ℤ) (k : ℕ) (p q : Point)
+      → Reads r t d → IsNumber l t n → Is r t d k p q → From d p (HasReadApart (binary Add l r) t n d k p q)
+  without_left l r d t n k p q reads_r number is m tr b site of runs =
+      let one = reads_r k p q is m tr b site of runs in
+      let w = look one.memory k in
+      record {
+        memory = one.memory;
+        tracked = one.tracked;
+        left = one.left;
+        gives = λ narrow has. applied_to Add l r t n w tr tr one.tracked (b + p.ahead)
+            (b + p.ahead) (one.left + q.ahead) (datum_at t (w +ℤ n)) (number_gives l t n tr (b + p.ahead) number)
+            one.gives
+            (made_within Add t n w (w +ℤ n) narrow (sum_makes n w (w +ℤ n) (omega (arith, ints)))
+            (with_number t w n narrow one.held has));
+        fewer = one.fewer;
+        keeps = one.keeps;
+        is = one.is;
+        ends = one.ends;
+      }
+
+  pub without_by : (op : BinaryOperator) (l r : SlotExpr) (d : ℕ) → ((t : Kind) → Reads l t d)
+      → ((t : Kind) → Reads r t d) → ReadsWithout (binary op l r) d
+  without_by op l r d reads_l reads_r t n k p q (inr (is, (number, read))) =
+      subst (λ op. From d p (HasReadApart (binary op l r) t n d k p q)) (sym is)
+      (without_left l r d t n k p q (reads_r t) number read)
+  without_by Add l r d reads_l reads_r t n k p q (inl (number, read)) =
+      without_right Add l r d t n k p q (reads_l t) n number (λ w. sum_makes w n (w +ℤ n) refl) read
+  without_by Subtract l r d reads_l reads_r t n k p q (inl ((by, (number, is)), read)) =
+      without_right Subtract l r d t n k p q (reads_l t) by number
+      (λ w. difference_makes w by (w +ℤ n) (omega (arith, ints, is))) read
+  without_by Or l r d reads_l reads_r t n k p q (inl is) = absurd is.0
+  without_by Xor l r d reads_l reads_r t n k p q (inl is) = absurd is.0
+  without_by And l r d reads_l reads_r t n k p q (inl is) = absurd is.0
+  without_by Equal l r d reads_l reads_r t n k p q (inl is) = absurd is.0
+  without_by NotEqual l r d reads_l reads_r t n k p q (inl is) = absurd is.0
+  without_by Less l r d reads_l reads_r t n k p q (inl is) = absurd is.0
+  without_by Greater l r d reads_l reads_r t n k p q (inl is) = absurd is.0
+  without_by LessOrEqual l r d reads_l reads_r t n k p q (inl is) = absurd is.0
+  without_by GreaterOrEqual l r d reads_l reads_r t n k p q (inl is) = absurd is.0
+  without_by Multiply l r d reads_l reads_r t n k p q (inl is) = absurd is.0
+  without_by Divide l r d reads_l reads_r t n k p q (inl is) = absurd is.0
+  without_by Modulo l r d reads_l reads_r t n k p q (inl is) = absurd is.0
+
+  -- A subscript leads to an element: it has a value, which leads there in the tree.
+  pub record HasElement (e : SlotExpr) (lower : ℤ) (first word count stride : ℕ) (w : ℕ) (tr tr' : Tracked)
+      (a b : ℕ) : Type 0
+    where
+      pub kind : Kind
+      pub value : ℤ
+      pub gives : marked_value z tr e a ≡ Ok ((datum_at kind value, tr'), b)
+      pub is : IsElement lower first word count stride (number_at kind value) w
+
+  number_fits : (t : Kind) (n v lower : ℤ) (count j : ℕ) → (n ≡ pos 0) ⊎ HasNumbers t lower count → v ≡ lower +ℤ pos j
+      → j < count → (n ≡ pos 0) ⊎ (holds t v ≡ true)
+  number_fits t n v lower count j (inl nought) at less = inl nought
+  number_fits t n v lower count j (inr has) at less = inr (ap (holds t) at ∙ has j less)
+
+  pub leads_there : (e : SlotExpr) (lower shift : ℤ) (count d k : ℕ) (p q : Point) (m : Memory) (tr : Tracked) (b : ℕ)
+      → (is : IsSubscript (λ u n. IsReadApart s.frame s.site s.units e u n d) lower shift count k p q)
+      → (one : HasReadApart e is.kind is.added d k p q m tr b) → (first word stride w : ℕ)
+      → element_place word count stride (look one.memory k +ℤ shift) ≡ Some w
+      → HasElement e lower first word count stride w tr one.tracked (b + p.ahead) (one.left + q.ahead)
+  leads_there e lower shift count d k p q m tr b is one first word stride w found =
+      let n = is.added in
+      let v = look one.memory k in
+      let from = is.from_lower in
+      let same : v +ℤ shift ≡ (v +ℤ n) +ℤ (shift -ℤ n) = omega (arith, ints) in
+      let el = element_is lower (shift -ℤ n) first word count stride is.kind (v +ℤ n) w (omega (arith, ints, from))
+      is.narrow (ap (element_place word count stride) (sym same) ∙ found) in
+      record {
+        kind = is.kind;
+        value = v +ℤ n;
+        gives = one.gives is.narrow (number_fits is.kind n (v +ℤ n) lower count el.before is.fits
+            (sym (narrow_number is.kind (v +ℤ n) is.narrow) ∙ el.number) el.less);
+        is = el;
+      }
+
   -- a subscript was read: what led to a place of the array leads there in the tree
   pub led_by : (e : SlotExpr) (lower : ℤ) (first count stride : ℕ) (t : Kind) (w : ℤ) (k : ℕ) (tr tr' : Tracked)
       (a b : ℕ)
@@ -478,18 +629,19 @@ module _ (s : Setting) where
       ∙ ap (λ j. Ok ((j, tr'), b)) (sym leads.place)
 
   pub fetched_by : (a : Anchor) (e : SlotExpr) (lower : ℤ) (count stride : ℕ) (t : Kind) (d to : ℕ) (p q : Point)
-      → ((u : Kind) → Reads e u d)
-      → IsFetched f s.site (λ u. Is e u d) lower (slot_at (base_of s.site) a) count stride t to p q
+      → ReadsApart e d
+      → IsFetched f s.site (λ u n. IsReadApart s.frame s.site s.units e u n d) lower (slot_at (base_of s.site) a) count
+      stride t to p q
       → From d p (HasMade (load (place a (subscript_then e lower count stride no_subscripts))) t d to p q)
   fetched_by a e lower count stride t d to p q reads_e is m tr b site of runs =
       let first = slot_at (base_of s.site) a in
-      let u = is.subscript.kind in
-      let one = reads_e u is.index p is.last is.subscript.reads m tr b site of runs in
-      let w = look one.memory is.index in
+      let one = reads_e is.subscript.kind is.subscript.added is.index p is.last is.subscript.reads m tr b site of runs
+      in
       let done = has_loaded f is.last.place s.finish one.memory one.left is.index is.shift to is.word count stride
       is.loads one.ends in
-      let leads = element_is lower is.shift first is.word count stride u w done.place is.subscript.from_lower
-      is.subscript.narrow done.is in
+      let there = leads_there e lower is.shift count d is.index p is.last m tr b is.subscript one first is.word stride
+      done.place done.is in
+      let leads = there.is in
       let k = first + leads.before * stride in
       let own = subst (HasOwnWord s.frame.window s.site k) (sym leads.place) (is.elements.words leads.before
       leads.less) in
@@ -505,8 +657,8 @@ module _ (s : Setting) where
         gives = then_gives
             (marked_led z tr first (subscript_then e lower count stride no_subscripts) (b + p.ahead))
             (k, one.tracked) (one.left + is.last.ahead) (λ r. marked_load s.stand_ins r.1 r.0)
-            (led_by e lower first count stride u w k tr one.tracked (b + p.ahead) (one.left + is.last.ahead) one.gives
-            leads.leads)
+            (led_by e lower first count stride there.kind there.value k tr one.tracked (b + p.ahead)
+            (one.left + is.last.ahead) there.gives leads.leads)
             ∙ load_gives s.stand_ins one.tracked k (datum_at t (look one.memory done.place)) (one.left + is.last.ahead)
             value.is value.held;
         fewer = one.fewer;
@@ -748,17 +900,15 @@ module _ (s : Setting) where
       (evaluated_by (CONVERT from to) (expr_then e no_exprs) t d k p q reads_es is.1)
 
   -- A subscript was read, up to the instruction that takes it.
-  record HasIndexed (e : SlotExpr) (lower : ℤ) (d : ℕ) (Instr : ℕ → ℤ → QuickInstr) (p q : Point) (m : Memory)
+  record HasIndexed (e : SlotExpr) (lower : ℤ) (count d : ℕ) (Instr : ℕ → ℤ → QuickInstr) (p q : Point) (m : Memory)
       (tr : Tracked) (b : ℕ) : Type 0 where
     memory : Memory
     tracked : Tracked
     left : ℕ
     index : ℕ
     shift : ℤ
-    kind : Kind
-    narrow : is_wide kind ≡ false
-    from_lower : lower +ℤ shift ≡ pos 0
-    gives : marked_value z tr e (b + p.ahead) ≡ Ok ((datum_at kind (look memory index), tracked), left + q.ahead)
+    gives : (first word stride w : ℕ) → element_place word count stride (look memory index +ℤ shift) ≡ Some w
+        → HasElement e lower first word count stride w tr tracked (b + p.ahead) (left + q.ahead)
     fewer : left + q.ahead ≤ b + p.ahead
     keeps : Keeps d m memory
     is : AreHeld q memory tracked
@@ -767,21 +917,20 @@ module _ (s : Setting) where
     stands : slice_get f.code place ≡ Some (Instr index shift)
     ends : Ends f place memory left s.finish
 
-  indexed_by : (e : SlotExpr) (lower : ℤ) (d : ℕ) (Instr : ℕ → ℤ → QuickInstr) (p q : Point)
-      → ((u : Kind) → Reads e u d) → IsIndexed f (λ u. Is e u d) lower Instr p q
-      → From d p (HasIndexed e lower d Instr p q)
-  indexed_by e lower d Instr p q reads_e is m tr b site of runs =
-      let one = reads_e is.subscript.kind is.index p is.last is.subscript.reads m tr b site of runs in
-      subst (λ q. HasIndexed e lower d Instr p q m tr b) (sym is.next) (record {
+  indexed_by : (e : SlotExpr) (lower : ℤ) (count d : ℕ) (Instr : ℕ → ℤ → QuickInstr) (p q : Point)
+      → ReadsApart e d
+      → IsIndexed f (λ u n. IsReadApart s.frame s.site s.units e u n d) lower count Instr p q
+      → From d p (HasIndexed e lower count d Instr p q)
+  indexed_by e lower count d Instr p q reads_e is m tr b site of runs =
+      let one = reads_e is.subscript.kind is.subscript.added is.index p is.last is.subscript.reads m tr b site of runs
+      in
+      subst (λ q. HasIndexed e lower count d Instr p q m tr b) (sym is.next) (record {
         memory = one.memory;
         tracked = one.tracked;
         left = one.left;
         index = is.index;
         shift = is.shift;
-        kind = is.subscript.kind;
-        narrow = is.subscript.narrow;
-        from_lower = is.subscript.from_lower;
-        gives = one.gives;
+        gives = leads_there e lower is.shift count d is.index p is.last m tr b is.subscript one;
         fewer = one.fewer;
         keeps = one.keeps;
         is = one.is;
@@ -841,13 +990,12 @@ module _ (s : Setting) where
       → (start o k : ℕ) → k ≡ start + o → d < f.size
       → From d p (λ m tr b. look m d ≡ pos o → HasLed ss d start o k Instr p q m tr b)
 
-  last_led : (e : SlotExpr) (lower : ℤ) (count stride d : ℕ) → ((u : Kind) → Reads e u (suc d))
+  last_led : (e : SlotExpr) (lower : ℤ) (count stride d : ℕ) → ReadsApart e (suc d)
       → LeadsOn (subscript_then e lower count stride no_subscripts) d
   last_led e lower count stride d reads_e Instr p q is start o k at there m tr b site of runs offset =
       let ss = subscript_then e lower count stride no_subscripts in
-      let one = indexed_by e lower (suc d) (λ i n. Instr i n count stride) p q reads_e is m tr b
+      let one = indexed_by e lower count (suc d) (λ i n. Instr i n count stride) p q reads_e is m tr b
       (deeper s.frame s.site d (suc d) (omega arith) site) of runs in
-      let v = look one.memory one.index in
       record {
         memory = one.memory;
         tracked = one.tracked;
@@ -859,15 +1007,16 @@ module _ (s : Setting) where
         offset = o;
         is_offset = keeps_word (suc d) m one.memory d one.keeps (omega arith) ∙ offset;
         comes = λ word w found. (
-            let el = element_is lower one.shift k word count stride one.kind v w one.from_lower one.narrow found in
+            let there = one.gives k word stride w found in
+            let el = there.is in
             let j = el.before * stride in
             let slot : k + j ≡ start + (o + j) = ap (λ k. k + j) at ∙ add_assoc start o j in
             let place = el.place in record {
               behind = j;
               reached = (el.before, (0, (el.less, (refl, omega arith))));
               place = omega arith;
-              gives = led_by e lower k count stride one.kind v (k + j) tr one.tracked (b + p.ahead) (one.left + q.ahead)
-                  one.gives el.leads
+              gives = led_by e lower k count stride there.kind there.value (k + j) tr one.tracked (b + p.ahead)
+                  (one.left + q.ahead) there.gives el.leads
                   ∙ ap (λ i. Ok ((i, one.tracked), one.left + q.ahead)) slot;
             });
         fewer = one.fewer;
@@ -884,13 +1033,13 @@ module _ (s : Setting) where
       (First : ℕ → ℤ → QuickInstr) (Instr : ℕ → ℤ → ℕ → ℕ → QuickInstr) (p r q : Point) (start o k : ℕ)
       (at : k ≡ start + o) (there : d < f.size) (leads : LeadsOn ss d)
       (further : IsLedOn s.frame s.site s.units ss d Instr r q) (m : Memory) (tr : Tracked) (b : ℕ)
-      (site : IsSite s.frame s.site d) (one : HasIndexed e lower c First p r m tr b) (place : ℕ)
+      (site : IsSite s.frame s.site d) (one : HasIndexed e lower count c First p r m tr b) (place : ℕ)
       (found : element_place 0 count stride (look one.memory one.index +ℤ one.shift) ≡ Some place)
       (runs : Ends f (suc one.place) (with_word one.memory d (pos (o + place))) one.left s.finish) where
     led_further : HasLed (subscript_then e lower count stride ss) d start o k Instr p q m tr b
     led_further =
-        let v = look one.memory one.index in
-        let el = element_is lower one.shift k 0 count stride one.kind v place one.from_lower one.narrow found in
+        let value = one.gives k 0 stride place found in
+        let el = value.is in
         let j = el.before * stride in
         let here : place ≡ j = omega (arith, el.place) in
         let o' = o + place in
@@ -921,8 +1070,8 @@ module _ (s : Setting) where
                 behind = j + to.behind;
                 reached = (el.before, (to.behind, (el.less, (to.reached, refl))));
                 place = omega arith;
-                gives = led_on e lower k count stride ss one.kind v (k + j) tr one.tracked (b + p.ahead)
-                    (one.left + r.ahead) one.gives el.leads
+                gives = led_on e lower k count stride ss value.kind value.value (k + j) tr one.tracked (b + p.ahead)
+                    (one.left + r.ahead) value.gives el.leads
                     ∙ to.gives
                     ∙ ap (λ i. Ok ((start + i, rest.tracked), rest.left + q.ahead)) (sym sum);
               });
@@ -938,15 +1087,16 @@ module _ (s : Setting) where
         }
 
   middle_led : (e : SlotExpr) (lower : ℤ) (count stride : ℕ) (ss : Subscripts) (d : ℕ)
-      → ((u : Kind) → Reads e u (suc d)) → LeadsOn ss d → (Instr : ℕ → ℤ → ℕ → ℕ → QuickInstr) (p q : Point)
-      → AreBoth (IsIndexed f (λ u. Is e u (suc d)) lower (λ i n. LocateBehind d i n d count stride))
+      → ReadsApart e (suc d) → LeadsOn ss d → (Instr : ℕ → ℤ → ℕ → ℕ → QuickInstr) (p q : Point)
+      → AreBoth (IsIndexed f (λ u n. IsReadApart s.frame s.site s.units e u n (suc d)) lower count
+      (λ i n. LocateBehind d i n d count stride))
       (IsLedOn s.frame s.site s.units ss d Instr) p q
       → (start o k : ℕ) → k ≡ start + o → d < f.size
       → From d p (λ m tr b. look m d ≡ pos o
       → HasLed (subscript_then e lower count stride ss) d start o k Instr p q m tr b)
   middle_led e lower count stride ss d reads_e leads Instr p q is start o k at there m tr b site of runs offset =
-      let one = indexed_by e lower (suc d) (λ i n. LocateBehind d i n d count stride) p is.middle reads_e is.first m
-      tr b (deeper s.frame s.site d (suc d) (omega arith) site) of runs in
+      let one = indexed_by e lower count (suc d) (λ i n. LocateBehind d i n d count stride) p is.middle reads_e is.first
+      m tr b (deeper s.frame s.site d (suc d) (omega arith) site) of runs in
       let found = element_place 0 count stride (look one.memory one.index +ℤ one.shift) in
       let done = has_located f one.place s.finish one.memory one.left d (behind (look one.memory d) found)
       (stepped f one.place s.finish one.memory one.left _ one.ends one.stands) in
@@ -958,12 +1108,13 @@ module _ (s : Setting) where
       done.ends)
 
   pub led_first : (e : SlotExpr) (lower : ℤ) (count stride : ℕ) (ss : Subscripts) (d start : ℕ)
-      (Instr : ℕ → ℤ → ℕ → ℕ → QuickInstr) (p q : Point) → ((u : Kind) → Reads e u d) → LeadsOn ss d
-      → IsLed f (λ u. Is e u d) lower count stride d (IsLedOn s.frame s.site s.units ss d Instr) p q
+      (Instr : ℕ → ℤ → ℕ → ℕ → QuickInstr) (p q : Point) → ReadsApart e d → LeadsOn ss d
+      → IsLed f (λ u n. IsReadApart s.frame s.site s.units e u n d) lower count stride d
+      (IsLedOn s.frame s.site s.units ss d Instr) p q
       → From d p (HasLed (subscript_then e lower count stride ss) d start 0 start Instr p q)
   led_first e lower count stride ss d start Instr p q reads_e leads is m tr b site of runs =
-      let one = indexed_by e lower d (λ i n. Locate i n d count stride) p is.located reads_e is.first m tr b site of
-      runs in
+      let one = indexed_by e lower count d (λ i n. Locate i n d count stride) p is.located reads_e is.first m tr b site
+      of runs in
       let found = element_place 0 count stride (look one.memory one.index +ℤ one.shift) in
       let done = has_located f one.place s.finish one.memory one.left d found
       (stepped f one.place s.finish one.memory one.left _ one.ends one.stands) in
@@ -974,9 +1125,9 @@ module _ (s : Setting) where
 
   -- an element of an array in an array was loaded
   pub within_by : (a : Anchor) (e : SlotExpr) (lower : ℤ) (count stride : ℕ) (ss : Subscripts) (t : Kind) (d to : ℕ)
-      (p q : Point) → ((u : Kind) → Reads e u d) → LeadsOn ss d
+      (p q : Point) → ReadsApart e d → LeadsOn ss d
       → IsWithin f s.site (slot_at (base_of s.site) a) (subscript_then e lower count stride ss) t
-      (λ word. IsLed f (λ u. Is e u d) lower count stride d
+      (λ word. IsLed f (λ u n. IsReadApart s.frame s.site s.units e u n d) lower count stride d
       (IsLedOn s.frame s.site s.units ss d (λ i n count stride. LoadBehind d i n to word count stride))) p q
       → From d p (HasMade (load (place a (subscript_then e lower count stride ss))) t d to p q)
   within_by a e lower count stride ss t d to p q reads_e leads is m tr b site of runs =
@@ -1022,10 +1173,11 @@ module _ (s : Setting) where
     reads (load (place a no_subscripts)) t d = read_slot a t d
     reads (load (place a (subscript_then i lower count stride no_subscripts))) t d = λ k p q is.
         read_made (load (place a (subscript_then i lower count stride no_subscripts))) t d k p q is.0
-        (fetched_by a i lower count stride t d k p q (λ u. reads i u d) is.1)
+        (fetched_by a i lower count stride t d k p q (apart_by i d (λ u. reads i u d) (reads_without i d)) is.1)
     reads (load (place a (subscript_then i lower count stride (subscript_then j l c r ss)))) t d = λ k p q is.
         read_made (load (place a (subscript_then i lower count stride (subscript_then j l c r ss)))) t d k p q is.0
-        (within_by a i lower count stride (subscript_then j l c r ss) t d k p q (λ u. reads i u d)
+        (within_by a i lower count stride (subscript_then j l c r ss) t d k p q
+        (apart_by i d (λ u. reads i u d) (reads_without i d))
         (leads_on (subscript_then j l c r ss) d) is.1)
     reads (compute ABS es) t d = λ k p q is. read_made (compute ABS es) t d k p q is.0
         (evaluated_by ABS es t d k p q (λ kinds words. reads_all es d kinds words) is.1)
@@ -1067,6 +1219,14 @@ module _ (s : Setting) where
         read_made (binary op l r) t d k p q is.0
         (binary_by op l r t d k p q (λ u. reads l u d) (λ u. reads r u (suc d)) is.1)
 
+    pub reads_without : (e : SlotExpr) (d : ℕ) → ReadsWithout e d
+    reads_without (binary op x y) d = without_by op x y d (λ t. reads x t d) (λ t. reads y t d)
+    reads_without (constant l) d = λ t n k p q is. absurd is
+    reads_without (load x) d = λ t n k p q is. absurd is
+    reads_without (unary op x) d = λ t n k p q is. absurd is
+    reads_without (compute g es) d = λ t n k p q is. absurd is
+    reads_without (call i es) d = λ t n k p q is. absurd is
+
     pub reads_all : (es : SlotExprs) (d : ℕ) (kinds : List Kind) (words : List ℕ) → ReadsAll es d kinds words
     reads_all no_exprs d [] [] = read_none d
     reads_all no_exprs d [] (w ∷ words) = λ p q is. absurd is
@@ -1079,7 +1239,11 @@ module _ (s : Setting) where
     pub leads_on : (ss : Subscripts) (d : ℕ) → LeadsOn ss d
     leads_on no_subscripts d = λ Instr p q is. absurd is
     leads_on (subscript_then e lower count stride no_subscripts) d =
-        last_led e lower count stride d (λ u. reads e u (suc d))
+        last_led e lower count stride d (apart_by e (suc d) (λ u. reads e u (suc d)) (reads_without e (suc d)))
     leads_on (subscript_then e lower count stride (subscript_then i l c r ss)) d =
-        middle_led e lower count stride (subscript_then i l c r ss) d (λ u. reads e u (suc d))
+        middle_led e lower count stride (subscript_then i l c r ss) d
+        (apart_by e (suc d) (λ u. reads e u (suc d)) (reads_without e (suc d)))
         (leads_on (subscript_then i l c r ss) d)
+
+  pub reads_apart : (e : SlotExpr) (d : ℕ) → ReadsApart e d
+  reads_apart e d = apart_by e d (λ u. reads e u d) (reads_without e d)

@@ -28,11 +28,12 @@ use Rattle.quick_trees.proofs.Stepping.{HasBranched, has_taken, stepped}
 use Rattle.quick_trees.proofs.Memories.{IsSite, Spares, deeper, holds_assigned, holds_stored, keeps_both, keeps_word}
 use Rattle.quick_trees.proofs.Memories.{marks_of, noted_assignment, noted_look, own_value, spares_all, spares_both}
 use Rattle.quick_trees.proofs.Memories.{spares_kept, spares_own, still_told}
-use Rattle.quick_trees.proofs.Elements.{element_is, has_stored, of_store, place_is}
+use Rattle.quick_trees.proofs.Elements.{has_stored, of_store, place_is}
 use Rattle.quick_code.specs.Words.{element_place}
 use Rattle.quick_trees.proofs.Settings.{Setting, scope_of}
 use Rattle.quick_trees.proofs.Truths.{then_gives}
-use Rattle.quick_trees.proofs.Reading.{AreHeld, From, leads_on, led_by, led_first, reads}
+use Rattle.quick_trees.proofs.Reading.{AreHeld, From, leads_on, leads_there, led_by, led_first, reads}
+use Rattle.quick_trees.proofs.Reading.{reads_apart}
 use Rattle.quick_trees.proofs.Testing.{made, tested, truth_is}
 
 -- where a run of statements comes that ends so
@@ -360,8 +361,8 @@ module _ (s : Setting) where
       let first = slot_at (base_of s.site) a in
       let t = r.kind in
       let one = reads s y t d r.from p r.middle r.value m tr b site is runs in
-      let u = r.subscript.kind in
-      let two = reads s i u (suc d) r.at r.middle r.last r.subscript.reads one.memory one.tracked one.left
+      let two = reads_apart s i (suc d) r.subscript.kind
+      r.subscript.added r.at r.middle r.last r.subscript.reads one.memory one.tracked one.left
       (deeper s.frame s.site d (suc d) (omega arith) site) one.is one.ends in
       let kept = keeps_word (suc d) one.memory two.memory r.from two.keeps one.low in
       let w = look two.memory r.from in
@@ -369,8 +370,9 @@ module _ (s : Setting) where
       let value = one.gives ∙ ap (λ w. Ok ((datum_at t w, one.tracked), one.left + r.middle.ahead)) (sym kept) in
       let done = has_stored s.frame r.last.place s.finish two.memory two.left r.at r.shift r.from r.word count stride
       r.stores two.ends in
-      let leads = element_is lower r.shift first r.word count stride u (look two.memory r.at) done.place
-      r.subscript.from_lower r.subscript.narrow done.is in
+      let there = leads_there s i lower r.shift count (suc d) r.at r.middle r.last one.memory one.tracked one.left
+      r.subscript two first r.word stride done.place done.is in
+      let leads = there.is in
       let k = first + leads.before * stride in
       let own = subst (HasOwnWord s.frame.window s.site k) (sym leads.place) (r.elements.words leads.before
       leads.less) in
@@ -389,8 +391,8 @@ module _ (s : Setting) where
         rest = rest;
         gives = assigns (place a (subscript_then i lower count stride no_subscripts)) y tr one.tracked two.tracked
             (b + p.ahead) (one.left + r.middle.ahead) rest k t w (look two.memory done.place) value
-            (led_by s i lower first count stride u (look two.memory r.at) k one.tracked two.tracked
-            (one.left + r.middle.ahead) rest two.gives leads.leads)
+            (led_by s i lower first count stride there.kind there.value k one.tracked two.tracked
+            (one.left + r.middle.ahead) rest there.gives leads.leads)
             old.is held;
         fewer = omega arith;
         ended = subst (λ q. HasEnded d e q m (goes_on after) rest) (sym r.is) (record {
@@ -417,7 +419,8 @@ module _ (s : Setting) where
       let v = r.stores.word in
       let one = reads s y t d r.from p r.middle r.value m tr b site is runs in
       let two = led_first s i lower count stride ss (suc d) first
-      (λ i n count stride. StoreBehind (suc d) i n r.from v count stride) r.middle q (λ u. reads s i u (suc d))
+      (λ i n count stride. StoreBehind (suc d) i n r.from v count stride) r.middle q
+      (reads_apart s i (suc d))
       (leads_on s ss (suc d)) r.stores.led one.memory one.tracked one.left
       (deeper s.frame s.site d (suc d) (omega arith) site) one.is one.ends in
       let found = element_place v two.count two.stride (look two.memory two.index +ℤ two.shift) in

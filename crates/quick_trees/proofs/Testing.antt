@@ -26,7 +26,7 @@ use Rattle.quick_trees.proofs.Settings.{Setting, scope_of}
 use Rattle.quick_trees.proofs.Truths.{not_is, not_not, then_gives, truth_is_word, truth_of_truth, turned}
 use Rattle.quick_trees.proofs.Reading.{negated_by, turned_by, AreHeld, From, HasMade, HasRead, Is, applied_to}
 use Rattle.quick_trees.proofs.Reading.{evaluated_by, binary_by, called_by, fetched_by, leads_on, within_by, number_gives, number_held}
-use Rattle.quick_trees.proofs.Reading.{read_both, read_made, reads, reads_all}
+use Rattle.quick_trees.proofs.Reading.{read_both, read_made, reads, reads_all, reads_apart}
 
 module _ (s : Setting) where
   abbrev z : MarkedScope
@@ -70,9 +70,9 @@ module _ (s : Setting) where
       })
   made (load (place a no_subscripts)) t d to p q is = moved (load (place a no_subscripts)) t d to p q is
   made (load (place a (subscript_then i lower count stride no_subscripts))) t d to p q is =
-      fetched_by s a i lower count stride t d to p q (λ u. reads s i u d) is
+      fetched_by s a i lower count stride t d to p q (reads_apart s i d) is
   made (load (place a (subscript_then i lower count stride (subscript_then j l c r ss)))) t d to p q is =
-      within_by s a i lower count stride (subscript_then j l c r ss) t d to p q (λ u. reads s i u d)
+      within_by s a i lower count stride (subscript_then j l c r ss) t d to p q (reads_apart s i d)
       (leads_on s (subscript_then j l c r ss) d) is
   made (compute g es) t d to p q (inl is) = moved (compute g es) t d to p q is
   made (compute g es) t d to p q (inr is) =

@@ -6,14 +6,17 @@ pub mod Sites
 pub mod Instructions
 pub mod Pieces
 pub mod Functions
+pub mod Counting
 pub mod Standing
 pub mod Calls
 pub mod Programs
 pub mod Example
 pub mod LoopExample
+pub mod ShortForExample
 pub mod CountExample
 pub mod CallExample
 pub mod ArrayExample
+pub mod ShiftExample
 pub mod BlockExample
 pub mod StepExample
 pub mod SignExample

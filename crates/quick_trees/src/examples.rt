@@ -20,6 +20,9 @@ ghost use Rattle.quick_trees.specs.FunctionExample.{function_words};
 ghost use Rattle.quick_trees.specs.LoopExample.{loop_body, loop_code, loop_frame, loop_slots, loop_words};
 ghost use Rattle.quick_trees.specs.RepeatExample.{repeat_body, repeat_code, repeat_frame};
 ghost use Rattle.quick_trees.specs.ReturnExample.{return_body, return_code, return_frame, return_library, return_words};
+ghost use Rattle.quick_trees.specs.ShiftExample.{shift_body, shift_code, shift_frame, shift_slots, shift_words};
+ghost use Rattle.quick_trees.specs.ShortForExample.{short_for_body, short_for_code, short_for_frame, short_for_slots};
+ghost use Rattle.quick_trees.specs.ShortForExample.{short_for_words};
 ghost use Rattle.quick_trees.specs.SignExample.{sign_body, sign_code, sign_frame, sign_slots, sign_words};
 ghost use Rattle.quick_trees.specs.StepExample.{step_body, step_code, step_frame, step_slots, step_words};
 ghost use Rattle.quick_trees.specs.Programs.{beginning, IsProgram};
@@ -50,6 +53,17 @@ pub fn a_loop_in_quick_code()
         (loop_slots 0 10 1 2 3 untouched untouched untouched) 30
         ≡ Ok (goes_on (loop_slots 4 16 11 13 16 (mark false true) (mark true true) (mark true true)), 20) }
     ensures short { exec loop_code [] 0 50 0 (loop_words 0 10 1 2 3 7 0 0 0) 9 ≡ None }
+{}
+
+/// A FOR over a type of 8 bits, by 100. Its code stands for it: the sum is tested before the limit. From 0 both come to
+/// 201 and 101, and take five ticks: one, and two for each of two turns. With 4 ticks the code cannot tell.
+pub fn a_short_for_in_quick_code()
+    ensures stands { IsProgram short_for_frame no_units 0 0 short_for_body }
+    ensures run { exec short_for_code [] 0 50 0 (short_for_words 0 0 0) 20
+        ≡ Some (left (short_for_words 201 101 2) 15) }
+    ensures program { marked_ran in_runs no_units 0 short_for_body 0 0 (short_for_slots 0 0 untouched) 20
+        ≡ Ok (goes_on (short_for_slots 201 101 (mark false true)), 15) }
+    ensures short { exec short_for_code [] 0 50 0 (short_for_words 0 0 0) 4 ≡ None }
 {}
 
 /// A WHILE whose turn is two instructions, with its constants in them, over the third of four slots, which is its only
@@ -144,6 +158,18 @@ pub fn an_array_in_quick_code()
     ensures program { marked_ran in_runs no_units 0 array_body 0 0 (array_slots 2 1 7 0 untouched untouched) 20
         ≡ Ok (goes_on (array_slots 2 1 7 7 (mark true false) (mark false true)), 19) }
     ensures out_of_bounds { exec array_code [] 0 50 0 (array_words 3 1 7 0 0 0 0 0) 20 ≡ None }
+{}
+
+/// An element is assigned to the one two before it, by subscripts that are sums with a constant. With i = 2 both assign
+/// a[3] to a[1], and take a tick; the constants stand in the instructions alone. There is no a[4], so with i = 3 the
+/// code cannot tell.
+pub fn shifted_subscripts_in_quick_code()
+    ensures stands { IsProgram shift_frame no_units 0 0 shift_body }
+    ensures run { exec shift_code [] 0 50 0 (shift_words 2 0 7 0 0 0 0) 20
+        ≡ Some (left (shift_words 2 7 7 7 1 2 1) 19) }
+    ensures program { marked_ran in_runs no_units 0 shift_body 0 0 (shift_slots 2 0 7 untouched untouched untouched) 20
+        ≡ Ok (goes_on (shift_slots 2 7 7 (mark true false) (mark false true) (mark true false)), 19) }
+    ensures out_of_bounds { exec shift_code [] 0 50 0 (shift_words 3 0 7 0 0 0 0) 20 ≡ None }
 {}
 
 /// The sign of a number is turned, and each bit of a BOOL and of a DWORD. From 5, TRUE and 7 both come to -5, FALSE and

@@ -33,10 +33,11 @@ use Rattle.slot_bodies.specs.LibraryViews.{slot_function_view, slot_library_view
 use Rattle.code_drafts.specs.Emitting.{filled}
 use Rattle.code_drafts.proofs.Depths.{function_lighter}
 use Rattle.code_drafts.proofs.Filled.{filled_function}
+use Rattle.quick_checks.proofs.Standings.{passes_same}
 use Rattle.quick_checks.proofs.Standings.{arms_next, arms_over, meets_same, stmts_next, stmts_on, stmts_over, ticked}
 use Rattle.std.specs.Prelude.{Some, slice_get}
 use Rattle.std.proofs.Common.{ℕ}
-use Rattle.quick_trees.specs.Points.{Joins, along}
+use Rattle.quick_trees.specs.Points.{GoesBack, Joins, along}
 use Rattle.quick_trees.specs.Standing.{StmtsStand}
 use Rattle.slot_bodies.specs.declared.statement.SlotCaseArm as code_case_arm
 use Rattle.slot_bodies.specs.Chains.{case_arms_of}
@@ -68,8 +69,9 @@ use Rattle.quick_checks.proofs.Instances.{copied_read, given_read}
 use Rattle.slot_trees.specs.SlotTrees.{assign, unary}
 use Rattle.quick_checks.specs.Within.{access_instr}
 use Rattle.quick_checks.proofs.Unaries.{unary_read}
-use Rattle.quick_checks.proofs.Subscripts.{led_first, led_last, led_more, place_seen, subscripts_larger, within_made}
-use Rattle.quick_checks.proofs.Subscripts.{within_read, within_stands, within_stored}
+use Rattle.quick_checks.proofs.AlongSubscripts.{led_first, led_last, led_more, place_seen, subscripts_larger}
+use Rattle.quick_checks.proofs.Sums.{sum_read}
+use Rattle.quick_checks.proofs.AlongSubscripts.{within_made, within_read, within_stands, within_stored}
 use Rattle.quick_checks.proofs.+check.Goals as goal
 
 pub reading::check_binary-returns-in-Some : goal.reading::check_binary-returns-in-Some
@@ -152,17 +154,28 @@ reading::check_binary-returns t c =
       is = c.in_ok-expect_kept.ensures.next;
     }))))
 
+pub subscripts::check_subscript-returns-in-Some : goal.subscripts::check_subscript-returns-in-Some
+subscripts::check_subscript-returns-in-Some t c =
+    let kind : c.in_ok-read.read.kind ≡ c.in-Some.sum.kind = c.if-not-is_kind.ensures (search rules) in
+    λ now whole kept. record {
+      kind = c.in-Some.sum.kind;
+      narrow = c.in-Some.ensures.narrow;
+      added = c.in-Some.sum.added;
+      reads = inr (sum_read (frame_of c.args.draft.now now) (site_of c.args.scope.now.values)
+          (quick_units (frame_of c.args.draft.now now) whole c.args.scope.now.calls)
+          (slot_expr_view c.args.subscript.now.index) (slot_expr_view c.in-Some.sum.rest.now) c.in-Some.sum.kind
+          c.in-Some.sum.added c.args.depth c.in_ok-read.read.word _ _ c.in-Some.ensures.sum
+          (rw (← kind) (c.in_ok-read.ensures now whole kept)));
+      fits = inr c.in-Some.ensures.fits;
+      from_lower = search rules;
+    }
+
 pub reading::check_fetched-returns : goal.reading::check_fetched-returns
 reading::check_fetched-returns t c = λ now whole kept. record {
   index = c.in_ok-index.index.word;
-  shift = c.in_ok-expect_load.field-0;
+  shift = c.in_ok-index.index.shift;
   last = _;
-  subscript = record {
-    kind = c.in_ok-index.index.kind;
-    narrow = sym c.is_wide.ensures ∙ c.if-is_wide.false;
-    reads = c.in_ok-index.ensures now whole kept;
-    from_lower = c.in_ok-expect_load.ensures.from_lower;
-  };
+  subscript = c.in_ok-index.ensures now whole kept;
   word = c.in_ok-elements.elements.word;
   elements = c.in_ok-elements.ensures now;
   loads = c.in_ok-expect_load.ensures.loads now;
@@ -264,10 +277,9 @@ within::check_led-check_led_on-requires t c =
 pub within::check_led-returns : goal.within::check_led-returns
 within::check_led-returns t c = λ now whole kept. led_first (frame_of c.args.draft.now now)
     (site_of c.args.scope.now.values) (quick_units (frame_of c.args.draft.now now) whole c.args.scope.now.calls)
-    c.args.subscripts.now c.in-Some.subscript.now c.in-Some.rest.now c.args.depth c.in_ok-index.index
-    c.in_ok-expect_located.field-0 (access_instr c.args.access c.args.depth c.args.word) _ _ _ _
-    c.in-Some.ensures.cases.0 (c.in_ok-temporary.ensures now).there (c.in_ok-index.ensures
-    c.in_ok-expect_located.field-0 c.in_ok-expect_located.ensures.from_lower now whole kept)
+    c.args.subscripts.now c.in-Some.subscript.now c.in-Some.rest.now c.args.depth c.in_ok-index.index.word
+    c.in_ok-index.index.shift (access_instr c.args.access c.args.depth c.args.word) _ _ _ _
+    c.in-Some.ensures.cases.0 (c.in_ok-temporary.ensures now).there (c.in_ok-index.ensures now whole kept)
     c.in_ok-expect_located.ensures.stands c.in_ok-expect_located.ensures.next
     (c.in_ok-check_led_on.ensures now whole kept)
 
@@ -287,9 +299,8 @@ within::check_led_on-returns-then-is_empty t c =
     λ now whole kept. led_last (frame_of c.args.draft.now now)
     (site_of c.args.scope.now.values) (quick_units (frame_of c.args.draft.now now) whole c.args.scope.now.calls)
     c.args.subscripts.now c.in-Some.subscript.now c.in-Some.rest.now c.args.depth c.in_ok-below.below
-    c.in_ok-index.index c.in_ok-expect_access.field-0 (access_instr c.args.access c.args.depth c.args.word) _ _ _
-    c.in-Some.ensures.cases.0 none c.in_ok-below.ensures (c.in_ok-index.ensures
-    c.in_ok-expect_access.field-0 c.in_ok-expect_access.ensures.from_lower now whole kept)
+    c.in_ok-index.index.word c.in_ok-index.index.shift (access_instr c.args.access c.args.depth c.args.word) _ _ _
+    c.in-Some.ensures.cases.0 none c.in_ok-below.ensures (c.in_ok-index.ensures now whole kept)
     c.in_ok-expect_access.ensures.stands c.in_ok-expect_access.ensures.next
 
 pub within::check_led_on-returns : goal.within::check_led_on-returns
@@ -298,9 +309,9 @@ within::check_led_on-returns t c =
     λ now whole kept. led_more (frame_of c.args.draft.now now)
     (site_of c.args.scope.now.values) (quick_units (frame_of c.args.draft.now now) whole c.args.scope.now.calls)
     c.args.subscripts.now c.in-Some.subscript.now c.in-Some.rest.now c.args.depth c.in_ok-below.below
-    c.in_ok-index.index c.in_ok-expect_located_behind.field-0
-    (access_instr c.args.access c.args.depth c.args.word) _ _ _ _ c.in-Some.ensures.cases.0 some c.in_ok-below.ensures (c.in_ok-index.ensures
-    c.in_ok-expect_located_behind.field-0 c.in_ok-expect_located_behind.ensures.from_lower now whole kept)
+    c.in_ok-index.index.word c.in_ok-index.index.shift
+    (access_instr c.args.access c.args.depth c.args.word) _ _ _ _ c.in-Some.ensures.cases.0 some
+    c.in_ok-below.ensures (c.in_ok-index.ensures now whole kept)
     c.in_ok-expect_located_behind.ensures.stands c.in_ok-expect_located_behind.ensures.next
     (c.in_ok-check_led_on.ensures now whole kept)
 
@@ -537,14 +548,9 @@ statements::check_stored-returns t c =
       middle = _;
       value = c.in_ok-from.ensures now whole kept;
       at = c.in_ok-index.index.word;
-      shift = c.in_ok-expect_store.field-0;
+      shift = c.in_ok-index.index.shift;
       last = _;
-      subscript = record {
-        kind = c.in_ok-index.index.kind;
-        narrow = sym c.is_wide.ensures ∙ c.if-is_wide.false;
-        reads = rw (← c.in_ok-below.ensures) (c.in_ok-index.ensures now whole kept);
-        from_lower = c.in_ok-expect_store.ensures.from_lower;
-      };
+      subscript = rw (← c.in_ok-below.ensures) (c.in_ok-index.ensures now whole kept);
       word = c.in_ok-elements.elements.word;
       elements = rw (← kind) (c.in_ok-elements.ensures now);
       stores = c.in_ok-expect_store.ensures.stores now;
@@ -706,9 +712,12 @@ counting::check_for-returns t c =
       known = c.if-not-is_assigned.ensures (search rules);
       back = c.in_ok-again.again.way;
       after = c.in_ok-again.again.past;
-      counts = rw (c.in_ok-turns.ensures.kind, c.in_ok-turns.ensures.control) at (c.in_ok-again.ensures now);
-      again = rw c.in_ok-head.ensures at (c.if-not-goes_back.ensures (search rules));
-      behind = rw q (c.if-not-passes_back.ensures (search rules));
+      foot = c.expect_counted.new.at.place;
+      counts = rw (c.in_ok-turns.ensures.kind, c.in_ok-turns.ensures.control) at (c.in_ok-again.ensures.counts now);
+      again = subst (λ (x : Point). GoesBack (along x c.in_ok-again.again.way) (point_of c.read_notes.new.at))
+          c.in_ok-again.ensures.same (rw c.in_ok-head.ensures at (c.if-not-goes_back.ensures (search rules)));
+      behind = rw q (passes_same _ _ _ c.in_ok-again.again.past c.in_ok-again.ensures.same
+          (c.if-not-passes_back.ensures (search rules)));
     }
 
 pub counting::check_kept-returns-then-is_same : goal.counting::check_kept-returns-then-is_same

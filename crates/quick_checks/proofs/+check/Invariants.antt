@@ -44,7 +44,7 @@ decreases-reading::check_binary l = 4 * (weight (filled (slot_library_view l.lib
 
 abbrev pub decreases-reading::check_fetched : goal.decreases-reading::check_fetched
 decreases-reading::check_fetched l = 4 * (weight (filled (slot_library_view l.library.now)) l.scope.now.calls
-    + (expr_size (slot_expr_view l.subscript.now.index))) + 1
+    + (expr_size (slot_expr_view l.subscript.now.index))) + 2
 
 abbrev pub decreases-reading::check_converted : goal.decreases-reading::check_converted
 decreases-reading::check_converted l = 4 * (weight (filled (slot_library_view l.library.now)) l.scope.now.calls
@@ -79,8 +79,8 @@ abbrev pub decreases-within::check_led_on : goal.decreases-within::check_led_on
 decreases-within::check_led_on l = 4 * (weight (filled (slot_library_view l.library.now)) l.scope.now.calls
     + subscripts_size (subscripts_of (map subscript_view l.subscripts.now))) + 1
 
-abbrev pub decreases-within::check_subscript : goal.decreases-within::check_subscript
-decreases-within::check_subscript l = 4 * (weight (filled (slot_library_view l.library.now)) l.scope.now.calls
+abbrev pub decreases-subscripts::check_subscript : goal.decreases-subscripts::check_subscript
+decreases-subscripts::check_subscript l = 4 * (weight (filled (slot_library_view l.library.now)) l.scope.now.calls
     + expr_size (slot_expr_view l.subscript.now.index)) + 1
 
 abbrev pub decreases-conditions::check_test : goal.decreases-conditions::check_test
@@ -121,7 +121,7 @@ decreases-statements::check_assigned l = 4 * (weight (filled (slot_library_view 
 
 abbrev pub decreases-statements::check_stored : goal.decreases-statements::check_stored
 decreases-statements::check_stored l = 4 * (weight (filled (slot_library_view l.library.now)) l.scope.now.calls
-    + (expr_size (slot_expr_view l.subscript.now.index) + expr_size (slot_expr_view l.value.now))) + 1
+    + (expr_size (slot_expr_view l.subscript.now.index) + expr_size (slot_expr_view l.value.now))) + 2
 
 abbrev pub decreases-statements::check_if : goal.decreases-statements::check_if
 decreases-statements::check_if l = 4 * (weight (filled (slot_library_view l.library.now)) l.scope.now.calls

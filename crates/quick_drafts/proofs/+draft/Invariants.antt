@@ -90,3 +90,6 @@ invariant-statements::put_stmts-loop-statement l = l.spot.levels ≤ l.fn.spot.l
 
 abbrev pub invariant-within::put_within-loop-number : goal.invariant-within::put_within-loop-number
 invariant-within::put_within-loop-number l = l.spot.levels ≤ l.fn.spot.levels
+
+abbrev pub decreases-subscripts::put_subscript : goal.decreases-subscripts::put_subscript
+decreases-subscripts::put_subscript l = l.spot.levels

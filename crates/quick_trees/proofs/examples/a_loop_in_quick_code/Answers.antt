@@ -168,18 +168,23 @@ returns-clause-stands c = record {
                             subscript = record {
                               kind = Int;
                               narrow = refl;
-                              reads = record {
-                                of_type = refl;
-                                has = refl;
-                                is = refl;
-                                touches = record {
-                                  old = Assigned;
-                                  there = refl;
-                                  new = Assigned;
+                              added = pos 0;
+                              reads = inl (
+                                refl,
+                                record {
+                                  of_type = refl;
+                                  has = refl;
                                   is = refl;
-                                  rest = refl;
-                                };
-                              };
+                                  touches = record {
+                                    old = Assigned;
+                                    there = refl;
+                                    new = Assigned;
+                                    is = refl;
+                                    rest = refl;
+                                  };
+                                },
+                              );
+                              fits = inl refl;
                               from_lower = refl;
                             };
                             word = 2;
@@ -214,12 +219,17 @@ returns-clause-stands c = record {
                   subscript = record {
                     kind = Int;
                     narrow = refl;
-                    reads = record {
-                      of_type = refl;
-                      has = refl;
-                      is = refl;
-                      touches = record { old = Assigned; there = refl; new = Assigned; is = refl; rest = refl };
-                    };
+                    added = pos 0;
+                    reads = inl (
+                      refl,
+                      record {
+                        of_type = refl;
+                        has = refl;
+                        is = refl;
+                        touches = record { old = Assigned; there = refl; new = Assigned; is = refl; rest = refl };
+                      },
+                    );
+                    fits = inl refl;
                     from_lower = refl;
                   };
                   word = 2;
@@ -252,12 +262,17 @@ returns-clause-stands c = record {
                         subscript = record {
                           kind = Int;
                           narrow = refl;
-                          reads = record {
-                            of_type = refl;
-                            has = refl;
-                            is = refl;
-                            touches = record { old = Assigned; there = refl; new = Assigned; is = refl; rest = refl };
-                          };
+                          added = pos 0;
+                          reads = inl (
+                            refl,
+                            record {
+                              of_type = refl;
+                              has = refl;
+                              is = refl;
+                              touches = record { old = Assigned; there = refl; new = Assigned; is = refl; rest = refl };
+                            },
+                          );
+                          fits = inl refl;
                           from_lower = refl;
                         };
                         word = 2;
@@ -294,7 +309,8 @@ returns-clause-stands c = record {
           known = refl;
           back = way 6 3;
           after = 1;
-          counts = inl (refl, refl);
+          foot = _;
+          counts = inl (refl, inl (refl, refl));
           again = record {
             place = refl;
             ahead = refl;

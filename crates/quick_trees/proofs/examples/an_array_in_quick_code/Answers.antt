@@ -100,12 +100,17 @@ returns-clause-stands c = record {
                   subscript = record {
                     kind = Int;
                     narrow = refl;
-                    reads = record {
-                      of_type = refl;
-                      has = refl;
-                      is = refl;
-                      touches = record { old = LookAhead; there = refl; new = Looked; is = refl; rest = refl };
-                    };
+                    added = pos 0;
+                    reads = inl (
+                      refl,
+                      record {
+                        of_type = refl;
+                        has = refl;
+                        is = refl;
+                        touches = record { old = LookAhead; there = refl; new = Looked; is = refl; rest = refl };
+                      },
+                    );
+                    fits = inl refl;
                     from_lower = refl;
                   };
                   stands = refl;
@@ -122,12 +127,17 @@ returns-clause-stands c = record {
                     subscript = record {
                       kind = Int;
                       narrow = refl;
-                      reads = record {
-                        of_type = refl;
-                        has = refl;
-                        is = refl;
-                        touches = record { old = LookAhead; there = refl; new = Looked; is = refl; rest = refl };
-                      };
+                      added = pos 0;
+                      reads = inl (
+                        refl,
+                        record {
+                          of_type = refl;
+                          has = refl;
+                          is = refl;
+                          touches = record { old = LookAhead; there = refl; new = Looked; is = refl; rest = refl };
+                        },
+                      );
+                      fits = inl refl;
                       from_lower = refl;
                     };
                     stands = refl;
@@ -141,12 +151,17 @@ returns-clause-stands c = record {
                     subscript = record {
                       kind = Int;
                       narrow = refl;
-                      reads = record {
-                        of_type = refl;
-                        has = refl;
-                        is = refl;
-                        touches = record { old = Looked; there = refl; new = Looked; is = refl; rest = refl };
-                      };
+                      added = pos 0;
+                      reads = inl (
+                        refl,
+                        record {
+                          of_type = refl;
+                          has = refl;
+                          is = refl;
+                          touches = record { old = Looked; there = refl; new = Looked; is = refl; rest = refl };
+                        },
+                      );
+                      fits = inl refl;
                       from_lower = refl;
                     };
                     stands = refl;
@@ -169,12 +184,17 @@ returns-clause-stands c = record {
                 subscript = record {
                   kind = Int;
                   narrow = refl;
-                  reads = record {
-                    of_type = refl;
-                    has = refl;
-                    is = refl;
-                    touches = record { old = Looked; there = refl; new = Looked; is = refl; rest = refl };
-                  };
+                  added = pos 0;
+                  reads = inl (
+                    refl,
+                    record {
+                      of_type = refl;
+                      has = refl;
+                      is = refl;
+                      touches = record { old = Looked; there = refl; new = Looked; is = refl; rest = refl };
+                    },
+                  );
+                  fits = inl refl;
                   from_lower = refl;
                 };
                 stands = refl;
@@ -191,12 +211,17 @@ returns-clause-stands c = record {
                   subscript = record {
                     kind = Int;
                     narrow = refl;
-                    reads = record {
-                      of_type = refl;
-                      has = refl;
-                      is = refl;
-                      touches = record { old = Looked; there = refl; new = Looked; is = refl; rest = refl };
-                    };
+                    added = pos 0;
+                    reads = inl (
+                      refl,
+                      record {
+                        of_type = refl;
+                        has = refl;
+                        is = refl;
+                        touches = record { old = Looked; there = refl; new = Looked; is = refl; rest = refl };
+                      },
+                    );
+                    fits = inl refl;
                     from_lower = refl;
                   };
                   stands = refl;
@@ -210,12 +235,17 @@ returns-clause-stands c = record {
                   subscript = record {
                     kind = Int;
                     narrow = refl;
-                    reads = record {
-                      of_type = refl;
-                      has = refl;
-                      is = refl;
-                      touches = record { old = Looked; there = refl; new = Looked; is = refl; rest = refl };
-                    };
+                    added = pos 0;
+                    reads = inl (
+                      refl,
+                      record {
+                        of_type = refl;
+                        has = refl;
+                        is = refl;
+                        touches = record { old = Looked; there = refl; new = Looked; is = refl; rest = refl };
+                      },
+                    );
+                    fits = inl refl;
                     from_lower = refl;
                   };
                   stands = refl;

@@ -18,7 +18,8 @@ use Rattle.quick_trees.specs.Points.{Point, next}
 use Rattle.quick_trees.specs.QuickMemory.{Frame}
 use Rattle.quick_trees.specs.Sites.{Site, base_of}
 use Rattle.slot_trees.specs.SlotEvaluation.{slot_at}
-use Rattle.quick_trees.specs.Standing.{Exits, IsLedOn, IsMade, IsRead, QuickUnits, StandsFor}
+use Rattle.quick_trees.specs.Standing.{Exits, IsLedOn, IsMade, IsRead, IsReadApart, QuickUnits}
+use Rattle.quick_trees.specs.Standing.{StandsFor}
 use Rattle.quick_checks.specs.declared.reached.Access.TheVariants.{Load, Store}
 use Rattle.quick_checks.specs.Within.{AreLed, PlaceStored, access_instr}
 use Rattle.quick_checks.proofs.Standings.{ticked}
@@ -40,9 +41,9 @@ subscripts_larger xs x rest is =
 module _ (f : Frame) (s : Site) (units : QuickUnits) where
   -- the code of a subscript, and of the instruction that takes it
   indexed : (x : code_subscript.Subscript) (d index : ℕ) (shift : ℤ) (Instr : ℕ → ℤ → QuickInstr) (p m q : Point)
-      → IsSubscript (λ u. IsRead f s units (slot_expr_view x.index) u d) x.lower shift index p m
+      → IsSubscript (λ u n. IsReadApart f s units (slot_expr_view x.index) u n d) x.lower shift x.count index p m
       → slice_get f.code m.place ≡ Some (Instr index shift) → q ≡ next m
-      → IsIndexed f (λ u. IsRead f s units (slot_expr_view x.index) u d) x.lower Instr p q
+      → IsIndexed f (λ u n. IsReadApart f s units (slot_expr_view x.index) u n d) x.lower x.count Instr p q
   indexed x d index shift Instr p m q h at e = record {
     index = index;
     shift = shift;
@@ -55,13 +56,13 @@ module _ (f : Frame) (s : Site) (units : QuickUnits) where
   pub led_first : (xs : List code_subscript.Subscript) (x : code_subscript.Subscript)
       (rest : List code_subscript.Subscript) (d index : ℕ) (shift : ℤ) (Instr : ℕ → ℤ → ℕ → ℕ → QuickInstr)
       (p m l q : Point) → xs ≡ x ∷ rest → d < f.size
-      → IsSubscript (λ u. IsRead f s units (slot_expr_view x.index) u d) x.lower shift index p m
+      → IsSubscript (λ u n. IsReadApart f s units (slot_expr_view x.index) u n d) x.lower shift x.count index p m
       → slice_get f.code m.place ≡ Some (Locate index shift d x.count x.stride) → l ≡ next m
       → IsLedOn f s units (subscripts_of (map subscript_view rest)) d Instr l q
       → AreLed f s units (subscripts_of (map subscript_view xs)) d Instr p q
   led_first xs x rest d index shift Instr p m l q is there h at e on =
-      let Led : Subscript → Type 0 = λ y. IsLed f (λ u. IsRead f s units y.index u d) y.lower y.count y.stride d
-      (IsLedOn f s units (subscripts_of (map subscript_view rest)) d Instr) p q in
+      let Led : Subscript → Type 0 = λ y. IsLed f (λ u n. IsReadApart f s units y.index u n d) y.lower y.count y.stride
+      d (IsLedOn f s units (subscripts_of (map subscript_view rest)) d Instr) p q in
       subst (λ ys. AreLed f s units (subscripts_of (map subscript_view ys)) d Instr p q) (sym is)
       (subst Led (sym (subscript_seen x)) (record {
         there = there;
@@ -73,11 +74,11 @@ module _ (f : Frame) (s : Site) (units : QuickUnits) where
   pub led_last : (xs : List code_subscript.Subscript) (x : code_subscript.Subscript)
       (rest : List code_subscript.Subscript) (d c index : ℕ) (shift : ℤ) (Instr : ℕ → ℤ → ℕ → ℕ → QuickInstr)
       (p m q : Point) → xs ≡ x ∷ rest → length rest ≡ 0 → c ≡ suc d
-      → IsSubscript (λ u. IsRead f s units (slot_expr_view x.index) u c) x.lower shift index p m
+      → IsSubscript (λ u n. IsReadApart f s units (slot_expr_view x.index) u n c) x.lower shift x.count index p m
       → slice_get f.code m.place ≡ Some (Instr index shift x.count x.stride) → q ≡ next m
       → IsLedOn f s units (subscripts_of (map subscript_view xs)) d Instr p q
   led_last xs x [] d c index shift Instr p m q is none deep h at e =
-      let Led : Subscript → Type 0 = λ y. IsIndexed f (λ u. IsRead f s units y.index u (suc d)) y.lower
+      let Led : Subscript → Type 0 = λ y. IsIndexed f (λ u n. IsReadApart f s units y.index u n (suc d)) y.lower y.count
       (λ i n. Instr i n y.count y.stride) p q in
       subst (λ ys. IsLedOn f s units (subscripts_of (map subscript_view ys)) d Instr p q) (sym is)
       (subst Led (sym (subscript_seen x))
@@ -87,14 +88,14 @@ module _ (f : Frame) (s : Site) (units : QuickUnits) where
   pub led_more : (xs : List code_subscript.Subscript) (x : code_subscript.Subscript)
       (rest : List code_subscript.Subscript) (d c index : ℕ) (shift : ℤ) (Instr : ℕ → ℤ → ℕ → ℕ → QuickInstr)
       (p m l q : Point) → xs ≡ x ∷ rest → (length rest ≡ 0 → ⊥) → c ≡ suc d
-      → IsSubscript (λ u. IsRead f s units (slot_expr_view x.index) u c) x.lower shift index p m
+      → IsSubscript (λ u n. IsReadApart f s units (slot_expr_view x.index) u n c) x.lower shift x.count index p m
       → slice_get f.code m.place ≡ Some (LocateBehind d index shift d x.count x.stride) → l ≡ next m
       → IsLedOn f s units (subscripts_of (map subscript_view rest)) d Instr l q
       → IsLedOn f s units (subscripts_of (map subscript_view xs)) d Instr p q
   led_more xs x [] d c index shift Instr p m l q is some deep h at e on = absurd (some refl)
   led_more xs x (y ∷ ys) d c index shift Instr p m l q is some deep h at e on =
-      let Led : Subscript → Type 0 = λ z. AreBoth (IsIndexed f (λ u. IsRead f s units z.index u (suc d)) z.lower
-      (λ i n. LocateBehind d i n d z.count z.stride))
+      let Led : Subscript → Type 0 = λ z. AreBoth (IsIndexed f (λ u n. IsReadApart f s units z.index u n (suc d))
+      z.lower z.count (λ i n. LocateBehind d i n d z.count z.stride))
       (IsLedOn f s units (subscripts_of (map subscript_view (y ∷ ys))) d Instr) p q in
       subst (λ zs. IsLedOn f s units (subscripts_of (map subscript_view zs)) d Instr p q) (sym is)
       (subst Led (sym (subscript_seen x)) (record {

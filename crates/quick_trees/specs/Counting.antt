@@ -1,0 +1,58 @@
+-- How a FOR counts.
+use Rattle.std.specs.Prelude.{◌≡◌, ◌⊎◌, ℕ, ℤ, suc, pos, negsuc, Option, Some, None, slice_get}
+use Rattle.st_words.specs.declared.kind.Kind.{Kind}
+use Rattle.st_words.specs.declared.kind.Kind.TheVariants.{Dint, Int, Lint, Ulint}
+use Rattle.quick_code.specs.declared.quick_code.Way.{Way}
+use Rattle.quick_code.specs.declared.quick_instr.QuickInstr.TheVariants.{AddLintBy, CountDownDint, CountDownInt}
+use Rattle.quick_code.specs.declared.quick_instr.QuickInstr.TheVariants.{CountUpDint, CountUpInt, WhenAtMost, WhenLess}
+use Rattle.slot_trees.specs.SlotTrees.{SlotExpr, constant}
+use Rattle.quick_trees.specs.QuickMemory.{Frame}
+use Rattle.quick_trees.specs.Pieces.{IsLiteral}
+use Rattle.quick_trees.specs.Functions.{IsMovedWithin}
+
+-- the step of a FOR: 1 where none is written, or a literal
+abbrev pub IsStep : Option SlotExpr → ℤ → Type 0
+IsStep None n = n ≡ pos 1
+IsStep (Some (constant l)) n = IsLiteral l n
+IsStep (Some _) n = ⊥
+
+-- The step of a FOR over INT or DINT is added to its control variable, and the limit is tested.
+abbrev pub CountsUp : Frame → Kind → ℕ → ℤ → ℕ → Way → ℕ → ℕ → Type 0
+CountsUp f t k n limit w past p =
+    ((t ≡ Int) × (slice_get f.code p ≡ Some (CountUpInt k n limit w past)))
+    ⊎ ((t ≡ Dint) × (slice_get f.code p ≡ Some (CountUpDint k n limit w past)))
+
+-- the same of a step below 0
+abbrev pub CountsDown : Frame → Kind → ℕ → ℤ → ℕ → Way → ℕ → ℕ → Type 0
+CountsDown f t k n limit w past p =
+    ((t ≡ Int) × (slice_get f.code p ≡ Some (CountDownInt k n limit w past)))
+    ⊎ ((t ≡ Dint) × (slice_get f.code p ≡ Some (CountDownDint k n limit w past)))
+
+-- the first test of the limit, and a further turn, where the step is above 0 or below
+abbrev pub BeginsToCount : Frame → ℤ → ℕ → ℕ → Way → ℕ → ℕ → Type 0
+BeginsToCount f (pos n) control limit w past p = slice_get f.code p ≡ Some (WhenLess limit control w past)
+BeginsToCount f (negsuc n) control limit w past p = slice_get f.code p ≡ Some (WhenLess control limit w past)
+
+abbrev pub CountsAtOnce : Frame → Kind → ℕ → ℤ → ℕ → Way → ℕ → ℕ → Type 0
+CountsAtOnce f t k (pos n) limit w past p = CountsUp f t k (pos n) limit w past p
+CountsAtOnce f t k (negsuc n) limit w past p = CountsDown f t k (negsuc n) limit w past p
+
+-- the test for a further turn alone, where the step is above 0 or below
+abbrev pub GoesOnCounting : Frame → ℤ → ℕ → ℕ → Way → ℕ → ℕ → Type 0
+GoesOnCounting f (pos n) control limit w past p = slice_get f.code p ≡ Some (WhenAtMost control limit w past)
+GoesOnCounting f (negsuc n) control limit w past p = slice_get f.code p ≡ Some (WhenAtMost limit control w past)
+
+-- a type of 64 bits: a word is a LINT where the number is of the type
+abbrev pub IsLong : Kind → Type 0
+IsLong t = (t ≡ Lint) ⊎ (t ≡ Ulint)
+
+-- The step is added to the control variable as to a LINT, which is then a number of its type, and the limit is tested.
+pub record CountsAsLint (f : Frame) (t : Kind) (k : ℕ) (n : ℤ) (limit : ℕ) (w : Way) (past p q : ℕ) : Type 0 where
+  pub added : slice_get f.code p ≡ Some (AddLintBy k n k)
+  pub within : (IsLong t × (q ≡ suc p)) ⊎ (IsMovedWithin f t k k (suc p) × (q ≡ suc (suc p)))
+  pub tested : GoesOnCounting f n k limit w past q
+
+-- the end of a turn, from a place on: one instruction, or several of which the test is the last one
+abbrev pub Counts : Frame → Kind → ℕ → ℤ → ℕ → Way → ℕ → ℕ → ℕ → Type 0
+Counts f t k n limit w past p q =
+    ((q ≡ p) × CountsAtOnce f t k n limit w past p) ⊎ CountsAsLint f t k n limit w past p q
