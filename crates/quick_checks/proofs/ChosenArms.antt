@@ -1,7 +1,7 @@
 -- Code of the arms of a CASE.
 use Rattle.std.proofs.Common.{◌≡◌, ◌∙◌, ℕ, ℤ, zero, suc, pos, negsuc, List, [], ◌∷◌, length, get_or, map, ap, sym, refl}
 use Rattle.std.proofs.Common.{subst, arith, true, false, inl, inr, ◌+◌, ◌<◌, ◌≤◌, ◌+ℤ◌}
-use Rattle.std.specs.Prelude.{Bool, Some, slice_get, if◌then◌else◌, nat_lt, ◌⊎◌}
+use Rattle.std.specs.Prelude.{Bool, Some, slice_get, if◌then◌else◌, ◌⊎◌}
 use Rattle.std.specs.List.{list_any}
 use Rattle.std.proofs.lemmas.Bool.{cases_lt}
 use Rattle.std.proofs.lemmas.Grind.{common_steps}

@@ -1,5 +1,5 @@
 -- Sums of an expression and a constant.
-use Rattle.std.proofs.Common.{◌≡◌, ℕ, ℤ, pos, true, ◌<◌, ◌≤ℤ◌, ◌+ℤ◌, arith, ap, subst, sym, inl, inr}
+use Rattle.std.proofs.Common.{◌≡◌, ℕ, ℤ, pos, true, ◌<◌, ◌≤ℤ◌, ◌+ℤ◌, arith, ap, subst, inl, inr}
 use Rattle.std.proofs.lemmas.Grind.{common_steps}
 use Rattle.st_words.specs.declared.kind.Kind.{Kind}
 use Rattle.st_words.specs.Kinds.{least, greatest, holds}
