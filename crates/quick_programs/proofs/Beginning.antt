@@ -39,7 +39,8 @@ word_here [] rest k v at = absurd cc
 word_here (x ∷ vs) rest zero v at = ap word_of (some_is at)
 word_here (x ∷ vs) rest (suc k) v at = word_here vs rest k v at
 
-word_behind : (vs : List Datum) (rest : List ℤ) (j : ℕ) → word_at (map word_of vs ++ rest) (length vs + j) ≡ word_at rest j
+word_behind : (vs : List Datum) (rest : List ℤ) (j : ℕ) → word_at (map word_of vs ++ rest)
+    (length vs + j) ≡ word_at rest j
 word_behind [] rest j = (let at : 0 + j ≡ j = omega arith in ap (word_at rest) at)
 word_behind (x ∷ vs) rest j =
     (let at : suc (length vs) + j ≡ suc (length vs + j) = omega arith in

@@ -80,6 +80,7 @@ answers_too instrs kinds extra p window code keeps same is = record {
   answers = record {
     room = is.answers.room;
     ends = λ now budget vs m e typed begun ends. told p code window kinds now vs e _
-        (is.answers.ends now budget vs m e typed (from_other p code window kinds now _ _ begun) ((same now _ budget e).1 ends));
+        (is.answers.ends now budget vs m e typed (from_other p code window kinds now _ _ begun)
+        ((same now _ budget e).1 ends));
   };
 }

@@ -13,7 +13,8 @@ use std::marker::Model;
 use std::sync::Arc;
 
 /// Quick code of a program, which may be run, beside the program's instructions: a run of it that ends well ends as
-/// theirs. Contracts see the instructions, the types of the slots, how many values the instructions have behind those of
+/// theirs. Contracts see the instructions, the types of the slots, how many values the instructions have behind those
+/// of
 /// the slots, the parts of the quick code, and its window.
 pub struct QuickProgram {
     instrs: Arc<Vec<Instr>>,
@@ -56,7 +57,8 @@ impl Model for QuickProgram {
 }
 
 impl QuickProgram {
-    /// The program of these parts beside these instructions. Where the machine has an instruction that does what two do, it
+    /// The program of these parts beside these instructions. Where the machine has an instruction that does what two
+    /// do, it
     /// takes their place.
     ///
     /// The only error is out of memory.

@@ -85,7 +85,8 @@ impl QuickProgram {
         }
     }
 
-    /// Runs the quick code over the values of its slots at a moment, in milliseconds, with a budget of ticks. None where
+    /// Runs the quick code over the values of its slots at a moment, in milliseconds, with a budget of ticks. None
+    /// where
     /// the machine cannot tell how the run ends. It goes over the slots of the window alone.
     ///
     /// The only error is out of memory.

@@ -4,5 +4,6 @@ use Rattle.quick_programs.proofs.laws.quick_code_answers_as_its_instructions.Goa
 
 pub returns : goal.returns
 returns c library base calls depth extra body kinds p window stands room fits =
-    answers c.quick_code_does_what_its_program_does.ensures c.marked_code_does_what_its_program_does.ensures library base
+    answers c.quick_code_does_what_its_program_does.ensures c.marked_code_does_what_its_program_does.ensures library
+    base
     calls depth extra body kinds p window stands room fits
