@@ -4,3 +4,5 @@ mod Beginning
 mod Answering
 mod Leaving
 mod Words
+mod Alike
+mod Comparing

@@ -92,12 +92,13 @@ fn quick_of(
     quick_compiler::compile(alloc, library, kinds, 0, CALL_DEPTH, body)
 }
 
-/// The code of a linked body over slots of these types.
+/// The code of a linked body over slots of these types. It may share quick code with the code before, if there is one.
 fn code_of(
     alloc: Global,
     library: &SlotLibrary,
     kinds: &Arc<Vec<Kind>>,
     body: &[SlotStmt],
+    before: Option<&Code>,
 ) -> Result<Code, CompileError>
     ensures code { IfOk result (λ code. (whole : tree.SlotLibrary) → IsKeptOf (slot_library_view library.now) whole
         → IsCodeOver whole kinds.now.value.items (slot_stmts_view body.now) (code_view code)) }
@@ -114,7 +115,7 @@ fn code_of(
     let compiled = compile(alloc, library, 0, size, body)?;
     let extra = compiled.memory - size;
     let quick = quick_of(alloc, library, kinds, body, &compiled)?;
-    Ok(Code::new(alloc, compiled.code, Arc::clone(kinds)?, extra, quick)?)
+    Ok(Code::new(alloc, compiled.code, Arc::clone(kinds)?, extra, quick, before)?)
 }
 
 /// The codes of linked bodies, in order.
@@ -139,7 +140,7 @@ fn codes_of_programs(
 {
     let mut codes = Vec::new(alloc);
     for body in programs {
-        let code = code_of(alloc, library, kinds, body)?;
+        let code = code_of(alloc, library, kinds, body, codes.last())?;
         codes.push(code)?;
     }
     Ok(codes)
