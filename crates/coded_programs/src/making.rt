@@ -44,8 +44,8 @@ fn quick_beside(
 
 impl Code {
     /// The code of these instructions over slots of these types, with so many values behind them, and with quick code of
-    /// the same program, where there is some. Instances of one program come one after another, and share quick code that
-    /// is the same: this is the code before, if there is one.
+    /// the same program, where there is some. Instances of one program come one after another, and share quick code
+    /// that is the same: this is the code before, if there is one.
     ///
     /// The only error is out of memory.
     pub fn new(

@@ -9,7 +9,8 @@ module _ {A : Type 0} where
       → slice_get ys k ≡ Some y → x ≡ y → drop (suc k) xs ≡ drop (suc k) ys → drop k xs ≡ drop k ys
   further [] ys k x y lt less a b same rest = absurd (omega arith)
   further (u ∷ xs) [] k x y lt less a b same rest = absurd (omega arith)
-  further (u ∷ xs) (v ∷ ys) zero x y lt less a b same rest = ap₂ (λ z zs. z ∷ zs) (some_is a ∙ same ∙ sym (some_is b)) rest
+  further (u ∷ xs) (v ∷ ys) zero x y lt less a b same rest =
+      ap₂ (λ z zs. z ∷ zs) (some_is a ∙ same ∙ sym (some_is b)) rest
   further (u ∷ xs) (v ∷ ys) (suc k) x y lt less a b same rest =
       further xs ys k x y (omega arith) (omega arith) a b same rest
 
