@@ -13,30 +13,39 @@ use st_words::Kind;
 use std::alloc::{AllocError, Global};
 use std::sync::Arc;
 
-/// Quick code beside these instructions.
+/// Quick code beside these instructions. Where it is the same as that of the code before, they share it.
 fn quick_beside(
     alloc: Global,
     instrs: &Arc<Vec<Instr>>,
     kinds: &Arc<Vec<Kind>>,
     extra: usize,
     placed: PlacedParts,
+    before: Option<&Code>,
 ) -> Result<QuickProgram, AllocError>
     requires { IsAnswering instrs.now.value.items kinds.now.value.items extra placed.parts placed.window.items }
     ensures { IfOk result (λ q. (q.instrs ≡ instrs.now.value.items) × (q.kinds ≡ kinds.now.value.items)
         × (q.extra ≡ extra)) }
 {
-    Ok(QuickProgram::new(
+    let program = QuickProgram::new(
         alloc,
         Arc::clone(instrs)?,
         Arc::clone(kinds)?,
         extra,
         placed,
-    )?)
+    )?;
+    match before {
+        Some(code) => match &code.quick {
+            Some(other) => program.sharing(other),
+            None => Ok(program),
+        },
+        None => Ok(program),
+    }
 }
 
 impl Code {
     /// The code of these instructions over slots of these types, with so many values behind them, and with quick code of
-    /// the same program, where there is some.
+    /// the same program, where there is some. Instances of one program come one after another, and share quick code
+    /// that is the same: this is the code before, if there is one.
     ///
     /// The only error is out of memory.
     pub fn new(
@@ -45,6 +54,7 @@ impl Code {
         kinds: Arc<Vec<Kind>>,
         extra: usize,
         quick: Option<PlacedParts>,
+        before: Option<&Code>,
     ) -> Result<Code, AllocError>
         requires short { length instrs.items ≤ MAX_INSTRUCTIONS }
         requires numbered { length kinds.value.items + extra ≤ MAX_MEMORY }
@@ -57,7 +67,7 @@ impl Code {
     {
         let instrs = Arc::new(alloc, instrs)?;
         let quick = match quick {
-            Some(placed) => Some(quick_beside(alloc, &instrs, &kinds, extra, placed)?),
+            Some(placed) => Some(quick_beside(alloc, &instrs, &kinds, extra, placed, before)?),
             None => None,
         };
         Ok(Code {

@@ -17,11 +17,10 @@ use crate::expressions::{deeper, temporary};
 use crate::members::{Taken, check_copied, check_given, check_step, put_taken};
 use crate::reading::check_read;
 use crate::refusal::Refusal;
-use crate::same::is_same;
 use crate::scope::{Scope, Values, slot_of};
 use crate::statements::check_stmts;
 use code_drafts::block_at;
-use quick_code::QuickInstr;
+use quick_code::{QuickInstr, is_same};
 use slot_bodies::{Anchor, BlockCode, SlotArgument, SlotExpr, SlotLibrary};
 
 /// Finds the code of a call of a block, but for its tick.

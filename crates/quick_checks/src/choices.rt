@@ -10,8 +10,7 @@ ghost use Rattle.quick_checks.specs.Choices.{chosen};
 
 use crate::draft::QuickDraft;
 use crate::refusal::Refusal;
-use crate::same::is_way;
-use quick_code::Way;
+use quick_code::{Way, is_way};
 use slot_bodies::SlotCaseArm;
 use st_trees::Label;
 use st_types::number_of;

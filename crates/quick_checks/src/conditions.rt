@@ -16,8 +16,8 @@ use crate::expressions::{deeper, temporary};
 use crate::instructions::{branch_for, branch_for_by, truth_branch};
 use crate::reading::{check_binary, check_read};
 use crate::refusal::Refusal;
-use crate::same::is_same;
 use crate::scope::{Scope, is_kind};
+use quick_code::is_same;
 use slot_bodies::{Operands, SlotExpr, SlotLibrary};
 use st_words::{BinaryOperator, Kind, UnaryOperator};
 

@@ -23,10 +23,9 @@ use crate::expressions::{deeper, temporary};
 use crate::ranges::expect_within;
 use crate::reading::check_read;
 use crate::refusal::Refusal;
-use crate::same::is_same;
 use crate::scope::{Scope, Seat, Values, is_kind, seat_at, target_of};
 use crate::statements::check_stmts;
-use quick_code::QuickInstr;
+use quick_code::{QuickInstr, is_same};
 use slot_bodies::{Anchor, SlotExpr, SlotLibrary, SlotStmt};
 use st_words::Kind;
 

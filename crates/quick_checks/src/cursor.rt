@@ -11,9 +11,8 @@ ghost use Rattle.quick_checks.specs.Checking.{exits_of, frame_of, landing_of, po
 
 use crate::draft::{Exits, Landing, QuickDraft};
 use crate::refusal::Refusal;
-use crate::same::is_same;
 use crate::scope::Values;
-use quick_code::{QuickInstr, Way};
+use quick_code::{QuickInstr, Way, is_same};
 use quick_trees::Noting;
 use std::alloc::Global;
 

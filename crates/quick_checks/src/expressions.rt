@@ -105,7 +105,8 @@ fn is_element(
         (array.slot + index * array.stride) ≡ Some array.kind }
     ensures has { IsTrue result → HasOwnWord draft.now.window.items (site_of values.now)
         (array.slot + index * array.stride) (array.word + index * array.stride) }
-    ensures exact { IsTrue result → IsExact (site_of values.now) at.now.noted.items (array.word + index * array.stride) }
+    ensures exact { IsTrue result → IsExact (site_of values.now) at.now.noted.items
+        (array.word + index * array.stride) }
 {
     let (Some(slot), Some(word)) = (
         element_at(array.slot, index, array.stride),

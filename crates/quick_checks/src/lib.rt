@@ -23,7 +23,6 @@ mod ranges;
 mod reached;
 mod reading;
 mod refusal;
-mod same;
 mod scope;
 mod signs;
 mod statements;

@@ -13,9 +13,8 @@ use crate::constants::Reading;
 use crate::cursor::{Cursor, expect, instr_at, step};
 use crate::draft::QuickDraft;
 use crate::refusal::Refusal;
-use crate::same::is_same;
 use crate::scope::{Seat, is_kind, narrow};
-use quick_code::QuickInstr;
+use quick_code::{QuickInstr, is_same};
 use slot_bodies::SlotFunction;
 use st_words::{Kind, Value};
 

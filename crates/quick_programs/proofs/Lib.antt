@@ -5,3 +5,5 @@ mod Answering
 mod Leaving
 mod Words
 mod Fusing
+mod Alike
+mod Comparing

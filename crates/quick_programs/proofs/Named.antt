@@ -1,7 +1,6 @@
 -- The values of the slots of a window, one more at a time.
 use Rattle.std.proofs.Common.{◌≡◌, ◌+◌, ◌++◌, ℕ, zero, suc, List, [], ◌∷◌, length, take, Some, refl, ap, sym, subst}
-use Rattle.std.proofs.Common.{◌∙◌}
-use Rattle.std.proofs.Common.{add-one, arith}
+use Rattle.std.proofs.Common.{add-one, arith, ◌∙◌}
 use Rattle.std.specs.Prelude.{slice_get}
 use Rattle.st_words.specs.Values.{Datum}
 use Rattle.quick_programs.specs.Quick.{AreIn}

@@ -68,8 +68,7 @@ run_of instrs extra now vs budget =
     (tracked (vs ++ replicate extra (datum_of_truth false)) (replicate (length vs + extra) unmarked)) budget
 
 -- The run of instructions over values of slots ended well, with as many ticks left, and with the values and the marks
--- of
--- slots that words and notes tell; slots that have no word are as they were.
+-- of slots that words and notes tell; slots that have no word are as they were.
 pub record HasEnded (f : Frame) (vs : List Datum) (e : Left) (r : Ending Tracked) : Type 0 where
   pub memory : Tracked
   pub is : r ≡ finished memory e.ticks

@@ -10,6 +10,7 @@ mod memory;
 mod parts;
 mod program;
 mod running;
+mod sharing;
 
 pub use laws::quick_code_answers_as_its_instructions;
 pub use parts::{PlacedParts, QuickParts};

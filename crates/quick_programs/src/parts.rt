@@ -6,8 +6,7 @@ use quick_code::QuickCode;
 use st_words::Value;
 
 /// Quick code, the constants that stand behind the words of slots, and how many words a run has, and notes. Instances
-/// of
-/// a program may share it.
+/// of a program may share it.
 pub struct QuickParts {
     pub code: QuickCode,
     pub constants: Vec<Value>,

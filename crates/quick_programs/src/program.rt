@@ -3,6 +3,7 @@
 ghost use Rattle.std.specs.Prelude.{◌≡◌, IfOk, length};
 ghost use Rattle.quick_trees.specs.Windows.{IsWindow};
 ghost use Rattle.quick_programs.specs.Quick.{IsAnswering};
+ghost use Rattle.quick_programs.specs.Sharing.{AreAlike};
 
 use crate::parts::{PlacedParts, QuickParts};
 use machine_code::Instr;
@@ -83,6 +84,30 @@ impl QuickProgram {
             parts: Arc::new(alloc, parts)?,
             window,
         })
+    }
+
+    /// The same program, with parts that are alike.
+    pub(crate) fn with_parts(self, parts: Arc<QuickParts>) -> QuickProgram
+        requires { AreAlike self.parts parts.value }
+        ensures instrs { result.instrs ≡ self.instrs }
+        ensures kinds { result.kinds ≡ self.kinds }
+        ensures extra { result.extra ≡ self.extra }
+        ensures window { result.window ≡ self.window }
+    {
+        let Self {
+            instrs,
+            kinds,
+            extra,
+            parts: _,
+            window,
+        } = self;
+        QuickProgram {
+            instrs,
+            kinds,
+            extra,
+            parts,
+            window,
+        }
     }
 
     /// The slots of its window.

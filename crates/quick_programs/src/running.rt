@@ -71,8 +71,8 @@ impl QuickProgram {
     ) -> Result<Option<Ended>, AllocError>
         requires { kinds_of slots.now ≡ self.now.kinds }
         ensures begun { IfOk result (λ o. IfSome o (λ r. AreIn self.now.window slots.now r.begun.items)) }
-        ensures ended { IfOk result (λ o. IfSome o (λ r. HasEnded (frame_of self.now.parts self.now.window self.now.kinds
-            now) slots.now (left (memory r.left.words.items r.left.notes.items) r.left.ticks)
+        ensures ended { IfOk result (λ o. IfSome o (λ r. HasEnded (frame_of self.now.parts self.now.window
+            self.now.kinds now) slots.now (left (memory r.left.words.items r.left.notes.items) r.left.ticks)
             (run_of self.now.instrs self.now.extra now slots.now budget))) }
     {
         let parts = &*self.parts;

@@ -11,6 +11,8 @@ use Rattle.code_drafts.proofs.Filled.{filled_body, filled_function}
 use Rattle.quick_code.specs.Soundness.{IsSound}
 use Rattle.quick_trees.specs.Programs.{IsProgram}
 use Rattle.quick_trees.specs.QuickMemory.{first_temporary}
+use Rattle.quick_trees.specs.Windows.{IsWindow}
+use Rattle.quick_programs.specs.declared.parts.PlacedParts.{PlacedParts}
 use Rattle.quick_programs.specs.declared.parts.QuickParts.{QuickParts}
 use Rattle.quick_programs.specs.Quick.{AnswersFor, IsAnswering, frame_of}
 
@@ -18,10 +20,10 @@ use Rattle.quick_programs.specs.Quick.{AnswersFor, IsAnswering, frame_of}
 abbrev pub AnswersLaw : Type 0
 AnswersLaw =
     (library : SlotLibrary) (base calls depth extra : ℕ) (body : SlotStmts) (kinds : List Kind) (p : QuickParts)
-    → ((now : ℕ) → IsProgram (frame_of p kinds now) library base calls body)
-    → first_temporary (frame_of p kinds 0) ≤ p.words
+    (window : List ℕ) → ((now : ℕ) → IsProgram (frame_of p window kinds now) library base calls body)
+    → first_temporary (frame_of p window kinds 0) ≤ p.words
     → ProgramFits (length kinds + extra) library base (length kinds) body depth
-    → AnswersFor (program_code library base (length kinds) body depth) kinds extra p
+    → AnswersFor (program_code library base (length kinds) body depth) kinds extra p window
 
 module _ (law : AnswersLaw) (kept : KeptLibrary) (kinds : List Kind) (body : SlotStmts) (code : List Instr)
     (memory : ℕ)
@@ -31,30 +33,43 @@ module _ (law : AnswersLaw) (kept : KeptLibrary) (kinds : List Kind) (body : Slo
   kept_of : IsKeptOf kept (filled kept)
   kept_of = record { functions = filled_function kept; blocks = filled_body kept }
 
-  abbrev Stands : QuickParts → Type 0
-  Stands p = (whole : SlotLibrary) → IsKeptOf kept whole → (now : ℕ) → IsProgram (frame_of p kinds now) whole 0 64 body
+  abbrev Stands : PlacedParts → Type 0
+  Stands q = (whole : SlotLibrary) → IsKeptOf kept whole → (now : ℕ)
+      → IsProgram (frame_of q.parts q.window.items kinds now) whole 0 64 body
 
-  answers : (p : QuickParts) → Stands p → IsSound p.code p.words p.words
-      → length kinds + length p.constants.items ≤ p.words → IsAnswering code kinds (memory - length kinds) p
-  answers p stands sound room =
+  abbrev IsWhole : PlacedParts → Type 0
+  IsWhole q = IsSound q.parts.code q.parts.words q.parts.words
+
+  abbrev HasWindow : PlacedParts → Type 0
+  HasWindow q = IsWindow (length kinds) q.window.items
+
+  abbrev HasRoom : PlacedParts → Type 0
+  HasRoom q = length q.window.items + length q.parts.constants.items ≤ q.parts.words
+
+  abbrev Answers : PlacedParts → Type 0
+  Answers q = IsAnswering code kinds (memory - length kinds) q.parts q.window.items
+
+  answers : (q : PlacedParts) → Stands q → IsWhole q → HasWindow q → HasRoom q → Answers q
+  answers q stands sound slots room =
       let whole = filled kept in
       let all : memory ≡ length kinds + (memory - length kinds) = omega (arith, le) in
       let fits_so = subst (λ n. ProgramFits n whole 0 (length kinds) body 64) all (fits whole kept_of) in
-      let answering = law whole 0 64 64 (memory - length kinds) body kinds p (stands whole kept_of) room fits_so in
+      let answering = law whole 0 64 64 (memory - length kinds) body kinds q.parts q.window.items (stands whole kept_of)
+      room fits_so in
       record {
         sound = sound;
-        answers = subst (λ is. AnswersFor is kinds (memory - length kinds) p) (sym (code_is whole kept_of)) answering;
+        slots = slots;
+        answers = subst (λ is. AnswersFor is kinds (memory - length kinds) q.parts q.window.items)
+            (sym (code_is whole kept_of)) answering;
       }
 
-  if_answers : (o : Option QuickParts) → IfSome o Stands → IfSome o (λ p. IsSound p.code p.words p.words)
-      → IfSome o (λ p. length kinds + length p.constants.items ≤ p.words)
-      → IfSome o (IsAnswering code kinds (memory - length kinds))
-  if_answers (Some p) stands sound room = answers p stands sound room
-  if_answers None stands sound room = stands
+  if_answers : (o : Option PlacedParts) → IfSome o Stands → IfSome o IsWhole → IfSome o HasWindow → IfSome o HasRoom
+      → IfSome o Answers
+  if_answers (Some q) stands sound slots room = answers q stands sound slots room
+  if_answers None stands sound slots room = stands
 
-  pub all_answer : {E : Type 0} (r : Result (Option QuickParts) E) → IfOk r (λ o. IfSome o Stands)
-      → IfOk r (λ o. IfSome o (λ p. IsSound p.code p.words p.words))
-      → IfOk r (λ o. IfSome o (λ p. length kinds + length p.constants.items ≤ p.words))
-      → IfOk r (λ o. IfSome o (IsAnswering code kinds (memory - length kinds)))
-  all_answer (Ok o) stands sound room = if_answers o stands sound room
-  all_answer (Err e) stands sound room = stands
+  pub all_answer : {E : Type 0} (r : Result (Option PlacedParts) E) → IfOk r (λ o. IfSome o Stands)
+      → IfOk r (λ o. IfSome o IsWhole) → IfOk r (λ o. IfSome o HasWindow) → IfOk r (λ o. IfSome o HasRoom)
+      → IfOk r (λ o. IfSome o Answers)
+  all_answer (Ok o) stands sound slots room = if_answers o stands sound slots room
+  all_answer (Err e) stands sound slots room = stands

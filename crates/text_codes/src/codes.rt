@@ -31,7 +31,7 @@ use crate::slot_kinds::kinds_of;
 use coded_programs::Code;
 use layout::Layout;
 use machine_code::MAX_INSTRUCTIONS;
-use quick_programs::{QuickParts, quick_code_answers_as_its_instructions};
+use quick_programs::{PlacedParts, quick_code_answers_as_its_instructions};
 use slot_bodies::{SlotLibrary, SlotStmt};
 use st_compile::{CALL_DEPTH, CompileError, Compiled, compile};
 use st_link::LinkError;
@@ -79,25 +79,26 @@ fn quick_of(
     kinds: &[Kind],
     body: &[SlotStmt],
     compiled: &Compiled,
-) -> Result<Option<QuickParts>, AllocError>
+) -> Result<Option<PlacedParts>, AllocError>
     requires code { (whole : tree.SlotLibrary) → IsKeptOf (slot_library_view library.now) whole
         → compiled.now.code.items ≡ program_code whole 0 (length kinds.now) (slot_stmts_view body.now) 64 }
     requires fits { (whole : tree.SlotLibrary) → IsKeptOf (slot_library_view library.now) whole
         → ProgramFits compiled.now.memory whole 0 (length kinds.now) (slot_stmts_view body.now) 64 }
     requires room { length kinds.now ≤ compiled.now.memory }
-    ensures { IfOk result (λ o. IfSome o (IsAnswering compiled.now.code.items kinds.now
-        (compiled.now.memory - length kinds.now))) }
+    ensures { IfOk result (λ o. IfSome o (λ q. IsAnswering compiled.now.code.items kinds.now
+        (compiled.now.memory - length kinds.now) q.parts q.window.items)) }
 {
     quick_code_answers_as_its_instructions();
     quick_compiler::compile(alloc, library, kinds, 0, CALL_DEPTH, body)
 }
 
-/// The code of a linked body over slots of these types.
+/// The code of a linked body over slots of these types. It may share quick code with the code before, if there is one.
 fn code_of(
     alloc: Global,
     library: &SlotLibrary,
     kinds: &Arc<Vec<Kind>>,
     body: &[SlotStmt],
+    before: Option<&Code>,
 ) -> Result<Code, CompileError>
     ensures code { IfOk result (λ code. (whole : tree.SlotLibrary) → IsKeptOf (slot_library_view library.now) whole
         → IsCodeOver whole kinds.now.value.items (slot_stmts_view body.now) (code_view code)) }
@@ -114,7 +115,7 @@ fn code_of(
     let compiled = compile(alloc, library, 0, size, body)?;
     let extra = compiled.memory - size;
     let quick = quick_of(alloc, library, kinds, body, &compiled)?;
-    Ok(Code::new(alloc, compiled.code, Arc::clone(kinds)?, extra, quick)?)
+    Ok(Code::new(alloc, compiled.code, Arc::clone(kinds)?, extra, quick, before)?)
 }
 
 /// The codes of linked bodies, in order.
@@ -139,7 +140,7 @@ fn codes_of_programs(
 {
     let mut codes = Vec::new(alloc);
     for body in programs {
-        let code = code_of(alloc, library, kinds, body)?;
+        let code = code_of(alloc, library, kinds, body, codes.last())?;
         codes.push(code)?;
     }
     Ok(codes)

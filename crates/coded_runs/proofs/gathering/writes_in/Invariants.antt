@@ -6,4 +6,5 @@ use Rattle.coded_runs.proofs.gathering.writes_in.Given as goal
 
 abbrev pub invariant-loop-index : goal.invariant-loop-index
 invariant-loop-index l =
-    map cut l.cells.items ≡ picked_in (take l.index l.window) (are_assigned (take l.index l.marks)) (take l.index l.values)
+    map cut l.cells.items
+    ≡ picked_in (take l.index l.window) (are_assigned (take l.index l.marks)) (take l.index l.values)

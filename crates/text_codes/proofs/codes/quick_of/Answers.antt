@@ -9,4 +9,4 @@ returns c =
     all_answer c.quick_code_answers_as_its_instructions.ensures (slot_library_view c.args.library.now) c.args.kinds.now
     (slot_stmts_view c.args.body.now) c.args.compiled.now.code.items c.args.compiled.now.memory c.requires.code
     c.requires.fits c.requires.room c.compile.result c.compile.ensures.stands c.compile.ensures.sound
-    c.compile.ensures.room
+    c.compile.ensures.window c.compile.ensures.room
