@@ -115,7 +115,14 @@ fn code_of(
     let compiled = compile(alloc, library, 0, size, body)?;
     let extra = compiled.memory - size;
     let quick = quick_of(alloc, library, kinds, body, &compiled)?;
-    Ok(Code::new(alloc, compiled.code, Arc::clone(kinds)?, extra, quick, before)?)
+    Ok(Code::new(
+        alloc,
+        compiled.code,
+        Arc::clone(kinds)?,
+        extra,
+        quick,
+        before,
+    )?)
 }
 
 /// The codes of linked bodies, in order.
