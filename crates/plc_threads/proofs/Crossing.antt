@@ -1488,7 +1488,7 @@ pub standard_block-send : IsSend StandardBlock.the_row
 standard_block-send = variants_send StandardBlock.enum (search plain depth 40)
 
 pub quick_instr-send : IsSend QuickInstr.the_row
-quick_instr-send = variants_send QuickInstr.enum (tt, ((way-send, tt), ((search plain depth 20, (search plain depth 20, (search plain depth 20, (search plain depth 20, tt)))), ((search plain depth 20, (search plain depth 20, tt)), ((search plain depth 20, (search plain depth 20, tt)), ((search plain depth 20, (search plain depth 20, (search plain depth 20, (search plain depth 20, tt)))), ((search plain depth 20, (search plain depth 20, (search plain depth 20, (search plain depth 20, tt)))), ((search plain depth 20, tt), ((search plain depth 20, (search plain depth 20, (search plain depth 20, tt))), ((search plain depth 20, (search plain depth 20, (search plain depth 20, tt))), ((search plain depth 20, (search plain depth 20, (search plain depth 20, tt))), ((search plain depth 20, (search plain depth 20, (search plain depth 20, tt))), ((search plain depth 20, (search plain depth 20, (search plain depth 20, tt))), ((search plain depth 20, (search plain depth 20, (search plain depth 20, tt))), ((search plain depth 20, (search plain depth 20, (search plain depth 20, tt))), ((search plain depth 20, (search plain depth 20, (search plain depth 20, tt))), ((search plain depth 20, (search plain depth 20, (search plain depth 20, tt))), ((search plain depth 20, (search plain depth 20, (search plain depth 20, tt))), ((search plain depth 20, (search plain depth 20, (search plain depth 20, tt))), ((search plain depth 20, (search plain depth 20, (search plain depth 20, tt))), ((search plain depth 20, (search plain depth 20, (search plain depth 20, tt))), ((search plain depth 20, (search plain depth 20, (search plain depth 20, tt))), ((search plain depth 20, (search plain depth 20, (search plain depth 20, tt))), ((search plain depth 20, (search plain depth 20, (search plain depth 20, tt))), ((search plain depth 20, (search plain depth 20, (search plain depth 20, tt))), ((search plain depth 20, (search plain depth 20, (search plain depth 20, tt))), ((search plain depth 20, (search plain depth 20, (search plain depth 20, tt))), ((search plain depth 20, (search plain depth 20, (search plain depth 20, tt))), ((search plain depth 20, (search plain depth 20, (search plain depth 20, tt))), ((search plain depth 20, (search plain depth 20, (search plain depth 20, tt))), ((search plain depth 20, (search plain depth 20, (search plain depth 20, tt))), ((search plain depth 20, (search plain depth 20, (search plain depth 20, tt))), ((search plain depth 20, (search plain depth 20, (search plain depth 20, tt))), ((search plain depth 20, (search plain depth 20, (search plain depth 20, tt))), ((search plain depth 20, (search plain depth 20, (search plain depth 20, tt))), ((search plain depth 20, (search plain depth 20, (search plain depth 20, tt))), ((search plain depth 20, (search plain depth 20, (search plain depth 20, tt))), ((search plain depth 20, (search plain depth 20, (way-send, (search plain depth 20, tt)))), ((search plain depth 20, (search plain depth 20, (way-send, (search plain depth 20, tt)))), ((search plain depth 20, (search plain depth 20, (way-send, (search plain depth 20, tt)))), ((search plain depth 20, (search plain depth 20, (way-send, (search plain depth 20, tt)))), ((search plain depth 20, (search plain depth 20, (way-send, (search plain depth 20, tt)))), ((search plain depth 20, (search plain depth 20, (way-send, (search plain depth 20, tt)))), ((search plain depth 20, (search plain depth 20, (way-send, (search plain depth 20, tt)))), ((search plain depth 20, (search plain depth 20, (way-send, (search plain depth 20, tt)))), ((search plain depth 20, (search plain depth 20, (way-send, (search plain depth 20, tt)))), ((search plain depth 20, (search plain depth 20, (way-send, (search plain depth 20, tt)))), ((search plain depth 20, (search plain depth 20, (search plain depth 20, (search plain depth 20, (search plain depth 20, tt))))), ((search plain depth 20, (search plain depth 20, (search plain depth 20, (search plain depth 20, (search plain depth 20, (search plain depth 20, tt)))))), ((search plain depth 20, (search plain depth 20, (search plain depth 20, (search plain depth 20, (search plain depth 20, tt))))), ((search plain depth 20, (search plain depth 20, (search plain depth 20, (search plain depth 20, (search plain depth 20, (search plain depth 20, tt)))))), ((search plain depth 20, (search plain depth 20, (search plain depth 20, (search plain depth 20, (search plain depth 20, tt))))), ((search plain depth 20, (search plain depth 20, (search plain depth 20, (search plain depth 20, (search plain depth 20, (search plain depth 20, tt)))))), ((search plain depth 20, (search plain depth 20, (search plain depth 20, (search plain depth 20, (search plain depth 20, (search plain depth 20, (search plain depth 20, tt))))))), ((search plain depth 20, (search plain depth 20, (search plain depth 20, (search plain depth 20, (search plain depth 20, (search plain depth 20, (search plain depth 20, tt))))))), ((standard_block-send, (search plain depth 20, tt)), ((search plain depth 20, (search plain depth 20, (search plain depth 20, (way-send, (search plain depth 20, tt))))), ((search plain depth 20, (search plain depth 20, (search plain depth 20, (way-send, (search plain depth 20, tt))))), ((search plain depth 20, (search plain depth 20, (search plain depth 20, (way-send, (search plain depth 20, tt))))), ((search plain depth 20, (search plain depth 20, (search plain depth 20, (way-send, (search plain depth 20, tt))))), ((search plain depth 20, tt), ((search plain depth 20, tt), tt))))))))))))))))))))))))))))))))))))))))))))))))))))))))))))))
+quick_instr-send = variants_send QuickInstr.enum (tt, ((way-send, tt), ((search plain depth 20, (search plain depth 20, (search plain depth 20, (search plain depth 20, tt)))), ((search plain depth 20, (search plain depth 20, tt)), ((search plain depth 20, (search plain depth 20, tt)), ((search plain depth 20, (search plain depth 20, (search plain depth 20, (search plain depth 20, tt)))), ((search plain depth 20, (search plain depth 20, (search plain depth 20, (search plain depth 20, tt)))), ((search plain depth 20, tt), ((search plain depth 20, (search plain depth 20, (search plain depth 20, tt))), ((search plain depth 20, (search plain depth 20, (search plain depth 20, tt))), ((search plain depth 20, (search plain depth 20, (search plain depth 20, tt))), ((search plain depth 20, (search plain depth 20, (search plain depth 20, tt))), ((search plain depth 20, (search plain depth 20, (search plain depth 20, tt))), ((search plain depth 20, (search plain depth 20, (search plain depth 20, tt))), ((search plain depth 20, (search plain depth 20, (search plain depth 20, tt))), ((search plain depth 20, (search plain depth 20, (search plain depth 20, tt))), ((search plain depth 20, (search plain depth 20, (search plain depth 20, tt))), ((search plain depth 20, (search plain depth 20, (search plain depth 20, tt))), ((search plain depth 20, (search plain depth 20, (search plain depth 20, tt))), ((search plain depth 20, (search plain depth 20, (search plain depth 20, tt))), ((search plain depth 20, (search plain depth 20, (search plain depth 20, tt))), ((search plain depth 20, (search plain depth 20, (search plain depth 20, tt))), ((search plain depth 20, (search plain depth 20, (search plain depth 20, tt))), ((search plain depth 20, (search plain depth 20, (search plain depth 20, tt))), ((search plain depth 20, (search plain depth 20, (search plain depth 20, tt))), ((search plain depth 20, (search plain depth 20, (search plain depth 20, tt))), ((search plain depth 20, (search plain depth 20, (search plain depth 20, tt))), ((search plain depth 20, (search plain depth 20, (search plain depth 20, tt))), ((search plain depth 20, (search plain depth 20, (search plain depth 20, tt))), ((search plain depth 20, (search plain depth 20, (search plain depth 20, tt))), ((search plain depth 20, (search plain depth 20, (search plain depth 20, tt))), ((search plain depth 20, (search plain depth 20, (search plain depth 20, tt))), ((search plain depth 20, (search plain depth 20, (search plain depth 20, tt))), ((search plain depth 20, (search plain depth 20, (search plain depth 20, tt))), ((search plain depth 20, (search plain depth 20, (search plain depth 20, tt))), ((search plain depth 20, (search plain depth 20, (search plain depth 20, tt))), ((search plain depth 20, (search plain depth 20, (search plain depth 20, tt))), ((search plain depth 20, (search plain depth 20, (way-send, (search plain depth 20, tt)))), ((search plain depth 20, (search plain depth 20, (way-send, (search plain depth 20, tt)))), ((search plain depth 20, (search plain depth 20, (way-send, (search plain depth 20, tt)))), ((search plain depth 20, (search plain depth 20, (way-send, (search plain depth 20, tt)))), ((search plain depth 20, (search plain depth 20, (way-send, (search plain depth 20, tt)))), ((search plain depth 20, (search plain depth 20, (way-send, (search plain depth 20, tt)))), ((search plain depth 20, (search plain depth 20, (way-send, (search plain depth 20, tt)))), ((search plain depth 20, (search plain depth 20, (way-send, (search plain depth 20, tt)))), ((search plain depth 20, (search plain depth 20, (way-send, (search plain depth 20, tt)))), ((search plain depth 20, (search plain depth 20, (way-send, (search plain depth 20, tt)))), ((search plain depth 20, (search plain depth 20, (search plain depth 20, (search plain depth 20, (search plain depth 20, tt))))), ((search plain depth 20, (search plain depth 20, (search plain depth 20, (search plain depth 20, (search plain depth 20, (search plain depth 20, tt)))))), ((search plain depth 20, (search plain depth 20, (search plain depth 20, (search plain depth 20, (search plain depth 20, tt))))), ((search plain depth 20, (search plain depth 20, (search plain depth 20, (search plain depth 20, (search plain depth 20, (search plain depth 20, tt)))))), ((search plain depth 20, (search plain depth 20, (search plain depth 20, (search plain depth 20, (search plain depth 20, tt))))), ((search plain depth 20, (search plain depth 20, (search plain depth 20, (search plain depth 20, (search plain depth 20, (search plain depth 20, tt)))))), ((search plain depth 20, (search plain depth 20, (search plain depth 20, (search plain depth 20, (search plain depth 20, (search plain depth 20, (search plain depth 20, tt))))))), ((search plain depth 20, (search plain depth 20, (search plain depth 20, (search plain depth 20, (search plain depth 20, (search plain depth 20, (search plain depth 20, tt))))))), ((standard_block-send, (search plain depth 20, tt)), ((search plain depth 20, (search plain depth 20, (search plain depth 20, (way-send, (search plain depth 20, tt))))), ((search plain depth 20, (search plain depth 20, (search plain depth 20, (way-send, (search plain depth 20, tt))))), ((search plain depth 20, (search plain depth 20, (search plain depth 20, (way-send, (search plain depth 20, tt))))), ((search plain depth 20, (search plain depth 20, (search plain depth 20, (way-send, (search plain depth 20, tt))))), ((search plain depth 20, tt), ((search plain depth 20, tt), ((search plain depth 20, (search plain depth 20, (search plain depth 20, (search plain depth 20, tt)))), ((search plain depth 20, (search plain depth 20, (search plain depth 20, (search plain depth 20, tt)))), ((search plain depth 20, (search plain depth 20, (search plain depth 20, (search plain depth 20, (search plain depth 20, tt))))), ((search plain depth 20, (search plain depth 20, (search plain depth 20, (search plain depth 20, (search plain depth 20, (search plain depth 20, tt)))))), ((search plain depth 20, (search plain depth 20, (search plain depth 20, (search plain depth 20, (search plain depth 20, tt))))), ((search plain depth 20, (search plain depth 20, (search plain depth 20, (search plain depth 20, (search plain depth 20, tt))))), ((search plain depth 20, (search plain depth 20, (search plain depth 20, (search plain depth 20, (search plain depth 20, tt))))), ((search plain depth 20, (search plain depth 20, (search plain depth 20, (search plain depth 20, (search plain depth 20, (search plain depth 20, tt)))))), ((search plain depth 20, (search plain depth 20, (search plain depth 20, (search plain depth 20, (search plain depth 20, (search plain depth 20, tt)))))), ((search plain depth 20, (search plain depth 20, (search plain depth 20, (search plain depth 20, (search plain depth 20, (search plain depth 20, tt)))))), ((search plain depth 20, (search plain depth 20, (search plain depth 20, (search plain depth 20, (search plain depth 20, (search plain depth 20, tt)))))), ((search plain depth 20, (search plain depth 20, (search plain depth 20, (search plain depth 20, (way-send, (search plain depth 20, tt)))))), ((search plain depth 20, (search plain depth 20, (search plain depth 20, (way-send, (search plain depth 20, (search plain depth 20, tt)))))), ((search plain depth 20, (search plain depth 20, (search plain depth 20, (search plain depth 20, (way-send, (search plain depth 20, tt)))))), ((search plain depth 20, (search plain depth 20, (search plain depth 20, (search plain depth 20, (search plain depth 20, tt))))), ((search plain depth 20, (search plain depth 20, (search plain depth 20, (search plain depth 20, (search plain depth 20, tt))))), ((search plain depth 20, (search plain depth 20, (search plain depth 20, (search plain depth 20, (way-send, tt))))), ((search plain depth 20, (search plain depth 20, (search plain depth 20, (search plain depth 20, (search plain depth 20, (search plain depth 20, (way-send, (search plain depth 20, tt)))))))), ((search plain depth 20, (search plain depth 20, (search plain depth 20, (search plain depth 20, tt)))), ((search plain depth 20, (search plain depth 20, tt)), ((search plain depth 20, (search plain depth 20, tt)), tt)))))))))))))))))))))))))))))))))))))))))))))))))))))))))))))))))))))))))))))))))))
 
 pub quick_code-send : IsSend QuickCode.the_row
 quick_code-send = declared_send QuickCode.the_type (Vec-send _ quick_instr-send, (Vec-send _ way-send, tt))
@@ -1503,7 +1503,7 @@ pub standard_block-sync : IsSync StandardBlock.the_row
 standard_block-sync = variants_sync StandardBlock.enum (search plain depth 40)
 
 pub quick_instr-sync : IsSync QuickInstr.the_row
-quick_instr-sync = variants_sync QuickInstr.enum (tt, ((way-sync, tt), ((search plain depth 20, (search plain depth 20, (search plain depth 20, (search plain depth 20, tt)))), ((search plain depth 20, (search plain depth 20, tt)), ((search plain depth 20, (search plain depth 20, tt)), ((search plain depth 20, (search plain depth 20, (search plain depth 20, (search plain depth 20, tt)))), ((search plain depth 20, (search plain depth 20, (search plain depth 20, (search plain depth 20, tt)))), ((search plain depth 20, tt), ((search plain depth 20, (search plain depth 20, (search plain depth 20, tt))), ((search plain depth 20, (search plain depth 20, (search plain depth 20, tt))), ((search plain depth 20, (search plain depth 20, (search plain depth 20, tt))), ((search plain depth 20, (search plain depth 20, (search plain depth 20, tt))), ((search plain depth 20, (search plain depth 20, (search plain depth 20, tt))), ((search plain depth 20, (search plain depth 20, (search plain depth 20, tt))), ((search plain depth 20, (search plain depth 20, (search plain depth 20, tt))), ((search plain depth 20, (search plain depth 20, (search plain depth 20, tt))), ((search plain depth 20, (search plain depth 20, (search plain depth 20, tt))), ((search plain depth 20, (search plain depth 20, (search plain depth 20, tt))), ((search plain depth 20, (search plain depth 20, (search plain depth 20, tt))), ((search plain depth 20, (search plain depth 20, (search plain depth 20, tt))), ((search plain depth 20, (search plain depth 20, (search plain depth 20, tt))), ((search plain depth 20, (search plain depth 20, (search plain depth 20, tt))), ((search plain depth 20, (search plain depth 20, (search plain depth 20, tt))), ((search plain depth 20, (search plain depth 20, (search plain depth 20, tt))), ((search plain depth 20, (search plain depth 20, (search plain depth 20, tt))), ((search plain depth 20, (search plain depth 20, (search plain depth 20, tt))), ((search plain depth 20, (search plain depth 20, (search plain depth 20, tt))), ((search plain depth 20, (search plain depth 20, (search plain depth 20, tt))), ((search plain depth 20, (search plain depth 20, (search plain depth 20, tt))), ((search plain depth 20, (search plain depth 20, (search plain depth 20, tt))), ((search plain depth 20, (search plain depth 20, (search plain depth 20, tt))), ((search plain depth 20, (search plain depth 20, (search plain depth 20, tt))), ((search plain depth 20, (search plain depth 20, (search plain depth 20, tt))), ((search plain depth 20, (search plain depth 20, (search plain depth 20, tt))), ((search plain depth 20, (search plain depth 20, (search plain depth 20, tt))), ((search plain depth 20, (search plain depth 20, (search plain depth 20, tt))), ((search plain depth 20, (search plain depth 20, (search plain depth 20, tt))), ((search plain depth 20, (search plain depth 20, (way-sync, (search plain depth 20, tt)))), ((search plain depth 20, (search plain depth 20, (way-sync, (search plain depth 20, tt)))), ((search plain depth 20, (search plain depth 20, (way-sync, (search plain depth 20, tt)))), ((search plain depth 20, (search plain depth 20, (way-sync, (search plain depth 20, tt)))), ((search plain depth 20, (search plain depth 20, (way-sync, (search plain depth 20, tt)))), ((search plain depth 20, (search plain depth 20, (way-sync, (search plain depth 20, tt)))), ((search plain depth 20, (search plain depth 20, (way-sync, (search plain depth 20, tt)))), ((search plain depth 20, (search plain depth 20, (way-sync, (search plain depth 20, tt)))), ((search plain depth 20, (search plain depth 20, (way-sync, (search plain depth 20, tt)))), ((search plain depth 20, (search plain depth 20, (way-sync, (search plain depth 20, tt)))), ((search plain depth 20, (search plain depth 20, (search plain depth 20, (search plain depth 20, (search plain depth 20, tt))))), ((search plain depth 20, (search plain depth 20, (search plain depth 20, (search plain depth 20, (search plain depth 20, (search plain depth 20, tt)))))), ((search plain depth 20, (search plain depth 20, (search plain depth 20, (search plain depth 20, (search plain depth 20, tt))))), ((search plain depth 20, (search plain depth 20, (search plain depth 20, (search plain depth 20, (search plain depth 20, (search plain depth 20, tt)))))), ((search plain depth 20, (search plain depth 20, (search plain depth 20, (search plain depth 20, (search plain depth 20, tt))))), ((search plain depth 20, (search plain depth 20, (search plain depth 20, (search plain depth 20, (search plain depth 20, (search plain depth 20, tt)))))), ((search plain depth 20, (search plain depth 20, (search plain depth 20, (search plain depth 20, (search plain depth 20, (search plain depth 20, (search plain depth 20, tt))))))), ((search plain depth 20, (search plain depth 20, (search plain depth 20, (search plain depth 20, (search plain depth 20, (search plain depth 20, (search plain depth 20, tt))))))), ((standard_block-sync, (search plain depth 20, tt)), ((search plain depth 20, (search plain depth 20, (search plain depth 20, (way-sync, (search plain depth 20, tt))))), ((search plain depth 20, (search plain depth 20, (search plain depth 20, (way-sync, (search plain depth 20, tt))))), ((search plain depth 20, (search plain depth 20, (search plain depth 20, (way-sync, (search plain depth 20, tt))))), ((search plain depth 20, (search plain depth 20, (search plain depth 20, (way-sync, (search plain depth 20, tt))))), ((search plain depth 20, tt), ((search plain depth 20, tt), tt))))))))))))))))))))))))))))))))))))))))))))))))))))))))))))))
+quick_instr-sync = variants_sync QuickInstr.enum (tt, ((way-sync, tt), ((search plain depth 20, (search plain depth 20, (search plain depth 20, (search plain depth 20, tt)))), ((search plain depth 20, (search plain depth 20, tt)), ((search plain depth 20, (search plain depth 20, tt)), ((search plain depth 20, (search plain depth 20, (search plain depth 20, (search plain depth 20, tt)))), ((search plain depth 20, (search plain depth 20, (search plain depth 20, (search plain depth 20, tt)))), ((search plain depth 20, tt), ((search plain depth 20, (search plain depth 20, (search plain depth 20, tt))), ((search plain depth 20, (search plain depth 20, (search plain depth 20, tt))), ((search plain depth 20, (search plain depth 20, (search plain depth 20, tt))), ((search plain depth 20, (search plain depth 20, (search plain depth 20, tt))), ((search plain depth 20, (search plain depth 20, (search plain depth 20, tt))), ((search plain depth 20, (search plain depth 20, (search plain depth 20, tt))), ((search plain depth 20, (search plain depth 20, (search plain depth 20, tt))), ((search plain depth 20, (search plain depth 20, (search plain depth 20, tt))), ((search plain depth 20, (search plain depth 20, (search plain depth 20, tt))), ((search plain depth 20, (search plain depth 20, (search plain depth 20, tt))), ((search plain depth 20, (search plain depth 20, (search plain depth 20, tt))), ((search plain depth 20, (search plain depth 20, (search plain depth 20, tt))), ((search plain depth 20, (search plain depth 20, (search plain depth 20, tt))), ((search plain depth 20, (search plain depth 20, (search plain depth 20, tt))), ((search plain depth 20, (search plain depth 20, (search plain depth 20, tt))), ((search plain depth 20, (search plain depth 20, (search plain depth 20, tt))), ((search plain depth 20, (search plain depth 20, (search plain depth 20, tt))), ((search plain depth 20, (search plain depth 20, (search plain depth 20, tt))), ((search plain depth 20, (search plain depth 20, (search plain depth 20, tt))), ((search plain depth 20, (search plain depth 20, (search plain depth 20, tt))), ((search plain depth 20, (search plain depth 20, (search plain depth 20, tt))), ((search plain depth 20, (search plain depth 20, (search plain depth 20, tt))), ((search plain depth 20, (search plain depth 20, (search plain depth 20, tt))), ((search plain depth 20, (search plain depth 20, (search plain depth 20, tt))), ((search plain depth 20, (search plain depth 20, (search plain depth 20, tt))), ((search plain depth 20, (search plain depth 20, (search plain depth 20, tt))), ((search plain depth 20, (search plain depth 20, (search plain depth 20, tt))), ((search plain depth 20, (search plain depth 20, (search plain depth 20, tt))), ((search plain depth 20, (search plain depth 20, (search plain depth 20, tt))), ((search plain depth 20, (search plain depth 20, (way-sync, (search plain depth 20, tt)))), ((search plain depth 20, (search plain depth 20, (way-sync, (search plain depth 20, tt)))), ((search plain depth 20, (search plain depth 20, (way-sync, (search plain depth 20, tt)))), ((search plain depth 20, (search plain depth 20, (way-sync, (search plain depth 20, tt)))), ((search plain depth 20, (search plain depth 20, (way-sync, (search plain depth 20, tt)))), ((search plain depth 20, (search plain depth 20, (way-sync, (search plain depth 20, tt)))), ((search plain depth 20, (search plain depth 20, (way-sync, (search plain depth 20, tt)))), ((search plain depth 20, (search plain depth 20, (way-sync, (search plain depth 20, tt)))), ((search plain depth 20, (search plain depth 20, (way-sync, (search plain depth 20, tt)))), ((search plain depth 20, (search plain depth 20, (way-sync, (search plain depth 20, tt)))), ((search plain depth 20, (search plain depth 20, (search plain depth 20, (search plain depth 20, (search plain depth 20, tt))))), ((search plain depth 20, (search plain depth 20, (search plain depth 20, (search plain depth 20, (search plain depth 20, (search plain depth 20, tt)))))), ((search plain depth 20, (search plain depth 20, (search plain depth 20, (search plain depth 20, (search plain depth 20, tt))))), ((search plain depth 20, (search plain depth 20, (search plain depth 20, (search plain depth 20, (search plain depth 20, (search plain depth 20, tt)))))), ((search plain depth 20, (search plain depth 20, (search plain depth 20, (search plain depth 20, (search plain depth 20, tt))))), ((search plain depth 20, (search plain depth 20, (search plain depth 20, (search plain depth 20, (search plain depth 20, (search plain depth 20, tt)))))), ((search plain depth 20, (search plain depth 20, (search plain depth 20, (search plain depth 20, (search plain depth 20, (search plain depth 20, (search plain depth 20, tt))))))), ((search plain depth 20, (search plain depth 20, (search plain depth 20, (search plain depth 20, (search plain depth 20, (search plain depth 20, (search plain depth 20, tt))))))), ((standard_block-sync, (search plain depth 20, tt)), ((search plain depth 20, (search plain depth 20, (search plain depth 20, (way-sync, (search plain depth 20, tt))))), ((search plain depth 20, (search plain depth 20, (search plain depth 20, (way-sync, (search plain depth 20, tt))))), ((search plain depth 20, (search plain depth 20, (search plain depth 20, (way-sync, (search plain depth 20, tt))))), ((search plain depth 20, (search plain depth 20, (search plain depth 20, (way-sync, (search plain depth 20, tt))))), ((search plain depth 20, tt), ((search plain depth 20, tt), ((search plain depth 20, (search plain depth 20, (search plain depth 20, (search plain depth 20, tt)))), ((search plain depth 20, (search plain depth 20, (search plain depth 20, (search plain depth 20, tt)))), ((search plain depth 20, (search plain depth 20, (search plain depth 20, (search plain depth 20, (search plain depth 20, tt))))), ((search plain depth 20, (search plain depth 20, (search plain depth 20, (search plain depth 20, (search plain depth 20, (search plain depth 20, tt)))))), ((search plain depth 20, (search plain depth 20, (search plain depth 20, (search plain depth 20, (search plain depth 20, tt))))), ((search plain depth 20, (search plain depth 20, (search plain depth 20, (search plain depth 20, (search plain depth 20, tt))))), ((search plain depth 20, (search plain depth 20, (search plain depth 20, (search plain depth 20, (search plain depth 20, tt))))), ((search plain depth 20, (search plain depth 20, (search plain depth 20, (search plain depth 20, (search plain depth 20, (search plain depth 20, tt)))))), ((search plain depth 20, (search plain depth 20, (search plain depth 20, (search plain depth 20, (search plain depth 20, (search plain depth 20, tt)))))), ((search plain depth 20, (search plain depth 20, (search plain depth 20, (search plain depth 20, (search plain depth 20, (search plain depth 20, tt)))))), ((search plain depth 20, (search plain depth 20, (search plain depth 20, (search plain depth 20, (search plain depth 20, (search plain depth 20, tt)))))), ((search plain depth 20, (search plain depth 20, (search plain depth 20, (search plain depth 20, (way-sync, (search plain depth 20, tt)))))), ((search plain depth 20, (search plain depth 20, (search plain depth 20, (way-sync, (search plain depth 20, (search plain depth 20, tt)))))), ((search plain depth 20, (search plain depth 20, (search plain depth 20, (search plain depth 20, (way-sync, (search plain depth 20, tt)))))), ((search plain depth 20, (search plain depth 20, (search plain depth 20, (search plain depth 20, (search plain depth 20, tt))))), ((search plain depth 20, (search plain depth 20, (search plain depth 20, (search plain depth 20, (search plain depth 20, tt))))), ((search plain depth 20, (search plain depth 20, (search plain depth 20, (search plain depth 20, (way-sync, tt))))), ((search plain depth 20, (search plain depth 20, (search plain depth 20, (search plain depth 20, (search plain depth 20, (search plain depth 20, (way-sync, (search plain depth 20, tt)))))))), ((search plain depth 20, (search plain depth 20, (search plain depth 20, (search plain depth 20, tt)))), ((search plain depth 20, (search plain depth 20, tt)), ((search plain depth 20, (search plain depth 20, tt)), tt)))))))))))))))))))))))))))))))))))))))))))))))))))))))))))))))))))))))))))))))))))
 
 pub quick_code-sync : IsSync QuickCode.the_row
 quick_code-sync = declared_sync QuickCode.the_type (Vec-sync _ quick_instr-sync, (Vec-sync _ way-sync, tt))
@@ -1516,7 +1516,7 @@ quick_inside-send = declared_send QuickInside.the_type (
   Arc-send _ (Vec-send _ instr-send) (Vec-sync _ instr-sync),
   (
     Arc-send _ (Vec-send _ kind-send) (Vec-sync _ kind-sync),
-    (search plain depth 20, (quick_parts-send, tt)),
+    (search plain depth 20, (Arc-send _ quick_parts-send quick_parts-sync, (Vec-send _ (search plain depth 20), tt))),
   ),
 )
 
@@ -1537,7 +1537,7 @@ quick_inside-sync = declared_sync QuickInside.the_type (
   Arc-sync _ (Vec-send _ instr-send) (Vec-sync _ instr-sync),
   (
     Arc-sync _ (Vec-send _ kind-send) (Vec-sync _ kind-sync),
-    (search plain depth 20, (quick_parts-sync, tt)),
+    (search plain depth 20, (Arc-sync _ quick_parts-send quick_parts-sync, (Vec-sync _ (search plain depth 20), tt))),
   ),
 )
 
