@@ -145,11 +145,11 @@ converted_is from to w narrow_from narrow_to held =
     ∙ ap (λ n. Ok (record { kind = to; number = n })) (sym (narrow_number to w narrow_to))
 
 -- what is selected by the word of a comparison
-by_word : (go : Bool) (y z : ℤ) → (if int_eq (word_of_truth go) (pos 0) then z else y) ≡ (if go then y else z)
+pub by_word : (go : Bool) (y z : ℤ) → (if int_eq (word_of_truth go) (pos 0) then z else y) ≡ (if go then y else z)
 by_word true y z = refl
 by_word false y z = refl
 
-abbrev chosen : Bool → ℤ → ℤ → ℤ
+abbrev pub chosen : Bool → ℤ → ℤ → ℤ
 chosen go y z = if go then y else z
 
 value_chosen : (t : Kind) (go : Bool) (y z : ℤ)

@@ -1,5 +1,5 @@
 -- Code that stands for statements does what they mean.
-use Rattle.std.proofs.Common.{◌≡◌, ℕ, suc, ◌+◌, ◌-◌, ◌≤◌, ◌+ℤ◌, ℤ, Bool, true, false, Option, Some, None, refl, ap}
+use Rattle.std.proofs.Common.{◌≡◌, ℕ, ◌+◌, ◌-◌, ◌≤◌, ◌+ℤ◌, ℤ, Bool, true, false, Option, Some, None, refl, ap}
 use Rattle.std.proofs.Common.{subst, ◌∙◌, arith}
 use Rattle.std.specs.Prelude.{if◌then◌else◌, slice_get}
 use Rattle.std.specs.List.{list_any}
@@ -122,12 +122,11 @@ module _ (s : Setting) where
         (λ n. does_chosen n arms otherwise d e (does_stmts otherwise d e)))
     does_stmt (FOR a start limit step body) d e =
         ticked s (marked_counting z (slot_at (base_of s.site) a) start limit step (marked_exec_all z body)) d e
-        (λ p q. IsFor s.frame s.site s.units (StmtsStand s.frame s.site s.units body (suc (suc d))
-        (record e { out = q }))
+        (λ p q. IsFor s.frame s.site s.units (λ c. StmtsStand s.frame s.site s.units body c (record e { out = q }))
         a start limit step d p q)
         (λ p q r. does_for s a start limit step d e (marked_exec_all z body)
-        (StmtsStand s.frame s.site s.units body (suc (suc d)) (record e { out = q })) p q
-        (does_stmts body (suc (suc d)) (record e { out = q })) r)
+        (λ c. StmtsStand s.frame s.site s.units body c (record e { out = q })) p q
+        (λ c. does_stmts body c (record e { out = q })) r)
     does_stmt (WHILE x body) d e =
         ticked s (marked_loop (marked_guarded (marked_truth z x) (marked_exec_all z body)) marked_no_step) d e
         (λ p q. IsLoop s.frame (λ when. IsTestedFor s.frame s.site s.units x when d)

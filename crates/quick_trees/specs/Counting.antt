@@ -1,13 +1,20 @@
 -- How a FOR counts.
-use Rattle.std.specs.Prelude.{◌≡◌, ◌⊎◌, ℕ, ℤ, suc, pos, negsuc, Option, Some, None, slice_get}
+use Rattle.std.specs.Prelude.{◌≡◌, ◌<◌, ◌⊎◌, ℕ, ℤ, suc, pos, negsuc, Option, Some, None, slice_get}
 use Rattle.st_words.specs.declared.kind.Kind.{Kind}
 use Rattle.st_words.specs.declared.kind.Kind.TheVariants.{Dint, Int, Lint, Ulint}
+use Rattle.st_words.specs.declared.operator.BinaryOperator.TheVariants.{Add}
+use Rattle.st_words.specs.Values.{IsHeld}
+use Rattle.st_words.specs.Words.{datum_at}
 use Rattle.quick_code.specs.declared.quick_code.Way.{Way}
-use Rattle.quick_code.specs.declared.quick_instr.QuickInstr.TheVariants.{AddLintBy, CountDownDint, CountDownInt}
-use Rattle.quick_code.specs.declared.quick_instr.QuickInstr.TheVariants.{CountUpDint, CountUpInt, WhenAtMost, WhenLess}
+use Rattle.quick_code.specs.declared.quick_instr.QuickInstr.TheVariants.{AddLint, AddLintBy, CountDownDint}
+use Rattle.quick_code.specs.declared.quick_instr.QuickInstr.TheVariants.{CountDownInt, CountUpDint, CountUpInt, Select}
+use Rattle.quick_code.specs.declared.quick_instr.QuickInstr.TheVariants.{WhenAtMost, WhenLess}
 use Rattle.slot_trees.specs.SlotTrees.{SlotExpr, constant}
 use Rattle.quick_trees.specs.QuickMemory.{Frame}
-use Rattle.quick_trees.specs.Pieces.{IsLiteral}
+use Rattle.quick_trees.specs.declared.pace.Pace.{Pace}
+use Rattle.quick_trees.specs.declared.pace.Pace.TheVariants.{Literal, Words}
+use Rattle.quick_trees.specs.Instructions.{instr_for}
+use Rattle.quick_trees.specs.Pieces.{IsLiteral, Stands}
 use Rattle.quick_trees.specs.Functions.{IsMovedWithin}
 
 -- the step of a FOR: 1 where none is written, or a literal
@@ -15,6 +22,17 @@ abbrev pub IsStep : Option SlotExpr → ℤ → Type 0
 IsStep None n = n ≡ pos 1
 IsStep (Some (constant l)) n = IsLiteral l n
 IsStep (Some _) n = ⊥
+
+-- The step of a FOR is a literal that is not 0, and a number of the type of its control variable.
+pub record IsLiteralStep (step : Option SlotExpr) (t : Kind) (n : ℤ) : Type 0 where
+  pub is : IsStep step n
+  pub moves : n ≡ pos 0 → ⊥
+  pub small : IsHeld (datum_at t n)
+
+-- where temporaries are free within a FOR: behind those that keep the limit, and the step where it is no literal
+abbrev pub inside : Pace → ℕ → ℕ
+inside (Literal n) d = suc (suc d)
+inside (Words step below) d = suc (suc (suc (suc d)))
 
 -- The step of a FOR over INT or DINT is added to its control variable, and the limit is tested.
 abbrev pub CountsUp : Frame → Kind → ℕ → ℤ → ℕ → Way → ℕ → ℕ → Type 0
@@ -56,3 +74,36 @@ pub record CountsAsLint (f : Frame) (t : Kind) (k : ℕ) (n : ℤ) (limit : ℕ)
 abbrev pub Counts : Frame → Kind → ℕ → ℤ → ℕ → Way → ℕ → ℕ → ℕ → Type 0
 Counts f t k n limit w past p q =
     ((q ≡ p) × CountsAtOnce f t k n limit w past p) ⊎ CountsAsLint f t k n limit w past p q
+
+-- The control variable and the limit are assigned to temporaries, the limit first where the step is below 0. The loop
+-- goes on where the first is not above the second.
+pub record AreOrdered (f : Frame) (below control limit d p : ℕ) : Type 0 where
+  pub there : suc d < f.size
+  pub first : slice_get f.code p ≡ Some (Select below limit control d)
+  pub second : slice_get f.code (suc p) ≡ Some (Select below control limit (suc d))
+
+-- the first test of the limit, from a place on: one instruction, or several of which the test is the last one
+abbrev pub Begins : Frame → Pace → ℕ → ℕ → ℕ → Way → ℕ → ℕ → ℕ → Type 0
+Begins f (Literal n) control limit d w past p q = (q ≡ p) × BeginsToCount f n control limit w past p
+Begins f (Words step below) control limit d w past p q =
+    AreOrdered f below control limit d p
+    × ((q ≡ suc (suc p)) × (slice_get f.code q ≡ Some (WhenLess (suc d) d w past)))
+
+-- The word of a step is added to the control variable: as a number of its type, or as a LINT that is tested for it.
+abbrev pub AddsStep : Frame → Kind → ℕ → ℕ → ℕ → ℕ → Type 0
+AddsStep f t k step p q =
+    (Stands f (instr_for Add t k step k) p × (q ≡ suc p))
+    ⊎ ((slice_get f.code p ≡ Some (AddLint k step k)) × (IsMovedWithin f t k k (suc p) × (q ≡ suc (suc p))))
+
+-- The word of a step is added to the control variable, and the limit is tested by way of temporaries.
+pub record CountsByWord (f : Frame) (t : Kind) (step below k limit d : ℕ) (w : Way) (past p q : ℕ) : Type 0 where
+  pub added : ℕ
+  pub adds : AddsStep f t k step p added
+  pub ordered : AreOrdered f below k limit d added
+  pub behind : q ≡ suc (suc added)
+  pub tested : slice_get f.code q ≡ Some (WhenAtMost d (suc d) w past)
+
+-- the end of a turn, by a literal or by words
+abbrev pub CountsBy : Frame → Kind → Pace → ℕ → ℕ → ℕ → Way → ℕ → ℕ → ℕ → Type 0
+CountsBy f t (Literal n) k limit d w past p q = Counts f t k n limit w past p q
+CountsBy f t (Words step below) k limit d w past p q = CountsByWord f t step below k limit d w past p q

@@ -13,6 +13,7 @@ pub mod Programs
 pub mod Example
 pub mod LoopExample
 pub mod ShortForExample
+pub mod VariableStepExample
 pub mod CountExample
 pub mod CallExample
 pub mod ArrayExample

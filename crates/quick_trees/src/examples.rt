@@ -25,6 +25,8 @@ ghost use Rattle.quick_trees.specs.ShortForExample.{short_for_body, short_for_co
 ghost use Rattle.quick_trees.specs.ShortForExample.{short_for_words};
 ghost use Rattle.quick_trees.specs.SignExample.{sign_body, sign_code, sign_frame, sign_slots, sign_words};
 ghost use Rattle.quick_trees.specs.StepExample.{step_body, step_code, step_frame, step_slots, step_words};
+ghost use Rattle.quick_trees.specs.VariableStepExample.{variable_step_body, variable_step_code, variable_step_frame};
+ghost use Rattle.quick_trees.specs.VariableStepExample.{variable_step_slots, variable_step_words};
 ghost use Rattle.quick_trees.specs.Programs.{beginning, IsProgram};
 ghost use Rattle.quick_trees.specs.Sites.{IsMemory, whole};
 
@@ -64,6 +66,28 @@ pub fn a_short_for_in_quick_code()
     ensures program { marked_ran in_runs no_units 0 short_for_body 0 0 (short_for_slots 0 0 untouched) 20
         ≡ Ok (goes_on (short_for_slots 201 101 (mark false true)), 15) }
     ensures short { exec short_for_code [] 0 50 0 (short_for_words 0 0 0) 4 ≡ None }
+{}
+
+/// A FOR from 5 to 1 by a variable, which the body assigns. Its code stands for it. By -2 both come to -1 and 1, and take
+/// seven ticks: one, and two for each of three turns. By 2 there is no turn, and by 0 the code cannot tell.
+pub fn a_variable_step_in_quick_code()
+    ensures stands { IsProgram variable_step_frame no_units 0 0 variable_step_body }
+    ensures run { exec variable_step_code [] 0 50 0
+        (variable_step_words (pos 0) (negsuc 1) (pos 0 ∷ pos 0 ∷ pos 0 ∷ pos 0 ∷ []) 0 0) 20
+        ≡ Some (left (variable_step_words (negsuc 0) (pos 1) (negsuc 1 ∷ pos 1 ∷ pos 1 ∷ negsuc 0 ∷ []) 2 3) 13) }
+    ensures program { marked_ran in_runs no_units 0 variable_step_body 0 0
+        (variable_step_slots (pos 0) (negsuc 1) untouched untouched) 20
+        ≡ Ok (goes_on (variable_step_slots (negsuc 0) (pos 1) (mark false true) (mark true true)), 13) }
+    ensures short { exec variable_step_code [] 0 50 0
+        (variable_step_words (pos 0) (negsuc 1) (pos 0 ∷ pos 0 ∷ pos 0 ∷ pos 0 ∷ []) 0 0) 6 ≡ None }
+    ensures run_past { exec variable_step_code [] 0 50 0
+        (variable_step_words (pos 0) (pos 2) (pos 0 ∷ pos 0 ∷ pos 0 ∷ pos 0 ∷ []) 0 0) 20
+        ≡ Some (left (variable_step_words (pos 5) (pos 2) (pos 2 ∷ pos 0 ∷ pos 5 ∷ pos 1 ∷ []) 2 1) 19) }
+    ensures program_past { marked_ran in_runs no_units 0 variable_step_body 0 0
+        (variable_step_slots (pos 0) (pos 2) untouched untouched) 20
+        ≡ Ok (goes_on (variable_step_slots (pos 5) (pos 2) (mark false true) (mark true false)), 19) }
+    ensures no_step { exec variable_step_code [] 0 50 0
+        (variable_step_words (pos 0) (pos 0) (pos 0 ∷ pos 0 ∷ pos 0 ∷ pos 0 ∷ []) 0 0) 20 ≡ None }
 {}
 
 /// A WHILE whose turn is two instructions, with its constants in them, over the third of four slots, which is its only

@@ -15,6 +15,7 @@
 mod examples;
 mod laws;
 mod noting;
+mod pace;
 
 pub use examples::{
     a_block_in_quick_code, a_call_in_quick_code, a_case_in_quick_code, a_count_in_quick_code,
@@ -23,3 +24,4 @@ pub use examples::{
 };
 pub use laws::quick_code_does_what_its_program_does;
 pub use noting::Noting;
+pub use pace::Pace;

@@ -5,7 +5,7 @@ use Rattle.slot_trees.specs.SlotTrees.{binary, compute, load}
 use Rattle.slot_bodies.specs.Chains.{exprs_of}
 use Rattle.slot_bodies.specs.ExpressionViews.{place_view, slot_expr_view}
 use Rattle.code_drafts.proofs.Sizes.{expr_size, exprs_size}
-use Rattle.quick_trees.specs.Pieces.{Stands}
+use Rattle.quick_trees.specs.Pieces.{IsTemporary, Stands}
 use Rattle.quick_checks.specs.Checking.{frame_of, point_of, site_of}
 use Rattle.quick_trees.specs.Calls.{quick_units}
 use Rattle.quick_trees.specs.Standing.{IsRead}
@@ -37,7 +37,7 @@ use Rattle.quick_checks.proofs.Standings.{passes_same}
 use Rattle.quick_checks.proofs.Standings.{arms_next, arms_over, meets_same, stmts_next, stmts_on, stmts_over, ticked}
 use Rattle.std.specs.Prelude.{Some, slice_get}
 use Rattle.std.proofs.Common.{ℕ}
-use Rattle.quick_trees.specs.Points.{GoesBack, Joins, along}
+use Rattle.quick_trees.specs.Points.{AreNoted, GoesBack, Joins, along, past_branch}
 use Rattle.quick_trees.specs.Standing.{StmtsStand}
 use Rattle.slot_bodies.specs.declared.statement.SlotCaseArm as code_case_arm
 use Rattle.slot_bodies.specs.Chains.{case_arms_of}
@@ -678,6 +678,7 @@ counting::check_for-returns t c =
     let q = c.go.ensures in
     let from : c.in_ok-from.from.kind ≡ c.in_ok-target.target.kind = c.if-not-is_kind.ensures (search rules) in
     let kept : c.in_ok-kept.kept.kind ≡ c.in_ok-target.target.kind = c.if-not-is_kind-2.ensures (search rules) in
+    let begun = c.in_ok-first.ensures.same in
     λ now whole is. record {
       kind = c.in_ok-target.target.kind;
       target = c.in_ok-target.ensures.of_type now;
@@ -686,34 +687,38 @@ counting::check_for-returns t c =
       from = c.in_ok-from.from.word;
       to = c.in_ok-kept.kept.word;
       middle = point_of c.check_read.new.at;
-      move = point_of c.check_kept.new.at;
+      bounded = point_of c.check_kept.new.at;
+      move = point_of c.check_pace.new.at;
       first = rw (c.landing.ensures, from) at (c.in_ok-from.ensures now whole is);
       second = rw (c.in_ok-below.ensures, kept) at (c.in_ok-kept.ensures now whole is);
+      pace = c.in_ok-pace.pace;
+      third = rw (c.in_ok-free.ensures, c.in_ok-below.ensures) at (c.in_ok-pace.ensures now whole is);
       assigned = c.in_ok-expect.ensures.stands;
       test = point_of c.assign.new.at;
       assigns = c.in_ok-assign.ensures.same
           ∙ ap (λ (x : Point). record x { noted = c.assign.new.at.noted.items }) c.in_ok-expect.ensures.next;
       touches = rw (ap (λ (x : Point). x.noted) c.in_ok-expect.ensures.next) at c.in_ok-assign.ensures.touches;
-      by = c.in_ok-turns.turns.by;
-      step_is = c.in_ok-turns.ensures.step;
-      moves = c.in_ok-turns.ensures.moves;
-      small = c.in_ok-turns.ensures.small;
       way = c.in_ok-first.first.way;
       past = c.in_ok-first.first.past;
-      tested = rw c.in_ok-turns.ensures.control at (c.in_ok-first.ensures now);
-      over = rw q (c.if-not-leads.ensures (search rules));
+      asked = c.expect_begun.new.at.place;
+      tested = rw c.in_ok-within.ensures at (c.in_ok-first.ensures.begins now);
+      over = rw q (subst (λ (x : Point). Meets (along x c.in_ok-first.first.way)
+          (landing_of c.in_ok-behind.behind)) begun
+          (c.if-not-leads.ensures (search rules)));
       noted = point_of c.read_notes.new.at;
-      notes = rw c.in_ok-pass.ensures at (c.in_ok-read_notes.ensures now);
+      notes = subst (λ (x : Point). AreNoted (frame_of c.args.draft.now now) (past_branch x c.in_ok-first.first.past)
+          (point_of c.read_notes.new.at)) begun
+          (rw c.in_ok-pass.ensures at (c.in_ok-read_notes.ensures now));
       head = point_of c.read_notes.new.at;
       begins = meets_same _;
       end = point_of c.check_stmts.new.at;
-      body = rw (q, ← c.in_ok-below.ensures, ← c.in_ok-inside.ensures)
+      body = rw (q, ← c.in_ok-within.ensures)
           (rw c.in_ok-inner.ensures at (c.in_ok-check_stmts.ensures now whole is));
       known = c.if-not-is_assigned.ensures (search rules);
       back = c.in_ok-again.again.way;
       after = c.in_ok-again.again.past;
-      foot = c.expect_counted.new.at.place;
-      counts = rw (c.in_ok-turns.ensures.kind, c.in_ok-turns.ensures.control) at (c.in_ok-again.ensures.counts now);
+      foot = c.expect_turned.new.at.place;
+      counts = rw c.in_ok-within.ensures at (c.in_ok-again.ensures.counts now);
       again = subst (λ (x : Point). GoesBack (along x c.in_ok-again.again.way) (point_of c.read_notes.new.at))
           c.in_ok-again.ensures.same (rw c.in_ok-head.ensures at (c.if-not-goes_back.ensures (search rules)));
       behind = rw q (passes_same _ _ _ c.in_ok-again.again.past c.in_ok-again.ensures.same
@@ -734,6 +739,23 @@ counting::check_kept-returns-then-is_same t c = λ now whole kept. record {
   );
   stays = c.if-not-stays.ensures (search rules) now;
 }
+
+pub counting::check_step-returns : goal.counting::check_step-returns
+counting::check_step-returns t c =
+    let kind : c.in_ok-kept.kept.kind ≡ c.args.kind = c.if-not-is_kind.ensures (search rules) in
+    let second = c.in_ok-expect.ensures.next in
+    let third = c.in_ok-expect-2.ensures.next ∙ ap next second in
+    λ now whole is. record {
+      narrow = sym c.is_wide.ensures ∙ c.if-is_wide.false;
+      last = point_of c.check_kept.new.at;
+      keeps = rw kind at (c.in_ok-kept.ensures now whole is);
+      temporary = subst (IsTemporary (frame_of c.args.draft.now now) c.in_ok-below.below) c.in_ok-below.ensures
+          (c.in_ok-temporary.ensures now);
+      not_0 = c.in_ok-expect.ensures.stands;
+      nought = rw (ap (λ (p : Point). p.place) second) at c.in_ok-expect-2.ensures.stands;
+      tested = rw (ap (λ (p : Point). p.place) third) at c.in_ok-expect-3.ensures.stands;
+      is = c.in_ok-expect-3.ensures.next ∙ ap next third;
+    }
 
 pub statements::check_stmt-returns-in-Empty : goal.statements::check_stmt-returns-in-Empty
 statements::check_stmt-returns-in-Empty t c =

@@ -4,13 +4,13 @@ use Rattle.slot_bodies.specs.ExpressionViews.{slot_expr_view}
 use Rattle.slot_bodies.specs.LibraryViews.{slot_library_view}
 use Rattle.slot_bodies.specs.StatementViews.{slot_arm_view, slot_stmt_view, slot_stmts_view}
 use Rattle.code_drafts.specs.Emitting.{filled}
-use Rattle.code_drafts.proofs.Sizes.{weight, arms_size, expr_size, exprs_size, stmt_size, stmts_size}
+use Rattle.code_drafts.proofs.Sizes.{weight, arms_size, expr_size, exprs_size, step_size, stmt_size, stmts_size}
 use Rattle.st_words.specs.declared.kind.Kind.{Kind}
 use Rattle.quick_trees.specs.Points.{Point}
 use Rattle.quick_trees.specs.Standing.{AreArguments, ArmsStand, StmtsStand}
 use Rattle.quick_checks.specs.Checking.{Always, exits_of, kinds_read, landing_of, point_of, words_read}
 use Rattle.std.proofs.Common.{◌<◌}
-use Rattle.std.specs.Prelude.{Some, slice_get}
+use Rattle.std.specs.Prelude.{Some, option_map, slice_get}
 use Rattle.slot_bodies.specs.Chains.{case_arms_of}
 use Rattle.slot_bodies.specs.StatementViews.{slot_case_arm_view}
 use Rattle.code_drafts.proofs.Sizes.{case_size}
@@ -141,7 +141,16 @@ decreases-counting::check_kept l = 4 * (weight (filled (slot_library_view l.libr
 
 abbrev pub decreases-counting::check_for : goal.decreases-counting::check_for
 decreases-counting::check_for l = 4 * (weight (filled (slot_library_view l.library.now)) l.scope.now.calls
-    + (expr_size (slot_expr_view l.start.now) + expr_size (slot_expr_view l.limit.now) + stmts_size (slot_stmts_view l.body.now))) + 3
+    + (expr_size (slot_expr_view l.start.now) + expr_size (slot_expr_view l.limit.now)
+    + step_size (option_map slot_expr_view l.step.now) + stmts_size (slot_stmts_view l.body.now))) + 3
+
+abbrev pub decreases-counting::check_pace : goal.decreases-counting::check_pace
+decreases-counting::check_pace l = 4 * (weight (filled (slot_library_view l.library.now)) l.scope.now.calls
+    + step_size (option_map slot_expr_view l.step.now)) + 2
+
+abbrev pub decreases-counting::check_step : goal.decreases-counting::check_step
+decreases-counting::check_step l = 4 * (weight (filled (slot_library_view l.library.now)) l.scope.now.calls
+    + expr_size (slot_expr_view l.step.now)) + 2
 
 abbrev pub decreases-calls::check_function : goal.decreases-calls::check_function
 decreases-calls::check_function l = 4 * weight (filled (slot_library_view l.library.now)) l.scope.now.calls + 1

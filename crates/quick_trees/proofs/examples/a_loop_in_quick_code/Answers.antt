@@ -4,6 +4,7 @@ use Rattle.std.specs.Prelude.{slice_get}
 use Rattle.st_words.specs.declared.kind.Kind.TheVariants.{Int}
 use Rattle.tree_code.specs.MarkedExecution.{marked_guarded, marked_loop, marked_runs_on, marked_step_on, marked_turns}
 use Rattle.tree_code.specs.MarkedRuns.{marked_ran, marked_units_within}
+use Rattle.quick_trees.specs.declared.pace.Pace.TheVariants.{Literal}
 use Rattle.quick_trees.specs.declared.noting.Noting.TheVariants.{Exact, LookAhead, AssignmentAhead, BothAhead}
 use Rattle.quick_trees.specs.declared.noting.Noting.TheVariants.{LookedAssignmentAhead, Assigned}
 use Rattle.quick_trees.specs.Example.{int, way}
@@ -79,6 +80,7 @@ returns-clause-stands c = record {
           from = 5;
           to = 6;
           middle = at 2 0 (AssignmentAhead ∷ Exact ∷ Exact ∷ Exact ∷ Exact ∷ []);
+          bounded = at 2 0 (AssignmentAhead ∷ Exact ∷ Exact ∷ Exact ∷ Exact ∷ []);
           move = at 2 0 (AssignmentAhead ∷ Exact ∷ Exact ∷ Exact ∷ Exact ∷ []);
           first = (
             refl,
@@ -91,17 +93,23 @@ returns-clause-stands c = record {
             );
             stays = λ j lt own. no_word j own;
           };
+          pace = Literal (pos 1);
+          third = (
+            refl,
+            record {
+              is = refl;
+              moves = λ e. (let is : 1 ≡ 0 = ap magnitude e in omega arith);
+              small = refl;
+            },
+          );
           assigned = refl;
           test = at 3 0 (Assigned ∷ Exact ∷ Exact ∷ Exact ∷ Exact ∷ []);
           assigns = refl;
           touches = record { old = AssignmentAhead; there = refl; new = Assigned; is = refl; rest = refl };
-          by = pos 1;
-          step_is = refl;
-          moves = λ e. (let is : 1 ≡ 0 = ap magnitude e in omega arith);
-          small = refl;
           way = way 11 0;
           past = 2;
-          tested = refl;
+          asked = 3;
+          tested = (refl, refl);
           over = record {
             place = refl;
             ahead = refl;

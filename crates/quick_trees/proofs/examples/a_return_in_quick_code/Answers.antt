@@ -5,6 +5,7 @@ use Rattle.st_words.specs.declared.kind.Kind.TheVariants.{Int}
 use Rattle.tree_code.specs.MarkedEvaluation.{marked_truth}
 use Rattle.tree_code.specs.MarkedExecution.{marked_guarded, marked_loop, marked_runs_on, marked_step_on, marked_turns}
 use Rattle.tree_code.specs.MarkedRuns.{marked_ran, marked_units_within}
+use Rattle.quick_trees.specs.declared.pace.Pace.TheVariants.{Literal}
 use Rattle.quick_trees.specs.declared.noting.Noting.TheVariants.{Exact, LookAhead, AssignmentAhead}
 use Rattle.quick_trees.specs.declared.noting.Noting.TheVariants.{Looked, Assigned}
 use Rattle.quick_trees.specs.Example.{int, way}
@@ -163,6 +164,7 @@ returns-clause-stands c = record {
                           from = 0;
                           to = 2;
                           middle = at 5 0 (Looked ∷ AssignmentAhead ∷ []);
+                          bounded = at 5 0 (Looked ∷ AssignmentAhead ∷ []);
                           move = at 5 0 (Looked ∷ AssignmentAhead ∷ []);
                           first = record {
                             of_type = refl;
@@ -184,21 +186,27 @@ returns-clause-stands c = record {
                             );
                             stays = stays;
                           };
+                          pace = Literal (negsuc 0);
+                          third = (
+                            refl,
+                            record {
+                              is = record {
+                                value = record { kind = Int; number = negsuc 0 };
+                                of_literal = refl;
+                                number = refl;
+                              };
+                              moves = λ e. cc;
+                              small = refl;
+                            },
+                          );
                           assigned = refl;
                           test = at 6 0 (Looked ∷ AssignmentAhead ∷ []);
                           assigns = refl;
                           touches = refl;
-                          by = negsuc 0;
-                          step_is = record {
-                            value = record { kind = Int; number = negsuc 0 };
-                            of_literal = refl;
-                            number = refl;
-                          };
-                          moves = λ e. cc;
-                          small = refl;
                           way = way 11 1;
                           past = 1;
-                          tested = refl;
+                          asked = 6;
+                          tested = (refl, refl);
                           over = record {
                             place = refl;
                             ahead = refl;

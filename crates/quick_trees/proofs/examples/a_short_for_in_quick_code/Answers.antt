@@ -3,6 +3,7 @@ use Rattle.std.specs.Prelude.{slice_get}
 use Rattle.st_words.specs.declared.kind.Kind.TheVariants.{Usint}
 use Rattle.tree_code.specs.MarkedExecution.{marked_guarded, marked_loop, marked_runs_on, marked_step_on, marked_turns}
 use Rattle.tree_code.specs.MarkedRuns.{marked_ran, marked_units_within}
+use Rattle.quick_trees.specs.declared.pace.Pace.TheVariants.{Literal}
 use Rattle.quick_trees.specs.declared.noting.Noting.TheVariants.{Exact, AssignmentAhead, Assigned}
 use Rattle.quick_trees.specs.Example.{way}
 use Rattle.quick_trees.specs.Points.{assignment_of}
@@ -47,6 +48,7 @@ returns-clause-stands c = record {
           from = 2;
           to = 3;
           middle = at 2 0 (AssignmentAhead ∷ Exact ∷ []);
+          bounded = at 2 0 (AssignmentAhead ∷ Exact ∷ []);
           move = at 2 0 (AssignmentAhead ∷ Exact ∷ []);
           first = (
             refl,
@@ -59,17 +61,23 @@ returns-clause-stands c = record {
             );
             stays = λ j lt own. absurd (no_word j own);
           };
+          pace = Literal (pos 100);
+          third = (
+            refl,
+            record {
+              is = record { value = short 100; of_literal = refl; number = refl };
+              moves = λ e. (let is : 100 ≡ 0 = ap magnitude e in omega arith);
+              small = refl;
+            },
+          );
           assigned = refl;
           test = at 3 0 (Assigned ∷ Exact ∷ []);
           assigns = refl;
           touches = record { old = AssignmentAhead; there = refl; new = Assigned; is = refl; rest = refl };
-          by = pos 100;
-          step_is = record { value = short 100; of_literal = refl; number = refl };
-          moves = λ e. (let is : 100 ≡ 0 = ap magnitude e in omega arith);
-          small = refl;
           way = way 9 0;
           past = 1;
-          tested = refl;
+          asked = 3;
+          tested = (refl, refl);
           over = record {
             place = refl;
             ahead = refl;
