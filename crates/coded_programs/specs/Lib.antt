@@ -1,3 +1,4 @@
 pub mod Codes
 pub mod Meanings
 pub mod Reads
+pub mod Windows

@@ -6,5 +6,6 @@
 mod code;
 mod comparison;
 mod making;
+mod window;
 
 pub use code::Code;

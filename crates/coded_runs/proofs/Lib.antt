@@ -3,3 +3,4 @@ pub mod TrueLemmas
 pub mod CommitLemmas
 pub mod WindowLemmas
 pub mod QuickLemmas
+mod QuickParts

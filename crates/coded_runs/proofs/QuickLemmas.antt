@@ -1,8 +1,9 @@
 -- What a run of quick code leaves is what the run of the instructions did.
-use Rattle.std.proofs.Common.{◌≡◌, ◌+◌, ◌++◌, ◌∷◌, [], ℕ, zero, suc, List, Bool, true, false, length, map, take}
+use Rattle.std.proofs.Common.{◌≡◌, ◌+◌, ◌≤◌, ◌++◌, ◌∷◌, [], ℕ, zero, suc, List, Bool, true, false, length, map, take}
 use Rattle.std.proofs.Common.{if◌then◌else◌, refl, ap, sym, subst, ◌∙◌, arith}
 use Rattle.std.proofs.lemmas.List.{length-append, length-replicate}
 use Rattle.std.specs.Prelude.{Some, replicate, slice_get}
+use Rattle.st_words.specs.declared.kind.Kind.{Kind}
 use Rattle.st_words.specs.Values.{Datum, datum_of_truth}
 use Rattle.st_types.specs.declared.outcome.Outcome.TheVariants.{Done}
 use Rattle.st_types.specs.Failures.{in_runs}
@@ -12,11 +13,14 @@ use Rattle.machine_code.specs.Endings.{outcome_at_end}
 use Rattle.machine_code.specs.Tracking.{Tracked, tracked, tracking, are_read, are_assigned}
 use Rattle.quick_trees.specs.Windows.{IsWindow}
 use Rattle.quick_trees.proofs.Lists.{map_long}
-use Rattle.quick_programs.specs.Quick.{AreIn, EndsWith, run_of}
+use Rattle.quick_programs.specs.Quick.{AreIn, AreTyped, EndsWith, Wherever, run_of}
+use Rattle.quick_programs.proofs.Filled.{filled, filled_in, filled_typed}
 use Rattle.coded_programs.specs.Codes.{CodeView}
-use Rattle.run_cells.specs.Cells.{picked}
-use Rattle.coded_runs.specs.Runs.{marked_run, reads_of, unmarked, writes_of}
+use Rattle.run_cells.specs.Cells.{cut, picked}
+use Rattle.coded_runs.specs.Runs.{IsLong, marked_run, reads_of, unmarked, writes_of}
 use Rattle.coded_runs.specs.Windows.{picked_in}
+use Rattle.coded_runs.specs.Executions.{IsRunOf}
+use Rattle.coded_runs.specs.declared.runner.Ran.{Ran}
 use Rattle.coded_runs.proofs.WindowLemmas.{ArePicked, mapped, none_picked, picked_so}
 
 -- what is picked of the first ones hangs on as many marks
@@ -89,9 +93,51 @@ module _ (window : List ℕ) (vs begun values : List Datum) (marks : List Mark) 
       ∙ picked_of (λ (x : Mark). x.is_assigned) h.memory.marks n 0 (take n h.memory.values) h.slots
       ∙ sym (ap (λ e. writes_of e vs) h.is)
 
+take_short : {A : Type 0} (n : ℕ) (xs : List A) → length (take n xs) ≡ n → n ≤ length xs
+take_short zero xs e = omega arith
+take_short (suc n) [] e = absurd (omega arith)
+take_short (suc n) (x ∷ xs) e = (let le = take_short n xs (omega arith) in omega arith)
+
+-- the memory has a value of each slot
+pub is_long : (window : List ℕ) (vs values : List Datum) (marks : List Mark) (ticks : ℕ) (e : Ending Tracked)
+    → EndsWith window vs ticks values marks e → IsLong (length vs) e
+is_long window vs values marks ticks e h =
+    subst (IsLong (length vs)) (sym h.is) (take_short (length vs) h.memory.values h.slots)
+
 pub ends_here : (code : CodeView) (now : ℕ) (vs : List Datum) (budget ticks : ℕ) (window : List ℕ)
     (values : List Datum) (marks : List Mark)
     → EndsWith window vs ticks values marks (run_of code.instrs code.extra now vs budget)
     → EndsWith window vs ticks values marks (marked_run code now vs budget)
 ends_here code now vs budget ticks window values marks h =
     subst (EndsWith window vs ticks values marks) (run_is code now vs budget) h
+
+-- What a run over a window's values told is what the run of the code over all slots did, wherever it ends so.
+pub ran_so : (code : CodeView) (now budget ticks : ℕ) (window : List ℕ) (vs begun values : List Datum)
+    (marks : List Mark) (ran : Ran) → IsWindow (length vs) window → AreIn window vs begun
+    → EndsWith window vs ticks values marks (run_of code.instrs code.extra now vs budget)
+    → map cut ran.reads.items ≡ picked_in window (are_read marks) begun
+    → map cut ran.writes.items ≡ picked_in window (are_assigned marks) values → ran.outcome ≡ Done
+    → IsRunOf (marked_run code now vs budget) vs ran
+ran_so code now budget ticks window vs begun values marks ran is_window is_in ends reads writes done =
+    let e = marked_run code now vs budget in
+    let here = ends_here code now vs budget ticks window values marks ends in
+    record {
+      reads = reads ∙ reads_told window vs begun values marks ticks is_window is_in e here;
+      writes = writes ∙ writes_told window vs begun values marks ticks is_window is_in e here;
+      outcome = done ∙ outcome_told window vs begun values marks ticks is_window is_in e here;
+    }
+
+pub long_so : (code : CodeView) (now budget ticks : ℕ) (window : List ℕ) (vs values : List Datum) (marks : List Mark)
+    → EndsWith window vs ticks values marks (run_of code.instrs code.extra now vs budget)
+    → IsLong (length vs) (marked_run code now vs budget)
+long_so code now budget ticks window vs values marks ends =
+    is_long window vs values marks ticks (marked_run code now vs budget)
+    (ends_here code now vs budget ticks window values marks ends)
+
+-- What is so wherever slots have these values is so of some.
+pub somewhere : (kinds : List Kind) (window : List ℕ) (vs : List Datum) (P : List Datum → Type 0)
+    → IsWindow (length kinds) window → (typed : AreTyped kinds window vs) → Wherever kinds window vs P
+    → (slots : List Datum) × P slots
+somewhere kinds window vs P is_window typed h =
+    let slots = filled kinds window vs is_window typed in
+    (slots, h slots (filled_typed kinds window vs is_window typed) (filled_in kinds window vs is_window typed))

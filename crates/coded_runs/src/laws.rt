@@ -8,7 +8,11 @@ ghost use Rattle.st_types.specs.Slots.{Slot, Cell, AreOfTypes, variables_in, agr
 ghost use Rattle.coded_programs.specs.Codes.{CodeView};
 ghost use Rattle.coded_programs.specs.Meanings.{Means};
 ghost use Rattle.coded_runs.specs.Commits.{committed, IsRunFrom};
-ghost use Rattle.coded_runs.specs.Effects.{IsTrueOf};
+ghost use Rattle.coded_runs.specs.Effects.{Effect, IsTrueOf};
+ghost use Rattle.coded_runs.specs.Executions.{IsEffectOf};
+ghost use Rattle.coded_runs.specs.QuickExecutions.{IsPartOf, IsQuickEffectOf};
+ghost use Rattle.coded_runs.specs.declared.quick_snapshot.QuickSnapshot.{QuickSnapshot};
+ghost use Rattle.coded_runs.specs.declared.snapshot.Snapshot.{Snapshot};
 
 use st_types::variables_stay;
 
@@ -30,3 +34,10 @@ pub fn commits_do_what_programs_do()
 {
     variables_stay();
 }
+
+/// An execution of a quick snapshot is one of each snapshot that the quick one is part of: of the same code, activation,
+/// moment and budget, where the slots that the code names have the same values.
+pub fn quick_executions_are_executions()
+    ensures { (snapshot : Snapshot) (quick : QuickSnapshot) (effect : Effect) → IsPartOf snapshot quick
+        → IsQuickEffectOf quick effect → IsEffectOf snapshot effect }
+{}

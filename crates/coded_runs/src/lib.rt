@@ -8,10 +8,17 @@ mod execution;
 mod gathering;
 mod laws;
 mod memory;
+mod quick_snapshot;
 mod runner;
 mod snapshot;
+mod taken;
 
 pub use execution::{Execution, Machine};
-pub use laws::{commits_do_what_programs_do, writes_to_inputs_change_no_variable};
-pub use runner::{run, run_by_values};
+pub use laws::{
+    commits_do_what_programs_do, quick_executions_are_executions,
+    writes_to_inputs_change_no_variable,
+};
+pub use quick_snapshot::QuickSnapshot;
+pub use runner::{run, run_by_values, run_quick};
 pub use snapshot::Snapshot;
+pub use taken::Taken;

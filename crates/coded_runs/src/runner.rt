@@ -7,14 +7,18 @@ ghost use Rattle.machine_code.specs.Tracking.{are_assigned, are_read, tracking, 
 ghost use Rattle.run_cells.specs.Cells.{cut};
 ghost use Rattle.st_types.specs.declared.outcome.Outcome.TheVariants.{Done};
 ghost use Rattle.slot_machine.specs.Steps.{Ends};
+ghost use Rattle.quick_programs.specs.Quick.{AreTyped, Wherever};
 ghost use Rattle.coded_programs.specs.Codes.{code_view};
+ghost use Rattle.coded_programs.specs.Windows.{window_of};
 ghost use Rattle.coded_runs.specs.Runs.{EndsAs, IsLong, marked_run, unmarked};
 ghost use Rattle.coded_runs.specs.Executions.{IsEffectOf, IsRunOf, run_of};
+ghost use Rattle.coded_runs.specs.QuickExecutions.{IsQuickEffectOf, run_over};
 ghost use Rattle.coded_runs.specs.Windows.{picked_in};
 
 use crate::execution::{Execution, Machine};
 use crate::gathering::{reads_in, writes_in};
 use crate::memory::{memory_over, unmarked};
+use crate::quick_snapshot::QuickSnapshot;
 use crate::snapshot::Snapshot;
 use coded_programs::Code;
 use machine_code::Mark;
@@ -55,18 +59,23 @@ pub struct Ran {
     pub machine: Machine,
 }
 
-/// What a run of quick code over the slots of a window did.
-fn told(alloc: Global, window: &[usize], left: &QuickRun) -> Result<Ran, AllocError>
-    requires begun { length left.now.begun.items ≡ length window.now }
+/// What a run of quick code over the slots of a window, which had these values, did.
+fn told(
+    alloc: Global,
+    window: &[usize],
+    begun: &[Value],
+    left: &QuickRun,
+) -> Result<Ran, AllocError>
+    requires begun { length begun.now ≡ length window.now }
     requires values { length left.now.values.items ≡ length window.now }
     requires marks { length left.now.marks.items ≡ length window.now }
     ensures reads { IfOk result (λ ran. map cut ran.reads.items
-        ≡ picked_in window.now (are_read left.now.marks.items) left.now.begun.items) }
+        ≡ picked_in window.now (are_read left.now.marks.items) begun.now) }
     ensures writes { IfOk result (λ ran. map cut ran.writes.items
         ≡ picked_in window.now (are_assigned left.now.marks.items) left.now.values.items) }
     ensures done { IfOk result (λ ran. ran.outcome ≡ Done) }
 {
-    let reads = reads_in(alloc, window, &left.begun, &left.marks)?;
+    let reads = reads_in(alloc, window, begun, &left.marks)?;
     let writes = writes_in(alloc, window, &left.values, &left.marks)?;
     Ok(Ran {
         reads,
@@ -76,9 +85,32 @@ fn told(alloc: Global, window: &[usize], left: &QuickRun) -> Result<Ran, AllocEr
     })
 }
 
-/// Runs code on the values of its slots, by the quick machine. None where it cannot tell how the run ends, or where there
-/// is no quick code.
-fn run_quick(
+/// Runs code on the values of the slots that it names, by the quick machine. None where it cannot tell how the run ends,
+/// or where there is no quick code.
+fn run_named(
+    alloc: Global,
+    code: &Code,
+    moment: u64,
+    values: &[Value],
+    budget: u32,
+) -> Result<Option<Ran>, AllocError>
+    requires typed { AreTyped code.now.kinds.value.items (window_of code.now) values.now }
+    ensures ran { IfOk result (λ o. IfSome o (λ ran. Wherever code.now.kinds.value.items (window_of code.now) values.now
+        (λ slots. IsRunOf (marked_run (code_view code.now) moment slots budget) slots ran))) }
+    ensures long { IfOk result (λ o. IfSome o (λ ran. Wherever code.now.kinds.value.items (window_of code.now) values.now
+        (λ slots. IsLong (length slots) (marked_run (code_view code.now) moment slots budget)))) }
+{
+    let Some(quick) = &code.quick else {
+        return Ok(None);
+    };
+    match quick.run(alloc, values, moment, budget)? {
+        Some(left) => Ok(Some(told(alloc, quick.window(), values, &left)?)),
+        None => Ok(None),
+    }
+}
+
+/// The same on the values of all slots.
+fn run_quick_code(
     alloc: Global,
     code: &Code,
     moment: u64,
@@ -94,10 +126,8 @@ fn run_quick(
     let Some(quick) = &code.quick else {
         return Ok(None);
     };
-    match quick.run(alloc, slots, moment, budget)? {
-        Some(left) => Ok(Some(told(alloc, quick.window(), &left)?)),
-        None => Ok(None),
-    }
+    let values = quick.named(alloc, slots)?;
+    run_named(alloc, code, moment, &values, budget)
 }
 
 /// Runs code on the values of its slots, by the machine on values.
@@ -139,7 +169,7 @@ fn run_code(
     ensures long { IfOk result (λ _. IsLong (length slots.now) (marked_run (code_view code.now) moment slots.now
         budget)) }
 {
-    match run_quick(alloc, code, moment, slots, budget)? {
+    match run_quick_code(alloc, code, moment, slots, budget)? {
         Some(ran) => Ok(ran),
         None => run_values(alloc, code, moment, slots, budget),
     }
@@ -169,6 +199,55 @@ fn execution_of(snapshot: Snapshot, ran: Ran) -> Execution
         ran.outcome,
         ran.machine,
     )
+}
+
+/// The execution of a quick snapshot's code that did this.
+fn quick_execution_of(quick: QuickSnapshot, ran: Ran) -> Execution
+    requires ran { Wherever quick.code.value.kinds.value.items (window_of quick.code.value) quick.values.items
+        (λ slots. IsRunOf (run_over quick slots) slots ran) }
+    requires long { Wherever quick.code.value.kinds.value.items (window_of quick.code.value) quick.values.items
+        (λ slots. IsLong (length slots) (run_over quick slots)) }
+    ensures { IsQuickEffectOf quick result }
+{
+    let _window = quick.code.window();
+    let QuickSnapshot {
+        code,
+        activation,
+        moment,
+        budget,
+        values: _,
+        ..
+    } = quick;
+    Execution::new(
+        code,
+        activation,
+        moment,
+        budget,
+        ran.reads,
+        ran.writes,
+        ran.outcome,
+        ran.machine,
+    )
+}
+
+/// Runs a quick snapshot's code on its values, by the quick machine. None where that cannot tell how the run ends: it
+/// faults, or the budget is short, say. The execution is that of each snapshot that the quick one is part of, whatever
+/// values the slots have that the code does not name.
+///
+/// The only error is out of memory.
+pub fn run_quick(alloc: Global, quick: QuickSnapshot) -> Result<Option<Execution>, AllocError>
+    ensures { IfOk result (λ o. IfSome o (IsQuickEffectOf quick)) }
+{
+    match run_named(
+        alloc,
+        &quick.code,
+        quick.moment,
+        &quick.values,
+        quick.budget,
+    )? {
+        Some(ran) => Ok(Some(quick_execution_of(quick, ran))),
+        None => Ok(None),
+    }
 }
 
 /// Runs a snapshot's code on its values. Its reads are what it looked up before it had assigned it, and its writes what

@@ -39,7 +39,12 @@ fn place_at(places: &[SlotPlace], slot: usize) -> Option<SlotPlace>
 }
 
 /// The value of a slot.
-fn value_at(places: &[SlotPlace], values: &[Value], image: &[Value], slot: usize) -> Option<Value>
+pub(crate) fn value_at(
+    places: &[SlotPlace],
+    values: &[Value],
+    image: &[Value],
+    slot: usize,
+) -> Option<Value>
     requires { are_numbered 0 0 places.now (length values.now) (length image.now) ≡ true }
     ensures { result ≡ slice_get (merged places.now values.now image.now) slot }
 {

@@ -5,7 +5,9 @@
 mod cells;
 mod restoring;
 mod rows;
+mod windows;
 
 pub use crate::cells::{stand, write_all};
 pub use crate::restoring::restore;
 pub use crate::rows::{fits, is_later, row_of};
+pub use crate::windows::window_values;

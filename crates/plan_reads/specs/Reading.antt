@@ -1,11 +1,14 @@
 -- What an execution has read.
-use Rattle.std.specs.Prelude.{◌≡◌, ℕ, ◌==◌, None, Some, slice_get, true}
+use Rattle.std.specs.Prelude.{◌≡◌, ℕ, List, ◌==◌, None, Some, slice_get, true}
 use Rattle.std.specs.List.{list_any}
 use Rattle.st_trees.specs.SourceViews.{source_view}
+use Rattle.st_words.specs.Values.{Datum}
 use Rattle.st_types.specs.Asked.{IsAsked}
 use Rattle.st_types.specs.Slots.{Slot, variables_in, inputs_in}
 use Rattle.coded_runs.specs.Effects.{Effect}
 use Rattle.coded_runs.specs.Executions.{IsEffectOf}
+use Rattle.coded_runs.specs.QuickExecutions.{IsQuickEffectOf}
+use Rattle.coded_runs.specs.declared.quick_snapshot.QuickSnapshot.{QuickSnapshot}
 use Rattle.coded_runs.specs.declared.snapshot.Snapshot.{Snapshot}
 use Rattle.config.specs.declared.plan.Plan.{Plan}
 use Rattle.config.specs.declared.task.ProgramInstance.{ProgramInstance}
@@ -29,3 +32,15 @@ AsksForReads plan p snapshot = (effect : Effect) (k : ℕ) (l : Slot) → IsEffe
 abbrev pub ReadsAreAskedFor : Plan → Snapshot → Type 0
 ReadsAreAskedFor plan snapshot = (p : ProgramInstance)
     → slice_get plan.programs.items snapshot.activation.program ≡ Some p → AsksForReads plan p snapshot
+
+-- The same of an execution of a quick snapshot, over the variables and inputs that these values of all slots are.
+abbrev pub AsksForQuickReads : Plan → ProgramInstance → List Datum → QuickSnapshot → Type 0
+AsksForQuickReads plan p slots quick = (effect : Effect) (k : ℕ) (l : Slot) → IsQuickEffectOf quick effect
+    → slice_get (slots_of_plan plan) k ≡ Some l → l.path.owner ≡ None → Reads effect k
+    → IsAsked (program_numbered (source_view plan.text.value) p.number) quick.budget
+    (variables_in (slots_of_plan plan) slots) (inputs_in (slots_of_plan plan) slots) quick.moment l.path
+
+-- So the program of its activation does.
+abbrev pub QuickReadsAreAskedFor : Plan → List Datum → QuickSnapshot → Type 0
+QuickReadsAreAskedFor plan slots quick = (p : ProgramInstance)
+    → slice_get plan.programs.items quick.activation.program ≡ Some p → AsksForQuickReads plan p slots quick

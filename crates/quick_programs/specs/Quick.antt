@@ -42,6 +42,10 @@ pub record AreIn (window : List ℕ) (slots values : List Datum) : Type 0 where
   pub long : length values ≡ length window
   pub each : (w k : ℕ) → slice_get window w ≡ Some k → slice_get values w ≡ slice_get slots k
 
+-- Values of a window's slots, in its order, are of the types that these slots have.
+abbrev pub AreTyped : List Kind → List ℕ → List Datum → Type 0
+AreTyped kinds window values = map (slice_get kinds) window ≡ map (λ v. Some v.kind) values
+
 -- the words that a run begins with over the values of a window's slots, and no notes
 abbrev pub begun : QuickParts → List Datum → Memory
 begun p vs = record {
@@ -93,6 +97,12 @@ pub record IsAnswering (instrs : List Instr) (kinds : List Kind) (extra : ℕ) (
     pub sound : IsSound p.code p.words p.words
     pub slots : IsWindow (length kinds) window
     pub answers : AnswersFor instrs kinds extra p window
+
+-- A run over the values of a window's slots has ended so of all slots that have these values there, whatever values the
+-- others have: they all are of the slots' types.
+abbrev pub Wherever : List Kind → List ℕ → List Datum → (List Datum → Type 0) → Type 0
+Wherever kinds window values Ends = (slots : List Datum) → kinds_of slots ≡ kinds → AreIn window slots values
+    → Ends slots
 
 -- a program in quick code beside its instructions
 pub record QuickView : Type 0 where

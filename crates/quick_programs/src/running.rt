@@ -1,10 +1,11 @@
 //! Runs of programs in quick code.
 
-ghost use Rattle.std.specs.Prelude.{◌≡◌, IfOk, IfSome, length};
+ghost use Rattle.std.specs.Prelude.{◌≡◌, ◌≤◌, IfOk, IfSome, length};
 ghost use Rattle.quick_code.specs.QuickRuns.{EndsWell, left};
 ghost use Rattle.quick_code.specs.Soundness.{IsSound};
 ghost use Rattle.quick_machine.specs.Going.{memory};
-ghost use Rattle.quick_programs.specs.Quick.{AreIn, EndsWith, frame_of, HasEnded, kinds_of, run_of};
+ghost use Rattle.quick_programs.specs.Quick.{AreIn, AreTyped, EndsWith, frame_of, HasEnded, kinds_of, run_of, Wherever};
+ghost use Rattle.quick_programs.specs.Told.{AreHeld};
 
 use crate::memory::{marks_of, values_in, values_left, words_over};
 use crate::program::QuickProgram;
@@ -43,74 +44,75 @@ fn run_over(
     }
 }
 
-/// A run over the words of slots of a window that ended well: the values that it began with, and what it left.
-#[derive(Drop)]
-struct Ended {
-    begun: Vec<Value>,
-    left: Left,
-}
-
-/// A run that ended well, of the slots of its window, in order: the values that it began with, those that it left, and
-/// their marks; and how many ticks are left. All other slots are as they were, and unmarked.
+/// A run that ended well, of the slots of its window, in order: the values that it left, and their marks. The ticks are
+/// those that are left.
 #[derive(Drop)]
 pub struct QuickRun {
-    pub begun: Vec<Value>,
     pub values: Vec<Value>,
     pub marks: Vec<Mark>,
     pub ticks: u32,
 }
 
 impl QuickProgram {
+    /// The values of the slots of the window, of these of all slots.
+    ///
+    /// The only error is out of memory.
+    pub fn named(&self, alloc: Global, slots: &[Value]) -> Result<Vec<Value>, AllocError>
+        requires { kinds_of slots.now ≡ self.now.kinds }
+        ensures values { IfOk result (λ values. AreIn self.now.window slots.now values.items) }
+        ensures typed { IfOk result (λ values. AreTyped self.now.kinds self.now.window values.items) }
+    {
+        values_in(alloc, slots, self.window())
+    }
+
     /// Runs the quick code over the words of values. None where the machine cannot tell how the run ends.
     fn run_words(
         &self,
         alloc: Global,
-        slots: &[Value],
+        values: &[Value],
         now: u64,
         budget: u32,
-    ) -> Result<Option<Ended>, AllocError>
-        requires { kinds_of slots.now ≡ self.now.kinds }
-        ensures begun { IfOk result (λ o. IfSome o (λ r. AreIn self.now.window slots.now r.begun.items)) }
-        ensures ended { IfOk result (λ o. IfSome o (λ r. HasEnded (frame_of self.now.parts self.now.window
-            self.now.kinds now) slots.now (left (memory r.left.words.items r.left.notes.items) r.left.ticks)
-            (run_of self.now.instrs self.now.extra now slots.now budget))) }
+    ) -> Result<Option<Left>, AllocError>
+        requires { AreTyped self.now.kinds self.now.window values.now }
+        ensures ended { IfOk result (λ o. IfSome o (λ l. Wherever self.now.kinds self.now.window values.now
+            (λ slots. HasEnded (frame_of self.now.parts self.now.window self.now.kinds now) slots
+            (left (memory l.words.items l.notes.items) l.ticks)
+            (run_of self.now.instrs self.now.extra now slots budget)))) }
+        ensures held { IfOk result (λ o. IfSome o (λ l. AreHeld (kinds_of values.now) l.words.items)) }
+        ensures words { IfOk result (λ o. IfSome o (λ l. length values.now ≤ length l.words.items)) }
+        ensures notes { IfOk result (λ o. IfSome o (λ l. length values.now ≤ length l.notes.items)) }
     {
         let parts = &*self.parts;
-        let begun = values_in(alloc, slots, &self.window)?;
-        let words = words_over(alloc, &begun, &parts.constants, parts.words)?;
+        let words = words_over(alloc, values, &parts.constants, parts.words)?;
         let notes = vec![in alloc; 0; parts.words]?;
-        match run_over(&parts.code, words, notes, now, budget) {
-            Some(left) => Ok(Some(Ended { begun, left })),
-            None => Ok(None),
-        }
+        Ok(run_over(&parts.code, words, notes, now, budget))
     }
 
-    /// Runs the quick code over the values of its slots at a moment, in milliseconds, with a budget of ticks. None
-    /// where
-    /// the machine cannot tell how the run ends. It goes over the slots of the window alone.
+    /// Runs the quick code at a moment, in milliseconds, with a budget of ticks, over the values of the slots of the
+    /// window, in order. None where the machine cannot tell how the run ends. Whatever values the other slots have, the
+    /// run of the instructions over all slots ends so.
     ///
     /// The only error is out of memory.
     pub fn run(
         &self,
         alloc: Global,
-        slots: &[Value],
+        values: &[Value],
         now: u64,
         budget: u32,
     ) -> Result<Option<QuickRun>, AllocError>
-        requires { kinds_of slots.now ≡ self.now.kinds }
-        ensures begun { IfOk result (λ o. IfSome o (λ r. AreIn self.now.window slots.now r.begun.items)) }
-        ensures ends { IfOk result (λ o. IfSome o (λ r. EndsWith self.now.window slots.now r.ticks r.values.items
-            r.marks.items (run_of self.now.instrs self.now.extra now slots.now budget))) }
+        requires { AreTyped self.now.kinds self.now.window values.now }
+        ensures { IfOk result (λ o. IfSome o (λ r. Wherever self.now.kinds self.now.window values.now
+            (λ slots. EndsWith self.now.window slots r.ticks r.values.items r.marks.items
+            (run_of self.now.instrs self.now.extra now slots budget)))) }
     {
-        match self.run_words(alloc, slots, now, budget)? {
-            Some(ended) => {
-                let values = values_left(alloc, &ended.begun, &ended.left.words)?;
-                let marks = marks_of(alloc, ended.begun.len(), &ended.left.notes)?;
+        match self.run_words(alloc, values, now, budget)? {
+            Some(left) => {
+                let left_values = values_left(alloc, values, &left.words)?;
+                let marks = marks_of(alloc, values.len(), &left.notes)?;
                 Ok(Some(QuickRun {
-                    begun: ended.begun,
-                    values,
+                    values: left_values,
                     marks,
-                    ticks: ended.left.ticks,
+                    ticks: left.ticks,
                 }))
             }
             None => Ok(None),

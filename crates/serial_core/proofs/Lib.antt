@@ -10,3 +10,4 @@ pub mod RetainedLemmas
 pub mod StartLemmas
 pub mod ResumeLemmas
 pub mod ReadLemmas
+mod QuickTaking

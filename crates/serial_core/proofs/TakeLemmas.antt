@@ -88,6 +88,16 @@ module _ {plan : Plan} {start values : List Datum} {before : Option ℕ} {sample
       subst (λ ps. IsBest ps (past_of (plan_view plan) (store_in plan start) log).history resource a) kept.schedules
       (best _ kept.of_past.ready_is)
 
+  -- what the list tells of the best activation
+  pub best_told : (resource : ℕ) (o : Option Activation)
+      → ((h : History) → IsReadyOf h ready
+      → MatchOption o (NoneWaits ready.schedules h resource) (IsBest ready.schedules h resource))
+      → MatchOption o
+      (NoneWaits (schedules_of (plan_view plan)) (past_of (plan_view plan) (store_in plan start) log).history resource)
+      (IsBest (schedules_of (plan_view plan)) (past_of (plan_view plan) (store_in plan start) log).history resource)
+  best_told resource None tells = NoneWaits-best resource tells
+  best_told resource (Some a) tells = IsBest-best resource a tells
+
   pub waits-program : (a : Activation)
       → Waits (schedules_of (plan_view plan)) (past_of (plan_view plan) (store_in plan start) log).history a
       → a.program < length plan.programs.items

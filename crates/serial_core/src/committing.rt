@@ -1,10 +1,11 @@
 //! Committing an execution.
 
-ghost use Rattle.std.specs.Prelude.{◌≡◌, ◌<◌, ◌↔◌, IsTrue, length};
+ghost use Rattle.std.specs.Prelude.{◌≡◌, ◌<◌, ◌↔◌, IsTrue, Ok, length, true};
 ghost use Rattle.st_plans.specs.Due.{History};
 ghost use Rattle.ready_list.specs.Ready.{IsReadyOf, Removes};
 ghost use Rattle.st_plans.specs.Logs.{row_at};
 ghost use Rattle.serial_core.specs.Steps.{Commits, Judges, IsOwn, IsOwnOf, made, stands, waits_in};
+ghost use Rattle.serial_core.specs.Quick.{IsOwnCode};
 
 use crate::refusal::{Answer, Refusal};
 use crate::serial::SerialCore;
@@ -14,15 +15,20 @@ use core_parts::{row_of, stand, write_all};
 use ready_list::ReadyList;
 use st_plans::{Activation, Entry, Row};
 
+/// Whether the execution is of its activation's row, under the plan's budget.
+fn is_timed(plan: &Plan, row: &Row, execution: &Execution) -> bool
+    ensures { IsTrue result ↔ ((execution.now.moment ≡ row.now.moment) × (execution.now.budget ≡ plan.now.budget)) }
+{
+    execution.moment() == row.moment() && execution.budget() == plan.budget
+}
+
 /// Whether the execution is of its activation's own program and row, under the plan's budget.
 fn is_own(plan: &Plan, row: &Row, execution: &Execution) -> bool
     requires there { execution.now.activation.program < length plan.now.programs.items }
     ensures { IsTrue result ↔ IsOwnOf plan.now row.now execution.now }
 {
     let program = execution.activation().program;
-    execution.moment() == row.moment()
-        && execution.budget() == plan.budget
-        && plan.programs[program].code.is(execution.code())
+    is_timed(plan, row, execution) && plan.programs[program].code.is(execution.code())
 }
 
 /// Takes an activation that is done off the list of those that wait.
@@ -90,6 +96,36 @@ impl SerialCore {
         Ok(self.stands(execution))
     }
 
+    /// Whether what an execution of its activation's own code read stands; or why it can't be committed.
+    fn judge_own(&self, execution: &Execution) -> Result<bool, Refusal>
+        requires own { IsOwnCode self.now execution.now }
+        ensures { Judges self.now execution.now result }
+    {
+        if self.log.len() >= self.room {
+            return Err(Refusal::Full);
+        }
+        if !self.waits(execution.activation()) {
+            return Err(Refusal::NotWaiting);
+        }
+        if !is_timed(&self.plan, self.row_for(execution.activation()), execution) {
+            return Err(Refusal::Foreign);
+        }
+        Ok(self.stands(execution))
+    }
+
+    /// Appends the Done of an execution that may be committed, and applies its writes.
+    fn append(&mut self, execution: Execution) -> Answer
+        requires { Judges self.old execution (Ok true) }
+        ensures { Commits self.old execution (Ok result) self.new }
+    {
+        let activation = execution.activation();
+        write_all(&self.plan.slots, &mut self.values, execution.writes());
+        self.outcomes.push_reserved(Some(execution.outcome()));
+        self.log.push_reserved(Entry::Done(activation));
+        let _ = take_off(&mut self.ready, activation);
+        Answer::Committed(self.log.len())
+    }
+
     /// Appends the execution's Done and applies its writes, if all that it read has its value still. It takes no
     /// memory.
     ///
@@ -98,14 +134,23 @@ impl SerialCore {
     pub fn commit(&mut self, execution: Execution) -> Result<Answer, Refusal>
         ensures { Commits self.old execution result self.new }
     {
-        if !self.judge(&execution)? {
-            return Ok(Answer::Stale);
+        if self.judge(&execution)? {
+            Ok(self.append(execution))
+        } else {
+            Ok(Answer::Stale)
         }
-        let activation = execution.activation();
-        write_all(&self.plan.slots, &mut self.values, execution.writes());
-        self.outcomes.push_reserved(Some(execution.outcome()));
-        self.log.push_reserved(Entry::Done(activation));
-        let _ = take_off(&mut self.ready, activation);
-        Ok(Answer::Committed(self.log.len()))
+    }
+
+    /// The same for an execution whose code is known to be that of its activation's program here. `commit` compares the
+    /// two, an instruction and a slot's type at a time; this does not, so it takes as long whatever the layout.
+    pub fn commit_own(&mut self, execution: Execution) -> Result<Answer, Refusal>
+        requires own { IsOwnCode self.old execution }
+        ensures { Commits self.old execution result self.new }
+    {
+        if self.judge_own(&execution)? {
+            Ok(self.append(execution))
+        } else {
+            Ok(Answer::Stale)
+        }
     }
 }

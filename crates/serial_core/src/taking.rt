@@ -1,13 +1,16 @@
 //! Taking a snapshot.
 
-ghost use Rattle.std.specs.Prelude.{◌≡◌, ◌<◌, length, map, Some, IfOk, IfErr};
-ghost use Rattle.serial_core.specs.Steps.{Takes, IsSnapshotIn, code_at, slots_for, waits_in};
+ghost use Rattle.std.specs.Prelude.{◌≡◌, ◌<◌, length, map, None, Some, IfOk, IfErr, IsFalse, MatchOption};
+ghost use Rattle.coded_programs.specs.declared.code.Code.{Code};
+ghost use Rattle.serial_core.specs.Steps.{Takes, IsSnapshotIn, code_at, none_waits, slots_for, waits_in};
+ghost use Rattle.serial_core.specs.Quick.{TakesQuick, IsBestIn, IsQuickSnapshotIn, IsTakenIn};
 
 use crate::refusal::Refusal;
 use crate::serial::SerialCore;
 use coded_programs::Code;
-use coded_runs::Snapshot;
+use coded_runs::{QuickSnapshot, Snapshot, Taken};
 use config::{Plan, merged_values};
+use core_parts::window_values;
 use st_plans::Activation;
 use std::alloc::{AllocError, Global};
 use std::sync::Arc;
@@ -18,6 +21,14 @@ fn code_of(plan: &Plan, program: usize) -> Result<Arc<Code>, AllocError>
     ensures { IfOk result (λ code. code_at plan.now program ≡ Some code.value) }
 {
     Arc::clone(&plan.programs[program].code)
+}
+
+/// Whether there is quick code of a program.
+fn has_quick_code(plan: &Plan, program: usize) -> bool
+    requires there { program < length plan.now.programs.items }
+    ensures { IsFalse result → (code : Code) → code_at plan.now program ≡ Some code → code.quick ≡ None }
+{
+    plan.programs[program].code.quick.is_some()
 }
 
 impl SerialCore {
@@ -53,15 +64,76 @@ impl SerialCore {
         Ok(Snapshot::new(code, activation, row.moment(), budget, slots))
     }
 
+    /// The best activation that waits on the resource; none where nothing waits there.
+    pub(crate) fn best(&self, resource: usize) -> Option<Activation>
+        ensures { MatchOption result (none_waits self.now resource) (IsBestIn self.now resource) }
+    {
+        self.ready.best(resource)
+    }
+
     /// A snapshot of the best activation that waits on the resource; none where nothing waits there, K6 out of memory.
     pub fn take(&self, alloc: Global, resource: usize) -> Result<Option<Snapshot>, Refusal>
         ensures { Takes self.now resource result }
     {
-        let Some(activation) = self.ready.best(resource) else {
+        let Some(activation) = self.best(resource) else {
             return Ok(None);
         };
         match self.snapshot_of(alloc, activation) {
             Ok(snapshot) => Ok(Some(snapshot)),
+            Err(_) => Err(Refusal::NoMemory),
+        }
+    }
+    /// The values of the slots that the code of an activation that waits names, as a snapshot; K6 out of memory.
+    fn quick_snapshot_of(
+        &self,
+        alloc: Global,
+        activation: Activation,
+    ) -> Result<QuickSnapshot, Refusal>
+        requires waits { waits_in self.now activation }
+        ensures activation { IfOk result (λ quick. quick.activation ≡ activation) }
+        ensures parts { IfOk result (IsQuickSnapshotIn self.now) }
+        ensures memory { IfErr result (λ e. e ≡ Refusal.NoMemory) }
+    {
+        let Ok(code) = self.code_for(activation) else {
+            return Err(Refusal::NoMemory);
+        };
+        let row = self.row_for(activation);
+        let Ok(values) = window_values(
+            alloc,
+            &self.plan.slots,
+            self.values(),
+            row.image(),
+            code.window(),
+        ) else {
+            return Err(Refusal::NoMemory);
+        };
+        let budget = self.plan().budget;
+        Ok(QuickSnapshot::new(code, activation, row.moment(), budget, values))
+    }
+
+    /// What a run of an activation that waits starts from; K6 out of memory.
+    pub(crate) fn taken_of(&self, alloc: Global, activation: Activation) -> Result<Taken, Refusal>
+        requires waits { waits_in self.now activation }
+        ensures taken { IfOk result (IsTakenIn self.now activation) }
+        ensures memory { IfErr result (λ e. e ≡ Refusal.NoMemory) }
+    {
+        if has_quick_code(&self.plan, activation.program) {
+            Ok(Taken::Quick(self.quick_snapshot_of(alloc, activation)?))
+        } else {
+            Ok(Taken::Whole(self.snapshot_of(alloc, activation)?))
+        }
+    }
+
+    /// What a run of the best activation that waits on the resource starts from: the values of the slots that its code
+    /// names, where there is quick code, and else a snapshot. None where nothing waits there, K6 out of memory.
+    pub fn take_quick(&self, alloc: Global, resource: usize) -> Result<Option<Taken>, Refusal>
+        ensures { TakesQuick self.now resource result }
+    {
+        let Some(activation) = self.best(resource) else {
+            return Ok(None);
+        };
+        match self.taken_of(alloc, activation) {
+            Ok(taken) => Ok(Some(taken)),
             Err(_) => Err(Refusal::NoMemory),
         }
     }

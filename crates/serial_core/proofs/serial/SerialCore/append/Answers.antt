@@ -5,19 +5,16 @@ use Rattle.run_cells.specs.Cells.{cut}
 use Rattle.serial_core.specs.Steps.{State, Judges}
 use Rattle.serial_core.proofs.CommitLemmas.{SerialInvariant-commit, IsTrueOf-same}
 use Rattle.serial_core.proofs.OutcomeLemmas.{outcomes_kept}
-use Rattle.serial_core.proofs.serial.SerialCore.commit.Goals as goal
+use Rattle.serial_core.proofs.serial.SerialCore.append.Goals as goal
 
 pub push_reserved-requires : goal.push_reserved-requires
 push_reserved-requires c =
-    let facts = subst (λ (st : State). Judges st c.args.execution (Ok c.in_ok-judge.field-0)) (sym c.self.view_is)
-    c.in_ok-judge.ensures in
+    let facts = subst (λ (st : State). Judges st c.args.execution (Ok true)) (sym c.self.view_is) c.requires in
     omega (arith, facts.0, outcomes_kept c.self.invariant.0, c.self.inside.log.ok.0, c.self.inside.outcomes.ok.0)
 
 pub invariant_of-self : goal.invariant_of-self
 invariant_of-self c =
-    let judged = subst (λ b. Judges c.args.self.now c.args.execution (Ok b)) c.if-not-branch.false
-    c.in_ok-judge.ensures in
-    let facts = subst (λ (st : State). Judges st c.args.execution (Ok true)) (sym c.self.view_is) judged in (
+    let facts = subst (λ (st : State). Judges st c.args.execution (Ok true)) (sym c.self.view_is) c.requires in (
       SerialInvariant-commit c.self.invariant.0 c.args.execution c.activation-activation.result
           c.activation-activation.ensures
           c.take_off.new.ready c.write_all.new.values.items (map cut c.writes.result.now)
@@ -25,9 +22,9 @@ invariant_of-self c =
           facts.1 facts.2 (IsTrueOf-same _ _ c.execution.view_is c.execution.invariant) facts.3
           c.writes.ensures (c.write_all.ensures
           ∙ ap (λ ps. written_variables ps c.self.inside.values.items (map cut c.writes.result.now))
-          (c.deref-2.ensures.value ∙ ap (λ p. p.slots.items) c.deref.ensures)) c.outcome.ensures c.push_reserved-2.ensures.items
-          c.push_reserved.ensures.items c.take_off.ensures.schedules c.take_off.ensures.number c.take_off.ensures.last
-          c.take_off.ensures.rows c.take_off.ensures.remove,
+          (c.deref-2.ensures.value ∙ ap (λ p. p.slots.items) c.deref.ensures)) c.outcome.ensures
+          c.push_reserved-2.ensures.items c.push_reserved.ensures.items c.take_off.ensures.schedules
+          c.take_off.ensures.number c.take_off.ensures.last c.take_off.ensures.rows c.take_off.ensures.remove,
       omega (
         arith,
         facts.0,

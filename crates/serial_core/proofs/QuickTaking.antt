@@ -1,0 +1,83 @@
+-- What is taken for a run of quick code.
+use Rattle.std.proofs.Common.{◌≡◌, ◌∙◌, ℕ, true, List, Option, Some, option_map, slice_get, refl, sym, ap}
+use Rattle.std.proofs.Common.{subst, Ok}
+use Rattle.st_words.specs.Values.{Datum}
+use Rattle.st_types.specs.Slots.{agrees}
+use Rattle.st_plans.specs.declared.entry.Activation.{Activation}
+use Rattle.st_plans.specs.Logs.{row_at}
+use Rattle.machine_code.specs.Tracking.{are_read, memory_of}
+use Rattle.coded_programs.specs.declared.code.Code.{Code}
+use Rattle.coded_programs.specs.Codes.{code_view}
+use Rattle.coded_runs.specs.Effects.{Effect}
+use Rattle.coded_runs.specs.Executions.{IsEffectOf}
+use Rattle.coded_runs.specs.QuickExecutions.{IsQuickEffectOf, run_over}
+use Rattle.coded_runs.specs.declared.quick_snapshot.QuickSnapshot.{QuickSnapshot}
+use Rattle.coded_runs.specs.declared.snapshot.Snapshot.{Snapshot}
+use Rattle.coded_runs.specs.declared.taken.Taken.{Taken}
+use Rattle.coded_runs.specs.declared.taken.Taken.TheVariants.{Quick, Whole}
+use Rattle.config.specs.declared.plan.Plan.{Plan}
+use Rattle.config.specs.declared.task.ProgramInstance.{ProgramInstance}
+use Rattle.plan_reads.specs.Reading.{QuickReadsAreAskedFor}
+use Rattle.plan_reads.proofs.PlanReads.{asks_for_quick_reads}
+use Rattle.serial_core.specs.Steps.{State, code_at, made, slots_for, stands, IsOwn, IsSnapshotIn}
+use Rattle.serial_core.specs.Quick.{IsBestIn, IsQuickSnapshotIn, IsTakenIn, TakesQuick}
+use Rattle.serial_core.proofs.ReadLemmas.{picked_stand, reads_stand}
+use Rattle.serial_core.proofs.TakeLemmas.{best_snapshot}
+
+one : (a b : Code) → ◌≡◌ {A = Option Code} (Some a) (Some b) → a ≡ b
+one a b e = cc
+
+-- what is read of it is asked for
+asked_for : (state : State) (quick : QuickSnapshot) → IsQuickSnapshotIn state quick
+    → QuickReadsAreAskedFor state.plan (slots_for state quick.activation) quick
+asked_for state quick parts p at =
+    asks_for_quick_reads state.plan quick.activation.program p (slots_for state quick.activation) quick at
+    (one quick.code.value p.code.value
+    (sym parts.code ∙ ap (option_map (λ (q : ProgramInstance). q.code.value)) at)) parts.kinds parts.values
+
+-- What is taken of the best activation is what is taken for the resource.
+pub best_taken : (state : State) (resource : ℕ) (a : Activation) (taken : Taken) → IsBestIn state resource a
+    → IsTakenIn state a taken → TakesQuick state resource (Ok (Some taken))
+best_taken state resource a (Quick quick) best is = record {
+  best = subst (IsBestIn state resource) (sym is.0) best;
+  parts = is.1;
+  asked = asked_for state quick is.1;
+}
+best_taken state resource a (Whole snapshot) best is = (is.1, best_snapshot state resource a snapshot best is.0 is.2)
+
+-- An execution of a quick snapshot is of its own program, and what it read stands.
+pub quick_own : (state : State) (quick : QuickSnapshot) (effect : Effect) → IsQuickSnapshotIn state quick
+    → IsQuickEffectOf quick effect → IsOwn state effect
+quick_own state quick effect parts is = record {
+  text = ap (λ (a : Activation). option_map code_view (code_at state.plan a.program)) is.activation
+      ∙ ap (option_map code_view) parts.code ∙ ap (λ (c : _). Some c) (sym is.code);
+  moment = is.moment ∙ parts.moment
+      ∙ ap (λ (a : Activation). (row_at (made state).rows a.row).moment) (sym is.activation);
+  budget = is.budget ∙ parts.budget;
+}
+
+pub quick_stands : (state : State) (quick : QuickSnapshot) (effect : Effect) → IsQuickSnapshotIn state quick
+    → IsQuickEffectOf quick effect → stands state effect ≡ true
+quick_stands state quick effect parts is =
+    let slots = slots_for state quick.activation in
+    let run = is.run slots parts.kinds parts.values in
+    ap (λ (a : Activation). agrees (slots_for state a) effect.reads) is.activation
+    ∙ ap (agrees slots) run.reads
+    ∙ picked_stand (are_read (memory_of (run_over quick slots)).marks) 0 slots slots refl
+
+-- So is one of a snapshot.
+pub whole_own : (state : State) (snapshot : Snapshot) (effect : Effect) → IsSnapshotIn state snapshot
+    → IsEffectOf snapshot effect → IsOwn state effect
+whole_own state snapshot effect parts is = record {
+  text = ap (λ (a : Activation). option_map code_view (code_at state.plan a.program)) is.activation
+      ∙ ap (option_map code_view) parts.code ∙ ap (λ (c : _). Some c) (sym is.code);
+  moment = is.moment ∙ parts.moment
+      ∙ ap (λ (a : Activation). (row_at (made state).rows a.row).moment) (sym is.activation);
+  budget = is.budget ∙ parts.budget;
+}
+
+pub whole_stands : (state : State) (snapshot : Snapshot) (effect : Effect) → IsSnapshotIn state snapshot
+    → IsEffectOf snapshot effect → stands state effect ≡ true
+whole_stands state snapshot effect parts is =
+    ap (λ (a : Activation). agrees (slots_for state a) effect.reads) is.activation
+    ∙ ap (λ vs. agrees vs effect.reads) (sym parts.slots) ∙ reads_stand snapshot effect is

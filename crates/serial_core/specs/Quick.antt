@@ -1,0 +1,67 @@
+-- What is taken for a run of quick code.
+use Rattle.std.specs.Prelude.{◌≡◌, ℕ, ◌<◌, ◌≤◌, length, Option, Some, None, Result, Ok, Err, option_map}
+use Rattle.st_plans.specs.declared.entry.Activation.{Activation}
+use Rattle.st_plans.specs.declared.entry.Entry.TheVariants.{Done}
+use Rattle.st_plans.specs.Due.{IsBest}
+use Rattle.st_plans.specs.Plans.{schedules_of}
+use Rattle.st_plans.specs.Logs.{row_at}
+use Rattle.quick_programs.specs.Quick.{AreIn, kinds_of}
+use Rattle.coded_programs.specs.Codes.{code_view}
+use Rattle.coded_programs.specs.Windows.{window_of}
+use Rattle.coded_runs.specs.Effects.{Effect}
+use Rattle.coded_runs.specs.declared.quick_snapshot.QuickSnapshot.{QuickSnapshot}
+use Rattle.coded_runs.specs.declared.taken.Taken.{Taken}
+use Rattle.coded_runs.specs.declared.taken.Taken.TheVariants.{Quick, Whole}
+use Rattle.config.specs.PlanViews.{plan_view}
+use Rattle.plan_reads.specs.Reading.{QuickReadsAreAskedFor}
+use Rattle.serial_core.specs.declared.refusal.Refusal.{Refusal}
+use Rattle.serial_core.specs.declared.refusal.Refusal.TheVariants.{Full, NoMemory}
+use Rattle.serial_core.specs.Steps.{State, grown, made, slots_for, code_at, none_waits, IsSnapshotIn, IsSnapshotOf}
+
+-- the activation is the best of the resource
+abbrev pub IsBestIn : State → ℕ → Activation → Type 0
+IsBestIn state resource a = IsBest (schedules_of (plan_view state.plan)) (made state).history resource a
+
+-- a quick snapshot with its activation's code, the moment of its row, and the values of the slots that the code names,
+-- which are of the types that the code has for them
+pub record IsQuickSnapshotIn (state : State) (quick : QuickSnapshot) : Type 0 where
+  pub code : code_at state.plan quick.activation.program ≡ Some quick.code.value
+  pub moment : quick.moment ≡ (row_at (made state).rows quick.activation.row).moment
+  pub budget : quick.budget ≡ state.plan.budget
+  pub values : AreIn (window_of quick.code.value) (slots_for state quick.activation) quick.values.items
+  pub kinds : kinds_of (slots_for state quick.activation) ≡ quick.code.value.kinds.value.items
+
+-- what is taken for a resource where the code is quick: that of the best activation; what an execution of it reads of
+-- globals and inputs, its program asks for
+pub record IsQuickSnapshotOf (state : State) (resource : ℕ) (quick : QuickSnapshot) : Type 0 where
+  pub best : IsBestIn state resource quick.activation
+  pub parts : IsQuickSnapshotIn state quick
+  pub asked : QuickReadsAreAskedFor state.plan (slots_for state quick.activation) quick
+
+-- What is taken of an activation: what its code names where there is quick code, and all slots where there is none.
+abbrev pub IsTakenIn : State → Activation → Taken → Type 0
+IsTakenIn state a (Quick quick) = (quick.activation ≡ a) × IsQuickSnapshotIn state quick
+IsTakenIn state a (Whole snapshot) =
+    (snapshot.activation ≡ a) × (snapshot.code.value.quick ≡ None) × IsSnapshotIn state snapshot
+
+-- The same for a resource.
+abbrev pub TakesQuick : State → ℕ → Result (Option Taken) Refusal → Type 0
+TakesQuick state resource (Ok None) = none_waits state resource
+TakesQuick state resource (Ok (Some (Quick quick))) = IsQuickSnapshotOf state resource quick
+TakesQuick state resource (Ok (Some (Whole snapshot))) =
+    (snapshot.code.value.quick ≡ None) × IsSnapshotOf state resource snapshot
+TakesQuick state resource (Err NoMemory) = none_waits state resource → ⊥
+TakesQuick state resource (Err _) = ⊥
+
+-- the code of an execution is that of its activation's program
+abbrev pub IsOwnCode : State → Effect → Type 0
+IsOwnCode state effect = option_map code_view (code_at state.plan effect.activation.program) ≡ Some effect.code
+
+-- what is answered where an activation that waits is run and committed in one step, and the core after it
+abbrev pub CommitsOne : State → Activation → Result (Option ℕ) Refusal → State → Type 0
+CommitsOne old a (Ok (Some n)) new =
+    (length old.log < old.room) × (new ≡ grown old (Done a)) × (n ≡ length new.log)
+CommitsOne old a (Ok None) new = ⊥
+CommitsOne old a (Err NoMemory) new = new ≡ old
+CommitsOne old a (Err Full) new = (old.room ≤ length old.log) × (new ≡ old)
+CommitsOne old a (Err _) new = ⊥
