@@ -17,3 +17,4 @@ pub mod Given
 pub mod Evaluated
 mod Increasing
 pub mod Sums
+pub mod Targeted

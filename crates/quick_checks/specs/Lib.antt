@@ -3,3 +3,4 @@ pub mod Choices
 pub mod Within
 pub mod Members
 pub mod Sums
+pub mod Targets

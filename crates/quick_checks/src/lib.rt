@@ -8,6 +8,7 @@ mod blocks;
 mod calls;
 mod cases;
 mod choices;
+mod choosing;
 mod conditions;
 mod constants;
 mod counting;
@@ -31,6 +32,7 @@ mod turning;
 mod windows;
 mod within;
 
+pub use choosing::{Choice, choice_of, unequal_to_0};
 pub use constants::{literal_value, number_for};
 pub use draft::Landing;
 pub use instructions::{branch_for, branch_for_by, instr_by, instr_for, truth_branch, truth_for};

@@ -12,6 +12,7 @@ ghost use Rattle.quick_trees.specs.Points.{AreNoted};
 
 use crate::blocks::check_invoked;
 use crate::cases::check_case;
+use crate::choosing::{check_choice, choice_of, is_choice_next};
 use crate::conditions::check_test;
 use crate::counting::check_for;
 use crate::cursor::{
@@ -97,6 +98,12 @@ fn check_stmt(
             check_stored(draft, library, scope, anchor, subscript, value, depth, at)?;
         }
         SlotStmt::If(arms, otherwise) => {
+            if let Some(choice) = choice_of(arms, otherwise) {
+                if is_choice_next(draft, at) {
+                    check_choice(draft, library, scope, &choice, depth, at)?;
+                    return Ok(());
+                }
+            }
             check_if(draft, library, scope, arms, otherwise, depth, exits, at)?;
         }
         SlotStmt::For {

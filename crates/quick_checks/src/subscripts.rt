@@ -19,13 +19,13 @@ use st_words::{BinaryOperator, Kind, is_wide};
 
 /// A constant that an instruction can have.
 #[derive(Clone, Copy)]
-struct Constant {
-    kind: Kind,
-    word: i32,
+pub struct Constant {
+    pub kind: Kind,
+    pub word: i32,
 }
 
 /// The constant that an expression is, if an instruction can have it.
-fn constant_of(expression: &SlotExpr) -> Option<Constant>
+pub fn constant_of(expression: &SlotExpr) -> Option<Constant>
     ensures { IfSome result (λ c. IsNumber (slot_expr_view expression.now) c.kind c.word) }
 {
     let SlotExpr::Constant(literal) = expression else {

@@ -214,6 +214,15 @@ impl Draft {
         }
     }
 
+    /// Whether it is known here that the program has looked a variable up, or assigned it.
+    pub fn is_touched(&self, unit: Unit, anchor: Anchor) -> Result<bool, Stop> {
+        if self.is_lost || !unit.is_noted() {
+            return Ok(true);
+        }
+        let noting = self.known.at(unit.word_of(anchor)? as usize)?;
+        Ok(noting.at_look() == Some(noting))
+    }
+
     /// The program assigns a value here.
     pub fn assign(&mut self, unit: Unit, anchor: Anchor) -> Result<(), Stop> {
         if self.is_lost || !unit.is_noted() {

@@ -10,6 +10,7 @@ mod block_surveys;
 mod blocks;
 mod calls;
 mod cases;
+mod choosing;
 mod conditions;
 mod constants;
 mod draft;

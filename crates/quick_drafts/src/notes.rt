@@ -1,6 +1,7 @@
 //! What is noted before statements.
 
 use crate::blocks::{Invocation, note_invocation};
+use crate::choosing::{cheap_choice, note_choice};
 use crate::draft::Draft;
 use crate::spot::below;
 use crate::stop::Stop;
@@ -74,8 +75,10 @@ pub fn note_statement(
                 draft.note_assignment(unit.word_of(place.anchor)?)?;
             }
         }
-        SlotStmt::If(arms, _) => {
-            if let Some(arm) = arms.first() {
+        SlotStmt::If(arms, otherwise) => {
+            if let Some(choice) = cheap_choice(unit, draft, arms, otherwise)? {
+                note_choice(unit, draft, choice, levels)?;
+            } else if let Some(arm) = arms.first() {
                 note_looks(unit, draft, &arm.condition, levels)?;
             }
         }

@@ -2,6 +2,7 @@
 
 use crate::blocks::{Invocation, put_invocation};
 use crate::cases::cases_of;
+use crate::choosing::{cheap_choice, put_choice};
 use crate::conditions::{Branch, put_test};
 use crate::draft::Draft;
 use crate::known::Ways;
@@ -62,7 +63,10 @@ fn put_stmt(
             put_assignment(unit, draft, place, value, spot.inside()?)?;
         }
         SlotStmt::If(arms, otherwise) => {
-            put_if(unit, draft, arms, otherwise, spot.inside()?, exits)?;
+            match cheap_choice(unit, draft, arms, otherwise)? {
+                Some(choice) => put_choice(unit, draft, choice, spot.inside()?)?,
+                None => put_if(unit, draft, arms, otherwise, spot.inside()?, exits)?,
+            }
         }
         SlotStmt::Case(selector, arms, otherwise) => {
             put_case(

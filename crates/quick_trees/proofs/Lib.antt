@@ -15,6 +15,7 @@ pub mod Testing
 pub mod Running
 pub mod Looping
 pub mod Invoking
+pub mod Choosing
 pub mod Counting
 pub mod Statements
 pub mod Beginnings

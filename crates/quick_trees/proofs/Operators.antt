@@ -835,7 +835,7 @@ less_shifted x y s = grind (arith, ints)
 pub at_most_shifted : (x y s : ℤ) → int_le (x +ℤ s) (y +ℤ s) ≡ int_le x y
 at_most_shifted x y s = grind (arith, ints)
 
-equal_shifted : (x y s : ℤ) → int_eq (x +ℤ s) (y +ℤ s) ≡ int_eq x y
+pub equal_shifted : (x y s : ℤ) → int_eq (x +ℤ s) (y +ℤ s) ≡ int_eq x y
 equal_shifted x y s =
     same_from_decides (int_eq (x +ℤ s) (y +ℤ s)) (int_eq x y) (Decides-int_eq (x +ℤ s) (y +ℤ s))
     (Decides-like (int_eq x y) (ap (λ z. z +ℤ s))

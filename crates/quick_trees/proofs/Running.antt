@@ -311,7 +311,7 @@ module _ (s : Setting) where
       }
 
   -- a value is assigned to a slot that a place leads to
-  assigns : (l : Place) (y : SlotExpr) (tr tr' tr'' : Tracked) (a b c k : ℕ) (t : Kind) (w old : ℤ)
+  pub assigns : (l : Place) (y : SlotExpr) (tr tr' tr'' : Tracked) (a b c k : ℕ) (t : Kind) (w old : ℤ)
       → marked_value z tr y a ≡ Ok ((datum_at t w, tr'), b) → marked_place z tr' l b ≡ Ok ((k, tr''), c)
       → slice_get tr''.values k ≡ Some (datum_at t old) → IsHeld (datum_at t w)
       → marked_assigning z l y tr a ≡ Ok (goes_on (written tr'' k (datum_at t w)), c)

@@ -1,7 +1,7 @@
 -- Code that stands for statements does what they mean.
 use Rattle.std.proofs.Common.{◌≡◌, ℕ, ◌+◌, ◌-◌, ◌≤◌, ◌+ℤ◌, ℤ, Bool, true, false, Option, Some, None, refl, ap}
-use Rattle.std.proofs.Common.{subst, ◌∙◌, arith}
-use Rattle.std.specs.Prelude.{if◌then◌else◌, slice_get}
+use Rattle.std.proofs.Common.{subst, ◌∙◌, arith, inl, inr}
+use Rattle.std.specs.Prelude.{◌⊎◌, if◌then◌else◌, slice_get}
 use Rattle.std.specs.List.{list_any}
 use Rattle.st_words.specs.Words.{datum_at, number_at}
 use Rattle.st_types.specs.Execution.{label_holds}
@@ -24,7 +24,7 @@ use Rattle.quick_trees.specs.Pieces.{AreBoth, IsArm, IsLoop, IsUntil}
 use Rattle.quick_trees.specs.Points.{Joins, Meets, Part, along}
 use Rattle.quick_trees.specs.QuickMemory.{Ends, Frame}
 use Rattle.quick_trees.specs.Sites.{base_of}
-use Rattle.quick_trees.specs.Standing.{ArmsStand, ChosenStand, Exits, IsAssignment, IsCase, IsFor, IsStored}
+use Rattle.quick_trees.specs.Standing.{ArmsStand, ChosenStand, Exits, IsAssignment, IsCase, IsChosen, IsFor, IsStored}
 use Rattle.quick_trees.specs.Standing.{IsTestedFor, StandsFor, StmtsStand, part_by, IsStoredWithin, IsInvoked}
 use Rattle.quick_trees.proofs.Stepping.{Follows, has_taken, stepped}
 use Rattle.quick_trees.proofs.Memories.{spares_kept}
@@ -35,6 +35,7 @@ use Rattle.quick_trees.proofs.Reading.{Is, reads}
 use Rattle.quick_trees.proofs.Running.{Does, HasRun, does_arm, does_assign, does_exit, does_nothing, does_return}
 use Rattle.quick_trees.proofs.Running.{does_store_within, does_store, gives_same, in_turn, noting, run_joined, ticked}
 use Rattle.quick_trees.proofs.Looping.{does_repeat, does_while}
+use Rattle.quick_trees.proofs.Choosing.{does_choice}
 use Rattle.quick_trees.proofs.Counting.{does_for}
 use Rattle.quick_trees.proofs.Invoking.{does_invoke}
 
@@ -80,6 +81,12 @@ module _ (s : Setting) where
         (does_chosen w (along r.last went.way) q (r.chosen w went.way went.is) one.memory one.tracked rest site one.is
         went.ends))
 
+  -- one part or another
+  either : (run : Tracked → Run MarkedEnd) (d : ℕ) (e : Exits) (one other : Part) → Does s run d e one
+      → Does s run d e other → Does s run d e (λ p q. one p q ⊎ other p q)
+  either run d e one other does does_other p q (inl is) = does p q is
+  either run d e one other does does_other p q (inr is) = does_other p q is
+
   -- a part that is joined to what follows
   joins_on : (run : Tracked → Run MarkedEnd) (d : ℕ) (e : Exits) (part : Part) → Does s run d e part
       → Does s run d e (AreBoth part (Joins s.frame))
@@ -110,8 +117,12 @@ module _ (s : Setting) where
         (IsInvoked s.frame s.site s.units a code arguments d) (does_invoke s a code arguments d e)
     does_stmt (IF arms otherwise) d e =
         ticked s (marked_exec_arms z arms (marked_exec_all z otherwise)) d e
+        (λ p q. IsChosen s.frame s.site s.units arms otherwise d p q
+        ⊎ ArmsStand s.frame s.site s.units arms (StmtsStand s.frame s.site s.units otherwise d e) d e p q)
+        (either (marked_exec_arms z arms (marked_exec_all z otherwise)) d e
+        (IsChosen s.frame s.site s.units arms otherwise d)
         (ArmsStand s.frame s.site s.units arms (StmtsStand s.frame s.site s.units otherwise d e) d e)
-        (does_arms arms otherwise d e (does_stmts otherwise d e))
+        (does_choice s arms otherwise d e) (does_arms arms otherwise d e (does_stmts otherwise d e)))
     does_stmt (CASE x arms otherwise) d e =
         ticked s (λ tr. λ b. follow (marked_value z tr x b)
         (λ r. marked_exec_case z r.0.number arms (marked_exec_all z otherwise) r.1)) d e

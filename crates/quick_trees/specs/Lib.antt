@@ -5,6 +5,7 @@ pub mod Points
 pub mod Sites
 pub mod Instructions
 pub mod Pieces
+pub mod Straight
 pub mod Functions
 pub mod Counting
 pub mod Standing
@@ -14,6 +15,7 @@ pub mod Example
 pub mod LoopExample
 pub mod ShortForExample
 pub mod VariableStepExample
+pub mod ChoiceExample
 pub mod CountExample
 pub mod CallExample
 pub mod ArrayExample

@@ -10,6 +10,7 @@ ghost use Rattle.quick_trees.specs.BlockExample.{block_body, block_code, block_f
 ghost use Rattle.quick_trees.specs.BlockExample.{block_words};
 ghost use Rattle.quick_trees.specs.CallExample.{call_body, call_code, call_frame, call_library, call_words};
 ghost use Rattle.quick_trees.specs.CaseExample.{case_body, case_code, case_frame, case_ways, case_words};
+ghost use Rattle.quick_trees.specs.ChoiceExample.{choice_body, choice_code, choice_frame, choice_slots, choice_words};
 ghost use Rattle.quick_trees.specs.ConstantExample.{constant_body, constant_code, constant_frame, constant_slots};
 ghost use Rattle.quick_trees.specs.ConstantExample.{constant_words};
 ghost use Rattle.quick_trees.specs.CountExample.{count_body, count_code, count_frame, count_slots, count_words};
@@ -42,6 +43,19 @@ pub fn a_program_in_quick_code()
     ensures program { marked_ran in_runs no_units 0 its_body 0 0 (its_slots 0 3 untouched untouched) 30
         ≡ Ok (goes_on (its_slots 10 3 (mark true true) (mark true false)), 5) }
     ensures short { exec its_code [] 0 50 0 (its_words (pos 0) (pos 3) 0 0) 24 ≡ None }
+{}
+
+/// An IF that assigns one of two values. Its code stands for it, and has no branch: it makes both. From 3, which is odd,
+/// both come to 6, and from 2 to 2. Each takes two ticks. With one tick the code cannot tell.
+pub fn a_choice_in_quick_code()
+    ensures stands { IsProgram choice_frame no_units 0 0 choice_body }
+    ensures odd { exec choice_code [] 0 50 0 (choice_words 3 0 0 0) 10 ≡ Some (left (choice_words 6 1 6 3) 8) }
+    ensures even { exec choice_code [] 0 50 0 (choice_words 2 0 0 0) 10 ≡ Some (left (choice_words 2 0 7 3) 8) }
+    ensures program { marked_ran in_runs no_units 0 choice_body 0 0 (choice_slots 3 untouched) 10
+        ≡ Ok (goes_on (choice_slots 6 (mark true true)), 8) }
+    ensures other { marked_ran in_runs no_units 0 choice_body 0 0 (choice_slots 2 untouched) 10
+        ≡ Ok (goes_on (choice_slots 2 (mark true true)), 8) }
+    ensures short { exec choice_code [] 0 50 0 (choice_words 3 0 0 0) 1 ≡ None }
 {}
 
 /// A FOR over the elements of an array. Its code stands for it. From 10 and the elements 1, 2 and 3 both make the

@@ -240,3 +240,12 @@ invariant-cases::check_case_arms-loop-index l = Always l.draft l.library l.scope
 
 abbrev pub decreases-cases::check_case_arms-loop-index : goal.decreases-cases::check_case_arms-loop-index
 decreases-cases::check_case_arms-loop-index l = length l.arms - l.index
+
+abbrev pub decreases-choosing::check_choice : goal.decreases-choosing::check_choice
+decreases-choosing::check_choice l = 4 * (weight (filled (slot_library_view l.library.now)) l.scope.now.calls
+    + (expr_size (slot_expr_view l.choice.now.condition.now) + expr_size (slot_expr_view l.choice.now.yes.now)
+    + expr_size (slot_expr_view l.choice.now.no.now))) + 3
+
+abbrev pub decreases-choosing::check_asked : goal.decreases-choosing::check_asked
+decreases-choosing::check_asked l = 4 * (weight (filled (slot_library_view l.library.now)) l.scope.now.calls
+    + expr_size (slot_expr_view l.condition.now)) + 1

@@ -93,3 +93,9 @@ invariant-within::put_within-loop-number l = l.spot.levels ≤ l.fn.spot.levels
 
 abbrev pub decreases-subscripts::put_subscript : goal.decreases-subscripts::put_subscript
 decreases-subscripts::put_subscript l = l.spot.levels
+
+abbrev pub decreases-choosing::put_choice : goal.decreases-choosing::put_choice
+decreases-choosing::put_choice l = l.spot.levels
+
+abbrev pub decreases-choosing::put_asked : goal.decreases-choosing::put_asked
+decreases-choosing::put_asked l = l.spot.levels

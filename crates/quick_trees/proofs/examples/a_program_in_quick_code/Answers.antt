@@ -102,7 +102,7 @@ returns-clause-stands c = record {
               first = record {
                 behind = 0;
                 ticks = refl;
-                rest = record {
+                rest = inr (record {
                   middle = at 5 0 (LookedAssignmentAhead ∷ LookAhead ∷ []);
                   first = record { notes = []; all = refl };
                   second = record {
@@ -276,7 +276,7 @@ returns-clause-stands c = record {
                       };
                     };
                   };
-                };
+                });
               };
               second = record {
                 place = refl;

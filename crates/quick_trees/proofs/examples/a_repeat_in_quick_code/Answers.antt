@@ -111,7 +111,7 @@ returns-clause-stands c = record {
                   first = record {
                     behind = 0;
                     ticks = refl;
-                    rest = record {
+                    rest = inr (record {
                       middle = at 5 0 (Assigned ∷ LookAhead ∷ []);
                       first = record { notes = []; all = refl };
                       second = record {
@@ -188,7 +188,7 @@ returns-clause-stands c = record {
                           noted = each_tells (Assigned ∷ Looked ∷ []) (Assigned ∷ Looked ∷ []) (refl, (refl, tt));
                         };
                       };
-                    };
+                    });
                   };
                   second = record {
                     place = refl;

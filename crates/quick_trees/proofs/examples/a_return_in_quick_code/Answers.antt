@@ -235,7 +235,7 @@ returns-clause-stands c = record {
                               first = record {
                                 behind = 0;
                                 ticks = refl;
-                                rest = record {
+                                rest = inr (record {
                                   middle = at 7 0 (Looked ∷ AssignmentAhead ∷ []);
                                   first = record { notes = []; all = refl };
                                   second = record {
@@ -344,7 +344,7 @@ returns-clause-stands c = record {
                                           );
                                     };
                                   };
-                                };
+                                });
                               };
                               second = record {
                                 place = refl;
