@@ -33,8 +33,8 @@ pub returns-clause-stands : goal.returns-clause-stands
 returns-clause-stands c = record {
   way = way 1 2;
   begins = refl;
-  end = at 6 0 (Assigned ∷ []);
-  last = at 6 0 (Assigned ∷ []);
+  end = at 6 0 (Exact ∷ []);
+  last = at 6 0 (Exact ∷ []);
   last_is = refl;
   stands = record {
     middle = at 3 2 (BothAhead ∷ []);
@@ -143,10 +143,10 @@ returns-clause-stands c = record {
           touches = record { old = LookedAssignmentAhead; there = refl; new = Assigned; is = refl; rest = refl };
         });
       };
-      second = record { place = refl; ahead = refl; noted = each_tells (Assigned ∷ []) (Assigned ∷ []) (refl, tt) };
+      second = record { place = refl; ahead = refl; noted = each_tells (Assigned ∷ []) (Exact ∷ []) (refl, tt) };
     };
   };
-  joins = inl (record { place = refl; ahead = refl; noted = each_tells (Assigned ∷ []) (Assigned ∷ []) (refl, tt) });
+  joins = inl (record { place = refl; ahead = refl; noted = each_tells (Exact ∷ []) (Exact ∷ []) (refl, tt) });
   ends = refl;
 }
 
