@@ -18,3 +18,4 @@ pub mod Evaluated
 mod Increasing
 pub mod Sums
 pub mod Targeted
+pub mod Chosen

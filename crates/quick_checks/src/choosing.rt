@@ -12,8 +12,8 @@ ghost use Rattle.quick_checks.specs.Checking.{Always, frame_of, point_of};
 ghost use Rattle.quick_checks.specs.Targets as spec;
 
 use crate::constants::number_for;
-use crate::cursor::{Cursor, assign, expect, go, instr_at, landing, mark, tick};
-use crate::draft::{Landing, QuickDraft};
+use crate::cursor::{Cursor, assign, expect, go, instr_at, landing, mark, tell, tick};
+use crate::draft::QuickDraft;
 use crate::expressions::{deeper, variable_of};
 use crate::reading::check_read;
 use crate::refusal::Refusal;
@@ -161,14 +161,6 @@ pub fn is_choice_next(draft: &QuickDraft, at: &Cursor) -> bool {
     }
 }
 
-/// Whether the same is known here as at a landing, and as many ticks are ahead.
-fn is_as_known(at: &Cursor, landing: &Landing) -> bool
-    ensures ahead { IsTrue result → landing.now.ahead ≡ at.now.ahead }
-    ensures noted { IsTrue result → landing.now.noted.items ≡ at.now.noted.items }
-{
-    at.ahead == landing.ahead && at.noted == landing.noted
-}
-
 /// Finds the code that reads both expressions of a choice and assigns one of them.
 #[cycle(check)]
 pub fn check_choice(
@@ -204,7 +196,8 @@ pub fn check_choice(
     }
     if !is_straight(draft, below, start, middle.place)
         || !is_straight(draft, deep, middle.place, at.place)
-        || !is_as_known(at, &middle)
+        || middle.ahead != at.ahead
+        || !tell(&middle.noted, &at.noted)
     {
         return Err(Refusal::Other);
     }
@@ -237,7 +230,10 @@ fn check_asked(
 {
     if let Some(operands) = unequal_to_0(condition) {
         let left = check_read(draft, library, scope, &operands.left, depth, at)?;
-        if number_for(&operands.right, left.kind) != Some(0) {
+        let Some(number) = number_for(&operands.right, left.kind) else {
+            return Err(Refusal::Other);
+        };
+        if number != 0 {
             return Err(Refusal::Other);
         }
         return Ok(left.word);

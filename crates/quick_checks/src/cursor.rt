@@ -127,7 +127,7 @@ pub fn stands(draft: &QuickDraft, at: &Cursor, instr: Option<QuickInstr>) -> boo
 }
 
 /// Whether as much is known of each slot as a landing asks.
-fn tell(these: &[Noting], those: &[Noting]) -> bool
+pub fn tell(these: &[Noting], those: &[Noting]) -> bool
     ensures { IsTrue result → Tells these.now those.now }
 {
     let mut index = 0;

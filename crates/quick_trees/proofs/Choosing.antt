@@ -27,7 +27,7 @@ use Rattle.quick_trees.specs.Straight.{AssignsAt, IsStraight}
 use Rattle.quick_trees.proofs.Stepping.{Follows, has_put, stepped}
 use Rattle.quick_trees.proofs.Memories.{Holds, IsSite, Keeps, deeper, holds_assigned, holds_temporary, keeps_all}
 use Rattle.quick_trees.proofs.Memories.{keeps_below, keeps_both, keeps_word, own_value, spares_both, spares_kept}
-use Rattle.quick_trees.proofs.Memories.{spares_own}
+use Rattle.quick_trees.proofs.Memories.{spares_own, still_told}
 use Rattle.quick_trees.proofs.Operators.{equal_shifted}
 use Rattle.quick_trees.proofs.Settings.{Setting, scope_of}
 use Rattle.quick_trees.proofs.Truths.{then_gives, truth_is_word}
@@ -181,7 +181,7 @@ module _ (s : Setting) where
         subst (HasRun s (assigned_alone r.yes) d e q m tr) at
         (gave r.yes m two.memory tr one.tracked (b + r.behind) one.left r.middle.ahead (look one.memory r.first) site
         one.gives r.as_many one.fewer one.held (keeps_both d (suc d) m m two.memory (omega arith) (keeps_all d m) keeps)
-        (subst (λ ns. Holds s.frame s.site s.around ns two.memory one.tracked) r.as_much two.is)
+        (still_told s.frame s.site s.around r.middle.noted two.memory one.tracked two.is r.last.noted r.as_much)
         (subst (λ w. Ends s.frame (suc r.last.place) (with_word two.memory r.word w) one.left s.finish) same
         (subst (λ t. Ends s.frame (suc r.last.place) (with_word two.memory r.word
         (if t then look two.memory r.second else look two.memory r.first)) one.left s.finish) still step)))

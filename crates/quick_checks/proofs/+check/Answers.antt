@@ -71,6 +71,9 @@ use Rattle.quick_checks.specs.Within.{access_instr}
 use Rattle.quick_checks.proofs.Unaries.{unary_read}
 use Rattle.quick_checks.proofs.AlongSubscripts.{led_first, led_last, led_more, place_seen, subscripts_larger}
 use Rattle.quick_checks.proofs.Sums.{sum_read}
+use Rattle.quick_checks.proofs.Chosen.{choice_stands, if_chosen, if_stands}
+use Rattle.code_drafts.proofs.Sizes.{arms_size}
+use Rattle.std.proofs.Common.{pos}
 use Rattle.quick_checks.proofs.AlongSubscripts.{within_made, within_read, within_stands, within_stored}
 use Rattle.quick_checks.proofs.+check.Goals as goal
 
@@ -769,11 +772,42 @@ statements::check_stmt-returns-in_ok-check_if-in-If t c =
     ≡ IF (arms_of (map slot_arm_view c.in-If.arms.items)) (slot_stmts_view c.in-If.otherwise.items) =
     rw c.in-If.is (choose_view c.in-If.arms c.in-If.otherwise) in
     let is = seen ∙ ap (λ xs. IF (arms_of (map slot_arm_view xs)) (slot_stmts_view c.in-If.otherwise.items))
+    (sym c.deref-in-If-2.ensures.value)
+    ∙ ap (λ xs. IF (arms_of (map slot_arm_view c.deref-in-If-2.result.now)) (slot_stmts_view xs))
+    (sym c.deref-in-If-3.ensures.value) in
+    λ now whole kept. rw is (if_stands (frame_of c.args.draft.now now) (site_of c.args.scope.now.values)
+    (quick_units (frame_of c.args.draft.now now) whole c.args.scope.now.calls) _ _ c.args.depth
+    (exits_of c.args.exits.now) (point_of c.args.at.now) (point_of c.tick.new.at) (point_of c.check_if.new.at)
+    c.in_ok-tick.ensures.ticks c.in_ok-tick.ensures.rest (c.in_ok-check_if-in-If.ensures now whole kept))
+
+pub statements::check_stmt-check_choice-requires : goal.statements::check_stmt-check_choice-requires
+statements::check_stmt-check_choice-requires t c =
+    let seen : slot_stmt_view c.args.statement.now
+    ≡ IF (arms_of (map slot_arm_view c.in-If.arms.items)) (slot_stmts_view c.in-If.otherwise.items) =
+    rw c.in-If.is (choose_view c.in-If.arms c.in-If.otherwise) in
+    let is = seen ∙ ap (λ xs. IF (arms_of (map slot_arm_view xs)) (slot_stmts_view c.in-If.otherwise.items))
     (sym c.deref.ensures.value)
     ∙ ap (λ xs. IF (arms_of (map slot_arm_view c.deref.result.now)) (slot_stmts_view xs))
     (sym c.deref-in-If.ensures.value) in
-    λ now whole kept. rw is (ticked _ (point_of c.args.at.now) (point_of c.tick.new.at) (point_of c.check_if.new.at)
-    c.in_ok-tick.ensures.ticks c.in_ok-tick.ensures.rest (c.in_ok-check_if-in-If.ensures now whole kept))
+    let e = ap stmt_size is in
+    let a = ap arms_size c.in-Some-choice_of.ensures.if_it_holds in
+    let o = ap stmts_size c.in-Some-choice_of.ensures.otherwise_so in
+    (omega (arith, e, a, o), tt)
+
+pub statements::check_stmt-returns-then-is_choice_next : goal.statements::check_stmt-returns-then-is_choice_next
+statements::check_stmt-returns-then-is_choice_next t c =
+    let seen : slot_stmt_view c.args.statement.now
+    ≡ IF (arms_of (map slot_arm_view c.in-If.arms.items)) (slot_stmts_view c.in-If.otherwise.items) =
+    rw c.in-If.is (choose_view c.in-If.arms c.in-If.otherwise) in
+    let is = seen ∙ ap (λ xs. IF (arms_of (map slot_arm_view xs)) (slot_stmts_view c.in-If.otherwise.items))
+    (sym c.deref.ensures.value)
+    ∙ ap (λ xs. IF (arms_of (map slot_arm_view c.deref.result.now)) (slot_stmts_view xs))
+    (sym c.deref-in-If.ensures.value) in
+    λ now whole kept. rw is (if_chosen (frame_of c.args.draft.now now) (site_of c.args.scope.now.values)
+    (quick_units (frame_of c.args.draft.now now) whole c.args.scope.now.calls) _ _ c.args.depth
+    (exits_of c.args.exits.now) (point_of c.args.at.now) (point_of c.tick.new.at) (point_of c.check_choice.new.at)
+    c.in_ok-tick.ensures.ticks c.in_ok-tick.ensures.rest _ _ c.in-Some-choice_of.ensures.if_it_holds
+    c.in-Some-choice_of.ensures.otherwise_so (c.in_ok-check_choice-in-If.ensures now whole kept))
 
 pub statements::check_stmt-returns-in_ok-check_for-in-For : goal.statements::check_stmt-returns-in_ok-check_for-in-For
 statements::check_stmt-returns-in_ok-check_for-in-For t c =
@@ -1149,3 +1183,35 @@ statements::check_stmt-returns-in_ok-check_case-in-Case t c =
     (sym c.deref-in-Case-2.ensures.value) in
     λ now whole kept. rw is (ticked _ (point_of c.args.at.now) (point_of c.tick.new.at) (point_of c.check_case.new.at)
     c.in_ok-tick.ensures.ticks c.in_ok-tick.ensures.rest (c.in_ok-check_case-in-Case.ensures now whole kept))
+
+pub choosing::check_asked-returns-in-Some : goal.choosing::check_asked-returns-in-Some
+choosing::check_asked-returns-in-Some t c =
+    let nought : c.in-Some-number_for.number ≡ pos 0 = search rules in
+    λ now whole kept. inl (record {
+      left = slot_expr_view c.in-Some.operands.now.left;
+      right = slot_expr_view c.in-Some.operands.now.right;
+      is = c.in-Some.ensures;
+      kind = c.in_ok-left.left.kind;
+      reads = c.in_ok-left.ensures now whole kept;
+      nought = rw nought at c.in-Some-number_for.ensures;
+    })
+
+pub choosing::check_choice-returns : goal.choosing::check_choice-returns
+choosing::check_choice-returns t c =
+    let many : c.in_ok-middle.middle.ahead ≡ c.check_read-2.new.at.ahead = omega (arith, c.if-middle-at.false) in
+    λ now whole kept. choice_stands (frame_of c.args.draft.now now) (site_of c.args.scope.now.values)
+    (quick_units (frame_of c.args.draft.now now) whole c.args.scope.now.calls) _ _ _ _ c.in_ok-target.target.kind
+    c.in_ok-first.first.kind c.in_ok-second.second.kind c.args.depth c.in_ok-below.below c.in_ok-deep.deep
+    c.in_ok-tested.tested c.in_ok-target.target.word c.in_ok-first.first.word c.in_ok-second.second.word
+    c.tick.new.at.ahead (point_of c.args.at.now) (point_of c.check_asked.new.at) (point_of c.tick.new.at)
+    (landing_of c.in_ok-asked.asked) (point_of c.check_read.new.at) (landing_of c.in_ok-middle.middle)
+    (point_of c.go.new.at) (point_of c.check_read-2.new.at) (point_of c.expect.new.at) (point_of c.assign.new.at)
+    (c.in_ok-target.ensures.of_type now) c.in_ok-target.ensures.own
+    (rw c.landing.ensures at (c.in_ok-tested.ensures now whole kept)) c.in_ok-tick.ensures.ticks
+    c.in_ok-tick.ensures.rest c.in_ok-below.ensures c.in_ok-deep.ensures c.in_ok-asked.ensures c.in_ok-middle.ensures
+    c.go.ensures (c.if-not-is_kind.ensures (search rules)) (c.in_ok-first.ensures now whole kept)
+    (c.if-not-is_straight.ensures (search rules) now) (c.if-not-is_kind-2.ensures (search rules))
+    (c.in_ok-second.ensures now whole kept) (c.if-not-is_straight-2.ensures (search rules) now) many
+    (rw (c.deref.ensures.value, c.deref-else-middle-at.ensures.value) at (c.if-not-tell.ensures (search rules)))
+    c.in_ok-expect.ensures.stands c.in_ok-expect.ensures.next c.in_ok-assign.ensures.same
+    c.in_ok-assign.ensures.touches

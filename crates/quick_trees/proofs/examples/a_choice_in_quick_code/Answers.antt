@@ -137,7 +137,7 @@ returns-clause-stands c = record {
           };
           straight_second = record { ordered = omega arith; each = λ p from below. absurd (omega arith) };
           as_many = refl;
-          as_much = refl;
+          as_much = each_tells (LookedAssignmentAhead ∷ []) (LookedAssignmentAhead ∷ []) (refl, tt);
           stands = refl;
           is = refl;
           touches = record { old = LookedAssignmentAhead; there = refl; new = Assigned; is = refl; rest = refl };
