@@ -12,10 +12,11 @@ use crate::statements::{Exits, put_stmts};
 use crate::stop::Stop;
 use crate::survey::Turns;
 use crate::unit::Unit;
-use quick_checks::literal_value;
+use quick_checks::{instr_for, literal_value};
 use quick_code::QuickInstr;
+use quick_trees::Pace;
 use slot_bodies::{Anchor, SlotExpr, SlotStmt};
-use st_words::Kind;
+use st_words::{BinaryOperator, Kind, is_wide};
 
 /// What stands before the body of a FOR.
 #[derive(Clone, Copy)]
@@ -161,18 +162,23 @@ pub fn put_for(
     let turned = Loop::new(draft)?;
     let control = unit.slot_of(turning.control)?;
     let kind = unit.kind_at(control)?;
-    let count = Count {
-        kind,
-        control: unit.own_word_of(control)?,
-        step: step_of(turning.step, kind)?,
-    };
+    let word = unit.own_word_of(control)?;
     let start = put_read(unit, draft, turning.start, spot.inside()?)?;
     let behind = spot.behind(1)?;
     let read = put_read(unit, draft, turning.limit, behind)?;
-    if start.kind != count.kind || read.kind != count.kind {
+    if start.kind != kind || read.kind != kind {
         return Err(Stop::NotCovered);
     }
     let limit = kept(unit, draft, read, behind)?;
+    let pace = put_pace(unit, draft, kind, turning.step, spot.behind(2)?)?;
+    let inside = spot.behind(depth_of(pace))?;
+    let count = Count {
+        kind,
+        control: word,
+        limit,
+        pace,
+        depth: inside.depth,
+    };
     draft.sheet.put(QuickInstr::Move {
         from: start.word,
         to: count.control,
@@ -182,7 +188,7 @@ pub fn put_for(
         mark: turned.behind,
         is_turn: false,
     };
-    draft.sheet.put_branch(Some(count.first_test(limit)), over)?;
+    count.put_first_test(draft, over)?;
     turned.begin(draft, true)?;
     let turns = Turns {
         body,
@@ -190,59 +196,143 @@ pub fn put_for(
     };
     note_turns(unit, draft, turns, spot.levels)?;
     draft.sheet.bind(turned.head)?;
-    let goes_on = put_stmts(unit, draft, body, spot.behind(2)?, turned.exits(exits))?;
+    let goes_on = put_stmts(unit, draft, body, inside, turned.exits(exits))?;
     turned.end_body(draft, goes_on)?;
     let back = Lead {
         mark: turned.head,
         is_turn: true,
     };
-    count.put_next(unit, draft, limit, back)?;
+    count.put_next(unit, draft, back)?;
     turned.end(draft, goes_on)
 }
 
-/// A limit in a word that no statement assigns.
-fn kept(unit: Unit, draft: &mut Draft, limit: Reading, spot: Spot) -> Result<u16, Stop> {
-    if !unit.may_assign(limit.word) {
-        return Ok(limit.word);
+/// How many temporaries are taken within a FOR: those of start and limit, and those of a step and its sign.
+fn depth_of(pace: Pace) -> usize {
+    match pace {
+        Pace::Literal(_) => 2,
+        Pace::Words { .. } => 4,
+    }
+}
+
+/// Writes what a FOR over a type counts by, where that is no literal.
+#[cycle(draft)]
+fn put_pace(
+    unit: Unit,
+    draft: &mut Draft,
+    kind: Kind,
+    step: &Option<SlotExpr>,
+    spot: Spot,
+) -> Result<Pace, Stop> {
+    match step {
+        None => Ok(Pace::Literal(1)),
+        Some(SlotExpr::Constant(literal)) => {
+            let number = literal_value(literal)?.number();
+            Ok(Pace::Literal(literal_step(number, kind)?))
+        }
+        Some(step) => {
+            let read = put_read(unit, draft, step, spot.inside()?)?;
+            if read.kind != kind || is_wide(kind) {
+                return Err(Stop::NotCovered);
+            }
+            let step = kept(unit, draft, read, spot)?;
+            let below = draft.temporary(spot.behind(1)?.depth);
+            put_sign(draft, step, below)?;
+            Ok(Pace::Words { step, below })
+        }
+    }
+}
+
+/// Writes whether a step is below 0, where it is not 0.
+fn put_sign(draft: &mut Draft, step: u16, below: u16) -> Result<(), Stop> {
+    draft.sheet.put(QuickInstr::DivideLint {
+        left: step,
+        right: step,
+        to: below,
+    })?;
+    draft.sheet.put(QuickInstr::Set {
+        constant: 0,
+        to: below,
+    })?;
+    draft.sheet.put(QuickInstr::Less {
+        left: step,
+        right: below,
+        to: below,
+    })
+}
+
+/// A limit, or a step, in a word that no statement assigns.
+fn kept(unit: Unit, draft: &mut Draft, read: Reading, spot: Spot) -> Result<u16, Stop> {
+    if !unit.may_assign(read.word) {
+        return Ok(read.word);
     }
     let to = draft.temporary(spot.depth);
     draft.sheet.put(QuickInstr::Move {
-        from: limit.word,
+        from: read.word,
         to,
     })?;
     Ok(to)
 }
 
-/// How a FOR counts.
+/// How a FOR counts, and from which depth on temporaries are free within.
 #[derive(Clone, Copy)]
 struct Count {
     kind: Kind,
     control: u16,
-    step: i32,
+    limit: u16,
+    pace: Pace,
+    depth: u16,
 }
 
 impl Count {
-    /// The branch that is taken where the limit is passed at once.
-    fn first_test(self, limit: u16) -> QuickInstr {
-        let (left, right) = if self.step > 0 {
-            (limit, self.control)
-        } else {
-            (self.control, limit)
+    /// Writes the branch that is taken where the limit is passed at once.
+    fn put_first_test(self, draft: &mut Draft, over: Lead) -> Result<(), Stop> {
+        let (left, right) = match self.pace {
+            Pace::Literal(step) if step > 0 => (self.limit, self.control),
+            Pace::Literal(_) => (self.control, self.limit),
+            Pace::Words { below, .. } => {
+                let (lower, upper) = self.put_ordered(draft, below)?;
+                (upper, lower)
+            }
         };
-        QuickInstr::WhenLess {
+        let test = QuickInstr::WhenLess {
             left,
             right,
             way: NO_WAY,
             past: 0,
-        }
+        };
+        draft.sheet.put_branch(Some(test), over)
+    }
+
+    /// Puts the control variable and the limit into temporaries, the first of which is not above the second where the
+    /// loop goes on.
+    fn put_ordered(self, draft: &mut Draft, below: u16) -> Result<(u16, u16), Stop> {
+        let Some(second) = self.depth.checked_add(1) else {
+            return Err(Stop::NotCovered);
+        };
+        let lower = draft.temporary(self.depth);
+        let upper = draft.temporary(second);
+        draft.sheet.put(QuickInstr::Select {
+            condition: below,
+            yes: self.limit,
+            no: self.control,
+            to: lower,
+        })?;
+        draft.sheet.put(QuickInstr::Select {
+            condition: below,
+            yes: self.control,
+            no: self.limit,
+            to: upper,
+        })?;
+        Ok((lower, upper))
     }
 
     /// The end of a turn by one instruction, where there is one.
-    fn next(self, limit: u16) -> Option<QuickInstr> {
+    fn next(self, step: i32) -> Option<QuickInstr> {
         let Count {
             kind,
             control,
-            step,
+            limit,
+            ..
         } = self;
         let (way, past) = (NO_WAY, 0);
         match (kind, step > 0) {
@@ -278,26 +368,11 @@ impl Count {
         }
     }
 
-    /// The test for a further turn alone.
-    fn further_test(self, limit: u16) -> QuickInstr {
-        let (left, right) = if self.step > 0 {
-            (self.control, limit)
-        } else {
-            (limit, self.control)
-        };
-        QuickInstr::WhenAtMost {
-            left,
-            right,
-            way: NO_WAY,
-            past: 0,
-        }
-    }
-
-    /// Adds the step, as to a LINT.
-    fn put_step(self, unit: Unit, draft: &mut Draft) -> Result<(), Stop> {
+    /// Adds a literal, as to a LINT.
+    fn put_step(self, unit: Unit, draft: &mut Draft, step: i32) -> Result<(), Stop> {
         draft.sheet.put(QuickInstr::AddLintBy {
             left: self.control,
-            constant: self.step,
+            constant: step,
             to: self.control,
         })?;
         if self.kind == Kind::Lint || self.kind == Kind::Ulint {
@@ -306,26 +381,63 @@ impl Count {
         put_within(unit, draft, self.kind, self.control, self.control)
     }
 
-    /// Writes the end of a turn, which takes a tick whether a further one follows or not.
-    fn put_next(self, unit: Unit, draft: &mut Draft, limit: u16, back: Lead) -> Result<(), Stop> {
-        if let Some(instr) = self.next(limit) {
-            return draft.sheet.put_branch(Some(instr), back);
+    /// Adds a word.
+    fn put_word(self, unit: Unit, draft: &mut Draft, step: u16) -> Result<(), Stop> {
+        let control = self.control;
+        let instr = instr_for(BinaryOperator::Add, self.kind, control, step, control);
+        if instr.is_some() {
+            return draft.sheet.put_for(instr);
         }
-        self.put_step(unit, draft)?;
-        draft
-            .sheet
-            .put_branch(Some(self.further_test(limit)), back)?;
+        draft.sheet.put(QuickInstr::AddLint {
+            left: control,
+            right: step,
+            to: control,
+        })?;
+        put_within(unit, draft, self.kind, control, control)
+    }
+
+    /// Writes the branch that is taken for a further turn, and a tick, which a turn takes whether one follows or not.
+    fn put_further_test(
+        self,
+        draft: &mut Draft,
+        lower: u16,
+        upper: u16,
+        back: Lead,
+    ) -> Result<(), Stop> {
+        let test = QuickInstr::WhenAtMost {
+            left: lower,
+            right: upper,
+            way: NO_WAY,
+            past: 0,
+        };
+        draft.sheet.put_branch(Some(test), back)?;
         draft.sheet.tick()
+    }
+
+    /// Writes the end of a turn.
+    fn put_next(self, unit: Unit, draft: &mut Draft, back: Lead) -> Result<(), Stop> {
+        match self.pace {
+            Pace::Literal(step) => {
+                if let Some(instr) = self.next(step) {
+                    return draft.sheet.put_branch(Some(instr), back);
+                }
+                self.put_step(unit, draft, step)?;
+                if step > 0 {
+                    return self.put_further_test(draft, self.control, self.limit, back);
+                }
+                self.put_further_test(draft, self.limit, self.control, back)
+            }
+            Pace::Words { step, below } => {
+                self.put_word(unit, draft, step)?;
+                let (lower, upper) = self.put_ordered(draft, below)?;
+                self.put_further_test(draft, lower, upper, back)
+            }
+        }
     }
 }
 
-/// The step of a FOR: 1 where none is written, or a literal that is not 0.
-fn step_of(step: &Option<SlotExpr>, kind: Kind) -> Result<i32, Stop> {
-    let number = match step {
-        None => 1,
-        Some(SlotExpr::Constant(literal)) => literal_value(literal)?.number(),
-        Some(_) => return Err(Stop::NotCovered),
-    };
+/// The literal step of a FOR, which is not 0.
+fn literal_step(number: i128, kind: Kind) -> Result<i32, Stop> {
     if number == 0 || number < kind.least() || kind.greatest() < number {
         return Err(Stop::NotCovered);
     }

@@ -87,10 +87,14 @@ pub fn note_statement(
             control,
             start,
             limit,
+            step,
             ..
         } => {
             note_looks(unit, draft, start, levels)?;
             note_looks(unit, draft, limit, levels)?;
+            if let Some(step) = step {
+                note_looks(unit, draft, step, levels)?;
+            }
             draft.note_assignment(unit.word_of(*control)?)?;
         }
         SlotStmt::While(condition, _) => note_looks(unit, draft, condition, levels)?,

@@ -217,11 +217,14 @@ fn survey_stmt(
             control,
             start,
             limit,
+            step,
             body,
-            ..
         } => {
             survey_expr(unit, survey, start, inner)?;
             survey_expr(unit, survey, limit, inner)?;
+            if let Some(step) = step {
+                survey_expr(unit, survey, step, inner)?;
+            }
             survey.assign(unit, *control)?;
             let turns = Turns {
                 body,

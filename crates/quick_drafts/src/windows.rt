@@ -183,12 +183,15 @@ fn name_stmt(
             control,
             start,
             limit,
+            step,
             body,
-            ..
         } => {
             names.name(slot_of(base, *control)?, 1)?;
             name_expr(names, base, start, inner)?;
             name_expr(names, base, limit, inner)?;
+            if let Some(step) = step {
+                name_expr(names, base, step, inner)?;
+            }
             name_stmts(library, names, base, body, inner)?;
         }
         SlotStmt::While(condition, body) | SlotStmt::Repeat(body, condition) => {

@@ -145,8 +145,8 @@ module _ (s : Setting) where
           end = goes_on after;
           rest = b + a;
           gives = ap (λ o. follow o (λ e. behind e (marked_exec_all z no_stmts)))
-              (assigns s (place r.variable no_subscripts) y tr us us t (b + a) (b + a) k r.kind w (look n r.word) value refl
-              old.is held);
+              (assigns s (place r.variable no_subscripts) y tr us us t (b + a) (b + a) k r.kind w (look n r.word) value
+              refl old.is held);
           fewer = omega arith;
           ended = subst (λ q. HasEnded s d e q m (goes_on after) (b + a)) (sym r.is) (record {
             memory = m';
@@ -154,8 +154,8 @@ module _ (s : Setting) where
             ticks = ap (λ a. b + a) ahead;
             spares = spares_both s.frame s.site d d m n m' (omega arith) (spares_kept s.frame s.site d m n keeps)
                 (spares_own s.frame s.site d n m' k r.word r.kind w r.target r.own refl);
-            is = holds_assigned s.frame s.site s.around r.last.noted n us is d site k r.word r.kind r.target r.own w held
-                q.noted r.touches;
+            is = holds_assigned s.frame s.site s.around r.last.noted n us is d site k r.word r.kind r.target r.own w
+                held q.noted r.touches;
             ends = runs;
           });
         }

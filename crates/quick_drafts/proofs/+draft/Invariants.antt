@@ -28,6 +28,9 @@ decreases-functions::put_evaluated l = l.spot.levels
 abbrev pub decreases-loops::put_for : goal.decreases-loops::put_for
 decreases-loops::put_for l = l.spot.levels
 
+abbrev pub decreases-loops::put_pace : goal.decreases-loops::put_pace
+decreases-loops::put_pace l = l.spot.levels
+
 abbrev pub decreases-loops::put_repeat : goal.decreases-loops::put_repeat
 decreases-loops::put_repeat l = l.spot.levels
 

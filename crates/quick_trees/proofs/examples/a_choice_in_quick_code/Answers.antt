@@ -84,7 +84,13 @@ returns-clause-stands c = record {
                   of_type = refl;
                   has = refl;
                   is = refl;
-                  touches = record { old = BothAhead; there = refl; new = LookedAssignmentAhead; is = refl; rest = refl };
+                  touches = record {
+                    old = BothAhead;
+                    there = refl;
+                    new = LookedAssignmentAhead;
+                    is = refl;
+                    rest = refl;
+                  };
                 };
                 number = (refl, refl);
                 stands = record { instr = AndBy 0 (pos 1) 1; is = refl; at = refl };
