@@ -113,6 +113,7 @@ impl<D: Disk> Core<D> {
             Err(refusal) => Err(Refusal::Serial(refusal)),
         }
     }
+
     /// What a run of the best activation that waits on the resource starts from: the values of the slots that its code
     /// names, where there is quick code, and else a snapshot. None where nothing waits there.
     ///

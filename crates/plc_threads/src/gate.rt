@@ -7,7 +7,8 @@ use st_plans::Activation;
 
 /// Called by the workers of a run, outside the lock. Tests hold a worker by it.
 pub trait Gate {
-    /// How much is taken for a run: what the code names, as always, or all slots, over which the machine on values runs.
+    /// How much is taken for a run: what the code names, as always, or all slots, over which the machine on values
+    /// runs.
     fn extent(&self) -> Extent {
         Extent::Named
     }

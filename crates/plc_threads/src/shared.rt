@@ -52,6 +52,30 @@ pub enum Extent {
     Whole,
 }
 
+/// What the code of the best activation of a resource names, or all slots where it has no quick code.
+fn named<J: Run, D: Disk>(
+    locked: &mut Locked<J, D>,
+    alloc: Global,
+    resource: usize,
+) -> Result<Option<OwnTaken<J>>, Refusal> {
+    match locked.take_quick(alloc, resource)? {
+        Some(taken) => Ok(Some(locked.own(taken))),
+        None => Ok(None),
+    }
+}
+
+/// All slots for it.
+fn whole<J: Run, D: Disk>(
+    locked: &mut Locked<J, D>,
+    alloc: Global,
+    resource: usize,
+) -> Result<Option<OwnTaken<J>>, Refusal> {
+    match locked.take(alloc, resource)? {
+        Some(snapshot) => Ok(Some(locked.own(Taken::Whole(snapshot)))),
+        None => Ok(None),
+    }
+}
+
 /// What is taken for a resource.
 fn taken<J: Run, D: Disk>(
     locked: &mut Locked<J, D>,
@@ -59,16 +83,9 @@ fn taken<J: Run, D: Disk>(
     resource: usize,
     extent: Extent,
 ) -> Result<Option<OwnTaken<J>>, Refusal> {
-    let taken = match extent {
-        Extent::Named => locked.take_quick(alloc, resource)?,
-        Extent::Whole => match locked.take(alloc, resource)? {
-            Some(snapshot) => Some(Taken::Whole(snapshot)),
-            None => None,
-        },
-    };
-    match taken {
-        Some(taken) => Ok(Some(locked.own(taken))),
-        None => Ok(None),
+    match extent {
+        Extent::Named => named(locked, alloc, resource),
+        Extent::Whole => whole(locked, alloc, resource),
     }
 }
 

@@ -1,3 +1,4 @@
 pub mod Gains
 mod Moves
+pub mod OwnLemmas
 pub mod PhaseLemmas

@@ -1,6 +1,7 @@
 //! What lies under the lock of a run.
 
-ghost use Rattle.std.specs.Prelude.{length, ◌≡◌, ◌↔◌, ◌+◌, ◌^◌, ◌<◌, ◌≤◌, ◌++◌, Option, drop, max, Some, IfOk, IfNone, OnErr, IsTrue};
+ghost use Rattle.std.specs.Prelude.{length, ◌≡◌, ◌↔◌, ◌+◌, ◌^◌, ◌<◌, ◌≤◌, ◌++◌, Option, Some, drop, max};
+ghost use Rattle.std.specs.Prelude.{IfOk, IfNone, OnErr, IsTrue};
 ghost use Rattle.std.specs.Coded.{Coded-set};
 ghost use Rattle.atomic_table.specs.Seated.{table_id_coded};
 ghost use Rattle.st_plans.specs.Logs.{done_count};

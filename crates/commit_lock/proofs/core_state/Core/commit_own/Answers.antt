@@ -7,9 +7,11 @@ use Rattle.commit_lock.proofs.CallLemmas.{kept_longer, commits_longer}
 use Rattle.commit_lock.proofs.core_state.Core.commit_own.Goals as goal
 
 pub invariant_of-self : goal.invariant_of-self
-invariant_of-self g c = kept_longer c.self.inside.mode c.self.inside.serial c.commit_own-result.new.self c.self.inside.acked
-    c.self.inside.failed c.self.inside.store _ (commits_longer c.self.inside.serial c.args.execution
-    c.commit_own-result.result c.commit_own-result.new.self c.commit_own-result.ensures) c.self.invariant
+invariant_of-self g c =
+    let new = c.commit_own-result.new.self in
+    kept_longer c.self.inside.mode c.self.inside.serial new c.self.inside.acked c.self.inside.failed c.self.inside.store _
+    (commits_longer c.self.inside.serial c.args.execution c.commit_own-result.result new c.commit_own-result.ensures)
+    c.self.invariant
 
 pub returns-in-Err-clause-commits : goal.returns-in-Err-clause-commits
 returns-in-Err-clause-commits g c = (

@@ -31,7 +31,8 @@ invariant_of-self g c =
       stopped_for = subst (λ (p : Phase). IsStoppedFor p new) (sym phase)
           (stopped_answer old.phase r new
           (stopped_stays old.phase old.core new (gains_stay_so old.core new _ more) old.stopped_for)
-          (refused_so old.core new r _ c.commit_own-result.ensures.commits (λ full. full_stays old.core.state new.state full.1 full.0)));
+          (refused_so old.core new r _ c.commit_own-result.ensures.commits
+          (λ full. full_stays old.core.state new.state full.1 full.0)));
       in_order = subst (λ (p : Phase). unless_stopped p (rows_of new.state ++ old.rest.items)
           ≡ unless_stopped p g.J.Run.rows) (sym phase)
           (same_answered old.phase r (rows_of new.state ++ old.rest.items) g.J.Run.rows
