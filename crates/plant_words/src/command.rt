@@ -49,7 +49,9 @@ fn pace<'a>(alloc: Global) -> Arg<'a> {
 fn machine<'a>(alloc: Global) -> Arg<'a> {
     Arg::new(alloc, "machine")
         .long("machine")
-        .help("Run programs by quick code where there is some, or by the machine on values alone, to compare")
+        .help(
+            "Run programs by quick code where there is some, or all of them on values, to compare",
+        )
         .value_parser(MACHINES.as_slice())
         .default_value("quick")
 }

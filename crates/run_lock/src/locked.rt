@@ -181,11 +181,7 @@ impl<J: Run, D: Disk> Locked<J, D> {
     }
 
     /// Commits what came of what was taken here, and counts in the share what was appended. A refusal ends the run.
-    pub fn commit(
-        &mut self,
-        own: OwnExecution<J>,
-        share: &mut Share<J>,
-    ) -> Result<Answer, Refusal>
+    pub fn commit(&mut self, own: OwnExecution<J>, share: &mut Share<J>) -> Result<Answer, Refusal>
         requires { 0 < share.old.parts }
         ensures core { Guards self.old.core result self.new.core
             (λ r. Commits self.old.core.state own.execution r self.new.core.state) }

@@ -26,12 +26,7 @@ pub struct Progress<'a, R: Eprint> {
 
 impl<'a, R: Eprint> Progress<'a, R> {
     /// Of a run over so many rows, by this machine; told where the standard error is a terminal.
-    pub fn new(
-        rt: &'a R,
-        rows: usize,
-        asked: AskedMachine,
-        is_terminal: bool,
-    ) -> Progress<'a, R> {
+    pub fn new(rt: &'a R, rows: usize, asked: AskedMachine, is_terminal: bool) -> Progress<'a, R> {
         Progress {
             rt,
             rows: rows as u64,
