@@ -1,4 +1,3 @@
 pub mod Gains
 mod Moves
-pub mod OwnLemmas
 pub mod PhaseLemmas

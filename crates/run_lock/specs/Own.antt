@@ -17,11 +17,11 @@ abbrev pub code_in : Option State → ℕ → Option CodeView
 code_in None program = None
 code_in (Some state) program = option_map code_view (code_at state.plan program)
 
-abbrev coded_view : Coded CodeView
+coded_view : Coded CodeView
 coded_view =
-    code_by (List Instr × List Kind × ℕ) (coded× (coded_list instr.the_row.coded)
-    (coded× (coded_list kind.the_row.coded) coded_ℕ)) (λ c. (c.instrs, c.kinds, c.extra))
-    (λ t. record { instrs = t.0; kinds = t.1; extra = t.2 }) (λ _. refl)
+    code_by (List Instr × (List Kind × ℕ)) (coded× (coded_list instr.the_row.coded)
+    (coded× (coded_list kind.the_row.coded) coded_ℕ)) (λ c. (c.instrs, (c.kinds, c.extra)))
+    (λ t. record { instrs = t.0; kinds = t.1.0; extra = t.1.1 }) (λ _. refl)
 
 -- an execution is of the code of its activation's program
 abbrev pub IsOwn : Option State → Effect → Type 0
