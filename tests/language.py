@@ -1,5 +1,6 @@
 #!/usr/bin/env python3
-"""Runs texts of the whole language on the built program, and compares what each variable is in the end.
+"""Runs texts of the whole language on the built program, by quick code and by the machine on values, and compares what each variable is
+in the end.
 
 What is expected of an operator, a function or a block is computed here, from the formulas of the language and on unbounded numbers; the
 scenes have the values that they are to give beside them.
@@ -64,11 +65,11 @@ class Plant:
     def __init__(self, program, folder):
         self.program, self.folder, self.scenes = program, folder, 0
 
-    def run(self, text, rows="t\n0\n", budget=10000, start="cold", store="store", pace="settle", trace=False):
+    def run(self, text, rows="t\n0\n", budget=10000, start="cold", store="store", pace="settle", trace=False, machine="quick"):
         (self.folder / "text.st").write_text(text)
         (self.folder / "plant.csv").write_text(rows)
         words = [self.program, "run", "text.st", "--plant", "plant.csv", "--store", store, "--start", start, "--budget", str(budget)]
-        words += ["--pace", pace] + (["--trace", "trace"] if trace else [])
+        words += ["--pace", pace, "--machine", machine] + (["--trace", "trace"] if trace else [])
         return subprocess.run(words, cwd=self.folder, capture_output=True, text=True, check=False, timeout=60)
 
     def check(self, text):
@@ -83,13 +84,21 @@ class Plant:
         return subprocess.run(words, cwd=self.folder, capture_output=True, text=True, check=False, timeout=60)
 
     def report(self, name, text, **given):
-        """The counts and the values of a run that ends well."""
+        """The counts and the values of a run that ends well, which are the same by either machine."""
         ran = self.run(text, **given)
         if ran.returncode:
             sys.exit(f"{NAME}: {name}: status {ran.returncode}, {ran.stderr.strip()}\n{text}")
+        if given.get("pace") != "free":
+            self.same_by_values(name, text, ran.stdout, given)
         self.scenes += 1
         lines = ran.stdout.splitlines()
         return dict(line.split(" ", 1) for line in lines[:5]), dict(line.split(" = ", 1) for line in lines[5:])
+
+    def same_by_values(self, name, text, report, given):
+        """The same run by the machine on values alone, over a store of its own, has this report."""
+        other = self.run(text, **(given | {"store": given.get("store", "store") + "-values", "trace": False, "machine": "values"}))
+        if other.returncode or other.stdout != report:
+            sys.exit(f"{NAME}: {name}: by the machine on values status {other.returncode}\n{other.stdout}\nby quick code\n{report}\n{text}")
 
     def scene(self, name, text, wanted, **given):
         """The values that a text leaves, and its counts where some are wanted."""

@@ -9,7 +9,7 @@ shift
 cd "$(dirname "$0")/.."
 
 scripts=(program.sh language.py edges.py examples.sh replays.sh broken.py codes.py explanations.py explain.py shows.py layouts.py plots.py
-    pictures.py progress.py kill.sh two_runs.py hostile.py refusals.py refused_calls.py)
+    pictures.py progress.py flat.py kill.sh two_runs.py hostile.py refusals.py refused_calls.py)
 told=$(mktemp -d)
 trap 'rm -rf "$told"' EXIT
 failed=0 running=()
@@ -17,6 +17,7 @@ for script in "${scripts[@]}"; do
     words=()
     case $script in
         hostile.py | layouts.py) words=("$@") ;;
+        flat.py) [ $# -eq 0 ] || words=(20) ;;
         refusals.py) [ $# -eq 0 ] || words=(--few) ;;
     esac
     "tests/$script" "$plant" "${words[@]}" > "$told/$script" 2>&1 &

@@ -3,11 +3,12 @@
 ghost use Rattle.std.specs.Prelude.{List, ℕ};
 ghost use Rattle.retain_areas.specs.Recovered.{recovered};
 ghost use Rattle.serial_core.specs.Steps.{Latches, Takes, Commits, CommitsHere};
+ghost use Rattle.serial_core.specs.Quick.{IsOwnCode, TakesQuick};
 ghost use Rattle.commit_lock.specs.Cores.{Guards, Outlives, survives};
 
 use crate::core_state::Core;
 use crate::refusal::Refusal;
-use coded_runs::{Execution, Snapshot};
+use coded_runs::{Execution, Snapshot, Taken};
 use disk::Disk;
 use serial_core::Answer;
 use st_plans::Row;
@@ -76,6 +77,25 @@ impl<D: Disk> Core<D> {
         }
     }
 
+    /// The same for an execution whose code is known to be that of its activation's program here, so that the two need
+    /// not be compared.
+    pub fn commit_own(&mut self, execution: Execution) -> Result<Answer, Refusal>
+        requires own { IsOwnCode self.old.state execution }
+        ensures commits { Guards self.old result self.new (λ r. Commits self.old.state execution r self.new.state) }
+        ensures outlives { D.tells → Outlives D.left_since D.may_leave self.old self.new }
+    {
+        self.kept();
+        if let Some(cause) = self.failed {
+            return Err(Refusal::StoreFailed(cause));
+        }
+        let result = self.serial.commit_own(execution);
+        self.kept();
+        match result {
+            Ok(answer) => Ok(answer),
+            Err(refusal) => Err(Refusal::Serial(refusal)),
+        }
+    }
+
     /// A snapshot of the best activation that waits on the resource; none where nothing waits there.
     ///
     /// K5 where the store has failed, K6 out of memory.
@@ -89,6 +109,25 @@ impl<D: Disk> Core<D> {
             return Err(Refusal::StoreFailed(cause));
         }
         match self.serial.take(alloc, resource) {
+            Ok(taken) => Ok(taken),
+            Err(refusal) => Err(Refusal::Serial(refusal)),
+        }
+    }
+
+    /// What a run of the best activation that waits on the resource starts from: the values of the slots that its code
+    /// names, where there is quick code, and else a snapshot. None where nothing waits there.
+    ///
+    /// K5 where the store has failed, K6 out of memory.
+    pub fn take_quick(&self, alloc: Global, resource: usize) -> Result<Option<Taken>, Refusal>
+        ensures takes { Guards self.now result self.now (λ r. TakesQuick self.now.state resource r) }
+        ensures survives { D.tells → (file : List ℕ) → D.may_leave self.now.store.disk file
+            → survives self.now (recovered file) }
+    {
+        self.kept();
+        if let Some(cause) = self.failed {
+            return Err(Refusal::StoreFailed(cause));
+        }
+        match self.serial.take_quick(alloc, resource) {
             Ok(taken) => Ok(taken),
             Err(refusal) => Err(Refusal::Serial(refusal)),
         }

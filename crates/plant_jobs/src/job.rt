@@ -31,6 +31,15 @@ pub enum Pace {
     Free,
 }
 
+/// The machine that programs run by.
+#[derive(Clone, Copy, Debug, PartialEq, Eq)]
+pub enum Machine {
+    /// Quick code where there is some, and the machine on values where that cannot tell how a run ends.
+    Quick,
+    /// The machine on values alone, to compare the two.
+    Values,
+}
+
 /// A run of a source against a plant.
 #[derive(Clone, Copy, Debug, PartialEq, Eq)]
 pub struct RunJob<'a> {
@@ -41,6 +50,7 @@ pub struct RunJob<'a> {
     /// How many ticks an execution may take, as the words say: any number of 32 bits.
     pub budget: u32,
     pub pace: Pace,
+    pub machine: Machine,
     pub trace: Option<&'a str>,
     /// Whether it is told by which machine the runs went.
     pub stats: bool,

@@ -4,6 +4,6 @@
 mod job;
 
 pub use job::{
-    CheckJob, DEFAULT_BUDGET, DEFAULT_BUDGET_TEXT, Job, Pace, PlotJob, ReplayJob, RunJob, ShowJob,
-    Start, View, default_of_a_budget,
+    CheckJob, DEFAULT_BUDGET, DEFAULT_BUDGET_TEXT, Job, Machine, Pace, PlotJob, ReplayJob, RunJob,
+    ShowJob, Start, View, default_of_a_budget,
 };

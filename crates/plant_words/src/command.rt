@@ -8,6 +8,8 @@ static STARTS: [&str; 2] = ["warm", "cold"];
 
 static PACES: [&str; 2] = ["settle", "free"];
 
+static MACHINES: [&str; 2] = ["quick", "values"];
+
 fn source<'a>(alloc: Global) -> Arg<'a> {
     Arg::new(alloc, "source")
         .value_name("SRC")
@@ -44,6 +46,16 @@ fn pace<'a>(alloc: Global) -> Arg<'a> {
         .default_value("settle")
 }
 
+fn machine<'a>(alloc: Global) -> Arg<'a> {
+    Arg::new(alloc, "machine")
+        .long("machine")
+        .help(
+            "Run programs by quick code where there is some, or all of them on values, to compare",
+        )
+        .value_parser(MACHINES.as_slice())
+        .default_value("quick")
+}
+
 fn plant_file<'a>(alloc: Global) -> Arg<'a> {
     file(alloc, "plant", "The plant, a CSV file").required(true)
 }
@@ -78,6 +90,7 @@ fn run<'a>(alloc: Global) -> Result<Command<'a>, AllocError> {
         start(alloc),
         budget(alloc),
         pace(alloc),
+        machine(alloc),
         flag(alloc, "stats", "Say by which machine the executions went"),
         explain_flag(alloc),
         file(alloc, "trace", "The trace to write after the run"),

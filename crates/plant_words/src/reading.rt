@@ -8,7 +8,7 @@ use crate::command::command;
 use crate::number::plain_number;
 use clap::error::ErrorKind;
 use clap::{ArgMatches, Error};
-use plant_jobs::{CheckJob, Job, Pace, PlotJob, ReplayJob, RunJob, ShowJob, Start, View};
+use plant_jobs::{CheckJob, Job, Machine, Pace, PlotJob, ReplayJob, RunJob, ShowJob, Start, View};
 use std::alloc::{AllocError, Global};
 
 /// Why no job was read. It shows as clap's text.
@@ -30,6 +30,14 @@ fn pace(text: &str) -> Option<Pace> {
     }
 }
 
+fn machine(text: &str) -> Option<Machine> {
+    match text {
+        "quick" => Some(Machine::Quick),
+        "values" => Some(Machine::Values),
+        _ => None,
+    }
+}
+
 fn run<'a>(given: &ArgMatches<'a>) -> Option<RunJob<'a>> {
     Some(RunJob {
         source: given.get_str("source")?,
@@ -38,6 +46,7 @@ fn run<'a>(given: &ArgMatches<'a>) -> Option<RunJob<'a>> {
         start: start(given.get_str("start")?)?,
         budget: plain_number(given.get_str("budget")?)?,
         pace: pace(given.get_str("pace")?)?,
+        machine: machine(given.get_str("machine")?)?,
         trace: given.get_str("trace"),
         stats: given.get_flag("stats"),
         explain: given.get_flag("explain"),

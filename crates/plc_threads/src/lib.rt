@@ -16,3 +16,4 @@ pub use driver::Pace;
 pub use gate::Gate;
 pub use plant_run::run_plant;
 pub use report::{Report, RunError, Told};
+pub use shared::Extent;

@@ -4,10 +4,10 @@ ghost use Rattle.std.specs.Prelude.{◌≡◌, ◌+◌, Ok, IfSome, IfNone};
 ghost use Rattle.run_lock.specs.Answers.{committed_by, committed_here, stale_after};
 ghost use Rattle.run_lock.specs.Phases.{MayEnd};
 
-use coded_runs::{Execution, Snapshot};
-use commit_lock::{Answer, Core};
+use coded_runs::Taken;
+use commit_lock::{Answer, Core, Refusal};
 use disk::Disk;
-use run_lock::{Locked, Phase, Run, Tally};
+use run_lock::{Locked, OwnExecution, OwnTaken, Phase, Run, Tally};
 use st_plans::{Activation, Entry};
 use std::alloc::Global;
 use std::sync::{Condvar, Mutex, Wait};
@@ -40,6 +40,52 @@ fn last_activation<D: Disk>(core: &Core<D>) -> Option<Activation> {
     match core.entry(last) {
         Some(Entry::Done(activation)) => Some(*activation),
         Some(Entry::Row(_)) | None => None,
+    }
+}
+
+/// How much is taken for a run.
+#[derive(Clone, Copy, Debug, PartialEq, Eq)]
+pub enum Extent {
+    /// What the code names, where there is quick code.
+    Named,
+    /// All slots.
+    Whole,
+}
+
+/// What the code of the best activation of a resource names, or all slots where it has no quick code.
+fn named<J: Run, D: Disk>(
+    locked: &mut Locked<J, D>,
+    alloc: Global,
+    resource: usize,
+) -> Result<Option<OwnTaken<J>>, Refusal> {
+    match locked.take_quick(alloc, resource)? {
+        Some(taken) => Ok(Some(locked.own(taken))),
+        None => Ok(None),
+    }
+}
+
+/// All slots for it.
+fn whole<J: Run, D: Disk>(
+    locked: &mut Locked<J, D>,
+    alloc: Global,
+    resource: usize,
+) -> Result<Option<OwnTaken<J>>, Refusal> {
+    match locked.take(alloc, resource)? {
+        Some(snapshot) => Ok(Some(locked.own(Taken::Whole(snapshot)))),
+        None => Ok(None),
+    }
+}
+
+/// What is taken for a resource.
+fn taken<J: Run, D: Disk>(
+    locked: &mut Locked<J, D>,
+    alloc: Global,
+    resource: usize,
+    extent: Extent,
+) -> Result<Option<OwnTaken<J>>, Refusal> {
+    match extent {
+        Extent::Named => named(locked, alloc, resource),
+        Extent::Whole => whole(locked, alloc, resource),
     }
 }
 
@@ -77,15 +123,22 @@ impl<J: Run, D: Disk + Drop> Shared<J, D> {
         self.wake_all();
     }
 
-    /// The best activation of a resource, once there is one; none where the run has ended.
-    pub fn next<R: Wait>(&self, rt: &R, alloc: Global, resource: usize) -> Option<Snapshot> {
+    /// What a run of the best activation of a resource starts from, once there is one; none where the run has ended. In
+    /// whole, where that is asked for, or what the code names.
+    pub fn next<R: Wait>(
+        &self,
+        rt: &R,
+        alloc: Global,
+        resource: usize,
+        extent: Extent,
+    ) -> Option<OwnTaken<J>> {
         let mut guard = self.locked.lock(rt);
         for _ in rt.forever() {
             if guard.phase != Phase::Running {
                 return None;
             }
-            match guard.take(alloc, resource) {
-                Ok(Some(snapshot)) => return Some(snapshot),
+            match taken(&mut guard, alloc, resource, extent) {
+                Ok(Some(taken)) => return Some(taken),
                 Ok(None) => guard = self.due.wait(rt, guard),
                 Err(_) => {
                     self.wake_all();
@@ -101,7 +154,7 @@ impl<J: Run, D: Disk + Drop> Shared<J, D> {
         &self,
         rt: &R,
         tally: &mut Tally<J>,
-        execution: Execution,
+        execution: OwnExecution<J>,
     ) -> Option<Answer>
         ensures committed { IfSome result (λ a. tally.new.committed ≡ tally.old.committed + committed_by (Ok a)) }
         ensures stale { IfSome result (λ a. tally.new.stale ≡ stale_after tally.old.stale (Ok a)) }

@@ -4,8 +4,7 @@ ghost use Rattle.std.specs.Prelude.{◌≡◌, ◌+◌};
 
 use crate::driver::Pace;
 use crate::gate::Gate;
-use crate::shared::{Served, Shared};
-use coded_runs::run;
+use crate::shared::{Extent, Served, Shared};
 use commit_lock::Answer;
 use disk::Disk;
 use run_lock::{Mark, Phase, Run, RunFault, Tally};
@@ -36,8 +35,9 @@ pub fn work<J: Run, D: Disk + Drop, G: Gate, R: Wait>(
 {
     let mut tally = Tally::new(share);
     let mut stale_in_a_row = 0;
+    let mut extent = gate.extent();
     for _ in rt.forever() {
-        let Some(snapshot) = shared.next(rt, alloc, resource) else {
+        let Some(taken) = shared.next(rt, alloc, resource, extent) else {
             break;
         };
         if stale_in_a_row >= PATIENCE {
@@ -48,12 +48,21 @@ pub fn work<J: Run, D: Disk + Drop, G: Gate, R: Wait>(
             tell_gate(gate, resource, served);
             continue;
         }
-        let activation = snapshot.activation;
-        let Ok(execution) = run(alloc, snapshot) else {
-            shared.end(rt, Phase::Stopped(RunFault::NO_MEMORY));
-            break;
+        let activation = taken.activation();
+        let execution = match taken.run(alloc) {
+            Ok(Some(execution)) => execution,
+            Ok(None) => {
+                // Quick code cannot tell how this run ends; the machine on values can, and may look at any slot.
+                extent = Extent::Whole;
+                continue;
+            }
+            Err(_) => {
+                shared.end(rt, Phase::Stopped(RunFault::NO_MEMORY));
+                break;
+            }
         };
-        gate.between(resource, activation, execution.machine());
+        extent = gate.extent();
+        gate.between(resource, activation, execution.execution.machine());
         let Some(answer) = shared.commit(rt, &mut tally, execution) else {
             break;
         };

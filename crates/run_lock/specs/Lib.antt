@@ -4,3 +4,4 @@ pub mod Phases
 pub mod Answers
 pub mod Lives
 pub mod Latching
+pub mod Own

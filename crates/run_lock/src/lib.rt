@@ -8,10 +8,12 @@
 
 mod locked;
 mod mark;
+mod own;
 mod phase;
 mod tally;
 
 pub use locked::{Locked, Run, is_settled};
 pub use mark::{Mark, Pass, RaisePass};
+pub use own::{OwnExecution, OwnTaken};
 pub use phase::{Phase, RunFault};
 pub use tally::Tally;

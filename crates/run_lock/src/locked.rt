@@ -1,28 +1,32 @@
 //! What lies under the lock of a run.
 
-ghost use Rattle.std.specs.Prelude.{length, ◌≡◌, ◌↔◌, ◌+◌, ◌^◌, ◌<◌, ◌≤◌, ◌++◌, Option, drop, max, IfOk, IfNone, OnErr, IsTrue};
+ghost use Rattle.std.specs.Prelude.{length, ◌≡◌, ◌↔◌, ◌+◌, ◌^◌, ◌<◌, ◌≤◌, ◌++◌, Option, Some, drop, max};
+ghost use Rattle.std.specs.Prelude.{IfOk, IfNone, OnErr, IsTrue};
 ghost use Rattle.std.specs.Coded.{Coded-set};
 ghost use Rattle.atomic_table.specs.Seated.{table_id_coded};
 ghost use Rattle.st_plans.specs.Logs.{done_count};
 ghost use Rattle.serial_core.specs.Steps.{made, Commits, CommitsHere, Takes};
+ghost use Rattle.serial_core.specs.Quick.{TakesQuick};
 ghost use Rattle.commit_lock.specs.Cores.{Guards};
 ghost use Rattle.commit_lock.specs.Flushing.{Flushes, IsAcknowledged};
 ghost use Rattle.run_lock.specs.Answers.{committed_by, committed_here};
 ghost use Rattle.run_lock.specs.Lives.{life_of, IsOfLife, IsOfLife-prop, IsStartedSo, IsStartedSo-prop, NothingIsDue};
 ghost use Rattle.run_lock.specs.Lives.{InOrder, InOrder-prop};
 ghost use Rattle.run_lock.specs.Latching.{LatchesNext};
+ghost use Rattle.run_lock.specs.Own.{IsOwnTaken};
 ghost use Rattle.run_lock.specs.Phases.{ended_by, phase_after, phase_after_answer, IsStoppedFor, IsStoppedFor-prop, MayEnd};
 ghost use Rattle.commit_lock.specs.declared.refusal.Refusal.{Refusal};
 
 use crate::mark::{Mark, RaisePass};
+use crate::own::{OwnExecution, OwnTaken};
 use crate::phase::{Phase, after_answer, after_call, end_of};
-use coded_runs::{Execution, Snapshot};
+use coded_runs::{Snapshot, Taken};
 use commit_lock::{Answer, Core, Refusal};
 use disk::Disk;
 use st_plans::Row;
 use std::alloc::Global;
 use std::collections::VecDeque;
-use std::marker::Brand;
+use std::marker::{Brand, PhantomData};
 use std::sync::ledger::{Book, Ledger, Share};
 
 /// Names one run.
@@ -153,11 +157,34 @@ impl<J: Run, D: Disk> Locked<J, D> {
         result
     }
 
-    /// Commits, and counts in the share what was appended. A refusal ends the run.
-    pub fn commit(&mut self, execution: Execution, share: &mut Share<J>) -> Result<Answer, Refusal>
+    /// What a run of the best activation that waits on the resource starts from; none where nothing waits there. A
+    /// refusal ends the run.
+    pub fn take_quick(&mut self, alloc: Global, resource: usize) -> Result<Option<Taken>, Refusal>
+        ensures core { self.new.core ≡ self.old.core }
+        ensures takes { Guards self.old.core result self.old.core (λ r. TakesQuick self.old.core.state resource r) }
+        ensures phase { self.new.phase ≡ phase_after_answer self.old.phase result }
+    {
+        let Locked { core, phase, .. } = self;
+        let result = core.take_quick(alloc, resource);
+        *phase = after_answer(*phase, &result);
+        result
+    }
+
+    /// What was taken here is the run's own.
+    pub fn own(&self, taken: Taken) -> OwnTaken<J>
+        requires { IsOwnTaken (Some self.now.core.state) taken }
+    {
+        OwnTaken {
+            taken,
+            run: PhantomData,
+        }
+    }
+
+    /// Commits what came of what was taken here, and counts in the share what was appended. A refusal ends the run.
+    pub fn commit(&mut self, own: OwnExecution<J>, share: &mut Share<J>) -> Result<Answer, Refusal>
         requires { 0 < share.old.parts }
         ensures core { Guards self.old.core result self.new.core
-            (λ r. Commits self.old.core.state execution r self.new.core.state) }
+            (λ r. Commits self.old.core.state own.execution r self.new.core.state) }
         ensures phase { self.new.phase ≡ phase_after_answer self.old.phase result }
         ensures counted { share.new.amount ≡ share.old.amount + committed_by result }
         ensures parts { share.new.parts ≡ share.old.parts }
@@ -169,7 +196,8 @@ impl<J: Run, D: Disk> Locked<J, D> {
             phase,
             ..
         } = self;
-        let result = core.commit(execution);
+        let OwnExecution { execution, .. } = own;
+        let result = core.commit_own(execution);
         *phase = after_answer(*phase, &result);
         book.add(share, count_of(&result));
         book.audit(share);

@@ -6,7 +6,7 @@ ghost use Rattle.commit_lock.specs.Cores.{Guards};
 ghost use Rattle.run_lock.specs.Answers.{committed_by, committed_here, stale_after};
 
 use crate::locked::{Locked, Run, count_here, count_of};
-use coded_runs::Execution;
+use crate::own::OwnExecution;
 use commit_lock::{Answer, Refusal};
 use disk::Disk;
 use std::alloc::Global;
@@ -39,10 +39,10 @@ impl<J: Run> Tally<J> {
     pub fn commit<D: Disk>(
         &mut self,
         locked: &mut Locked<J, D>,
-        execution: Execution,
+        own: OwnExecution<J>,
     ) -> Result<Answer, Refusal>
         ensures core { Guards locked.old.core result locked.new.core
-            (λ r. Commits locked.old.core.state execution r locked.new.core.state) }
+            (λ r. Commits locked.old.core.state own.execution r locked.new.core.state) }
         ensures committed { self.new.committed ≡ self.old.committed + committed_by result }
         ensures stale { self.new.stale ≡ stale_after self.old.stale result }
     {
@@ -51,7 +51,7 @@ impl<J: Run> Tally<J> {
             committed,
             stale,
         } = self;
-        let result = locked.commit(execution, share);
+        let result = locked.commit(own, share);
         *committed += count_of(&result);
         if let Ok(Answer::Stale) = result {
             *stale = stale.saturating_add(1);

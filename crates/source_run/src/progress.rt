@@ -1,7 +1,8 @@
 //! How far a run is, and by which machine its executions went.
 
 use commit_lock::Answer;
-use plc_threads::{Gate, Machine};
+use plant_jobs::Machine as AskedMachine;
+use plc_threads::{Extent, Gate, Machine};
 use st_plans::Activation;
 use std::sync::atomic::{AtomicU64, Ordering};
 
@@ -15,6 +16,8 @@ pub struct Progress<'a, R: Eprint> {
     /// How many rows the run has.
     rows: u64,
     is_told: bool,
+    /// The machine that is asked for.
+    asked: AskedMachine,
     /// How many runs went by quick code.
     quick: AtomicU64,
     /// How many went by the machine on values.
@@ -22,12 +25,13 @@ pub struct Progress<'a, R: Eprint> {
 }
 
 impl<'a, R: Eprint> Progress<'a, R> {
-    /// Of a run over so many rows; told where the standard error is a terminal.
-    pub fn new(rt: &'a R, rows: usize, is_terminal: bool) -> Progress<'a, R> {
+    /// Of a run over so many rows, by this machine; told where the standard error is a terminal.
+    pub fn new(rt: &'a R, rows: usize, asked: AskedMachine, is_terminal: bool) -> Progress<'a, R> {
         Progress {
             rt,
             rows: rows as u64,
             is_told: is_terminal,
+            asked,
             quick: AtomicU64::new(0),
             values: AtomicU64::new(0),
         }
@@ -54,6 +58,13 @@ impl<'a, R: Eprint> Progress<'a, R> {
 }
 
 impl<R: Eprint> Gate for Progress<'_, R> {
+    fn extent(&self) -> Extent {
+        match self.asked {
+            AskedMachine::Quick => Extent::Named,
+            AskedMachine::Values => Extent::Whole,
+        }
+    }
+
     fn between(&self, _resource: usize, _activation: Activation, machine: Machine) {
         match machine {
             Machine::Quick => self.quick.fetch_add(1, Ordering::SeqCst),

@@ -136,7 +136,7 @@ pub fn run_plan<F: Files, R: Threads + Wait + Eprint + Sync>(
         return Err(Fault::Start(StartFault::NoMemory));
     };
     let core = start(rt, alloc, files, plan, job)?;
-    let progress = Progress::new(rt, rows.len(), files.is_terminal());
+    let progress = Progress::new(rt, rows.len(), job.machine, files.is_terminal());
     let (core, report) = served(rt, alloc, core, job.pace, rows, &progress);
     progress.clear();
     if job.stats {

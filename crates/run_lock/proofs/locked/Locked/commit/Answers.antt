@@ -8,9 +8,9 @@ use Rattle.run_lock.proofs.locked.Locked.commit.Goals as goal
 pub invariant_of-self : goal.invariant_of-self
 invariant_of-self g c =
     let old = c.args.self.now in
-    let new = c.commit-result.new.self in
-    let r = c.commit-result.result in
-    let more = gains _ _ _ _ c.commit-result.ensures.commits in
+    let new = c.commit_own-result.new.self in
+    let r = c.commit_own-result.result in
+    let more = gains _ _ _ _ c.commit_own-result.ensures.commits in
     let phase = c.after_answer.ensures in
     record {
       counted = omega (
@@ -31,7 +31,8 @@ invariant_of-self g c =
       stopped_for = subst (λ (p : Phase). IsStoppedFor p new) (sym phase)
           (stopped_answer old.phase r new
           (stopped_stays old.phase old.core new (gains_stay_so old.core new _ more) old.stopped_for)
-          (refused_so old.core new r _ c.commit-result.ensures.commits (λ full. full_stays old.core.state new.state full.1 full.0)));
+          (refused_so old.core new r _ c.commit_own-result.ensures.commits
+          (λ full. full_stays old.core.state new.state full.1 full.0)));
       in_order = subst (λ (p : Phase). unless_stopped p (rows_of new.state ++ old.rest.items)
           ≡ unless_stopped p g.J.Run.rows) (sym phase)
           (same_answered old.phase r (rows_of new.state ++ old.rest.items) g.J.Run.rows

@@ -1,0 +1,54 @@
+//! What is taken of a run's core, and what came of it: both are of the code that their program has there.
+
+ghost use Rattle.std.specs.Prelude.{◌≡◌, IfOk, IfSome, Some};
+ghost use Rattle.run_lock.specs.Own.{IsOwn, IsOwn-prop, IsOwnTaken, IsOwnTaken-prop};
+
+use crate::locked::Run;
+use coded_runs::{Execution, Taken, run_by_values, run_quick};
+use st_plans::Activation;
+use std::alloc::{AllocError, Global};
+use std::marker::PhantomData;
+
+/// What is taken of a run's core. Its code is that of its activation's program there.
+#[derive(Drop)]
+pub struct OwnTaken<J: Run> {
+    pub taken: Taken,
+    pub run: PhantomData<J>,
+    pub ghost own: { IsOwnTaken J.life taken } by { IsOwnTaken-prop J.life taken },
+}
+
+/// An execution of what was taken of a run's core.
+#[derive(Drop)]
+pub struct OwnExecution<J: Run> {
+    pub execution: Execution,
+    pub run: PhantomData<J>,
+    pub ghost own: { IsOwn J.life execution } by { IsOwn-prop J.life execution },
+}
+
+impl<J: Run> OwnTaken<J> {
+    /// The activation that it is of.
+    pub fn activation(&self) -> Activation {
+        match &self.taken {
+            Taken::Quick(quick) => quick.activation,
+            Taken::Whole(snapshot) => snapshot.activation,
+        }
+    }
+
+    /// Runs it: what code names by the quick machine, all slots by the machine on values. None where the quick machine
+    /// cannot tell how the run ends.
+    ///
+    /// The only error is out of memory.
+    pub fn run(self, alloc: Global) -> Result<Option<OwnExecution<J>>, AllocError> {
+        let OwnTaken { taken, run } = self;
+        match taken {
+            Taken::Quick(quick) => match run_quick(alloc, quick)? {
+                Some(execution) => Ok(Some(OwnExecution { execution, run })),
+                None => Ok(None),
+            },
+            Taken::Whole(snapshot) => {
+                let execution = run_by_values(alloc, snapshot)?;
+                Ok(Some(OwnExecution { execution, run }))
+            }
+        }
+    }
+}
