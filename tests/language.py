@@ -69,7 +69,7 @@ class Plant:
         (self.folder / "text.st").write_text(text)
         (self.folder / "plant.csv").write_text(rows)
         words = [self.program, "run", "text.st", "--plant", "plant.csv", "--store", store, "--start", start, "--budget", str(budget)]
-        words += ["--pace", pace, "--machine", machine] + (["--trace", "trace"] if trace else [])
+        words += ["--pace", pace, "--machine", machine, "--stats"] + (["--trace", "trace"] if trace else [])
         return subprocess.run(words, cwd=self.folder, capture_output=True, text=True, check=False, timeout=60)
 
     def check(self, text):
@@ -97,8 +97,8 @@ class Plant:
     def same_by_values(self, name, text, report, given):
         """The same run by the machine on values alone, over a store of its own, has this report."""
         other = self.run(text, **(given | {"store": given.get("store", "store") + "-values", "trace": False, "machine": "values"}))
-        if other.returncode or other.stdout != report:
-            sys.exit(f"{NAME}: {name}: by the machine on values status {other.returncode}\n{other.stdout}\nby quick code\n{report}\n{text}")
+        if other.returncode or other.stdout != report or "runs by quick code 0," not in other.stderr:
+            sys.exit(f"{NAME}: {name}: by the machine on values status {other.returncode}\n{other.stdout}{other.stderr}\nby quick code\n{report}\n{text}")
 
     def scene(self, name, text, wanted, **given):
         """The values that a text leaves, and its counts where some are wanted."""
