@@ -1,7 +1,8 @@
 //! The code of an IF that assigns one of two values.
 //!
 //! Both are read, and one is assigned: no branch is there whose way the processor could guess wrongly. That is so where
-//! reading them is cheap and can't fail, and looks up nothing that the other way does not.
+//! reading them is cheap and can't fail, and looks up nothing but what is looked up whichever is assigned, or was
+//! touched before.
 
 ghost use Rattle.std.specs.Prelude.{◌<◌, IsTrue, length};
 
@@ -22,6 +23,10 @@ use st_words::{BinaryOperator, Kind, UnaryOperator};
 /// How many levels the expressions of a choice have at most, so that they are cheap.
 const MOST_LEVELS: usize = 4;
 
+/// How many constants a program may have before an IF with a choice. A choice takes words for the constants that it
+/// assigns, where a branch would have them in its instructions, and words for constants are few.
+const MOST_CONSTANTS: usize = 1024;
+
 /// The choice that an IF is, if its code is written as that.
 pub fn cheap_choice<'a>(
     unit: Unit,
@@ -32,6 +37,9 @@ pub fn cheap_choice<'a>(
     let Some(choice) = choice_of(arms, otherwise) else {
         return Ok(None);
     };
+    if draft.constants.len() > MOST_CONSTANTS {
+        return Ok(None);
+    }
     let is_cheap = is_straight(choice.condition, true, MOST_LEVELS)
         && is_straight(choice.yes, false, MOST_LEVELS)
         && is_straight(choice.no, false, MOST_LEVELS);
@@ -44,7 +52,7 @@ pub fn cheap_choice<'a>(
     Ok(Some(choice))
 }
 
-/// Whether code that reads an expression has no branch; unless sums may stand in it, it can't fail either.
+/// Whether code that reads an expression has no branch and, where it may not fail, no operator that may have no result.
 fn is_straight(expression: &SlotExpr, may_fail: bool, levels: usize) -> bool {
     if levels == 0 {
         return false;
@@ -63,8 +71,7 @@ fn is_straight(expression: &SlotExpr, may_fail: bool, levels: usize) -> bool {
                 && is_straight(&operands.right, may_fail, levels)
         }
         SlotExpr::Compute(function, arguments) => {
-            has_no_branch(*function, arguments)
-                && is_straight(&arguments[0], may_fail, levels)
+            has_no_branch(*function, arguments) && is_straight(&arguments[0], may_fail, levels)
         }
         SlotExpr::Call(_, _) => false,
     }
@@ -76,7 +83,7 @@ fn has_no_branch(function: Standard, arguments: &[SlotExpr]) -> bool
 {
     match function {
         Standard::Shr => match arguments {
-            [_, SlotExpr::Constant { .. }] => true,
+            [_, SlotExpr::Constant(..)] => true,
             _ => false,
         },
         _ => arguments.len() == 1 && is_widening(function),
@@ -110,16 +117,20 @@ fn is_looked_up(
     match expression {
         SlotExpr::Constant(_) => Ok(true),
         SlotExpr::Load(place) => match variable_of(place) {
-            Variable::Whole(anchor) => Ok(looks_up(choice.condition, anchor, MOST_LEVELS)
-                || (looks_up(choice.yes, anchor, MOST_LEVELS)
-                    && looks_up(choice.no, anchor, MOST_LEVELS))
-                || draft.is_touched(unit, anchor)?),
+            Variable::Whole(anchor) => Ok(
+                looks_up(choice.condition, anchor, MOST_LEVELS)
+                    || (looks_up(choice.yes, anchor, MOST_LEVELS)
+                        && looks_up(choice.no, anchor, MOST_LEVELS))
+                    || draft.is_touched(unit, anchor)?,
+            ),
             _ => Ok(false),
         },
         SlotExpr::Unary(_, operand) => is_looked_up(unit, draft, operand, choice, levels),
         SlotExpr::Binary(_, operands) => {
-            Ok(is_looked_up(unit, draft, &operands.left, choice, levels)?
-                && is_looked_up(unit, draft, &operands.right, choice, levels)?)
+            Ok(
+                is_looked_up(unit, draft, &operands.left, choice, levels)?
+                    && is_looked_up(unit, draft, &operands.right, choice, levels)?,
+            )
         }
         SlotExpr::Compute(_, arguments) => match arguments.first() {
             Some(first) => is_looked_up(unit, draft, first, choice, levels),
@@ -172,7 +183,7 @@ pub fn put_choice(
     spot: Spot,
 ) -> Result<(), Stop> {
     let behind = draft.sheet.mark()?;
-    let landing = draft.promise(behind)?;
+    draft.promise(behind)?;
     let slot = unit.slot_of(choice.variable)?;
     let to = unit.own_word_of(slot)?;
     let condition = put_asked(unit, draft, choice.condition, spot.inside()?)?;
@@ -190,18 +201,12 @@ pub fn put_choice(
         to,
     })?;
     draft.assign(unit, choice.variable)?;
-    draft.sheet.bind(behind)?;
-    draft.keep_here(landing)
+    draft.sheet.bind(behind)
 }
 
 /// Writes the code that reads a condition: the word that is not 0 where it holds.
 #[cycle(draft)]
-fn put_asked(
-    unit: Unit,
-    draft: &mut Draft,
-    condition: &SlotExpr,
-    spot: Spot,
-) -> Result<u16, Stop> {
+fn put_asked(unit: Unit, draft: &mut Draft, condition: &SlotExpr, spot: Spot) -> Result<u16, Stop> {
     if let Some(operands) = unequal_to_0(condition) {
         let left = put_read(unit, draft, &operands.left, spot.inside()?)?;
         return Ok(left.word);
