@@ -31,9 +31,9 @@ module _ (f : Frame) (s : Site) (units : QuickUnits) where
       → slice_get f.code last.place ≡ Some (Select k first second word) → stepped ≡ next last
       → q ≡ record stepped { noted = q.noted } → Touches at_assignment s word stepped.noted q.noted
       → IsChosen f s units (arm_then condition (becomes variable chosen) no_arms) (becomes variable other_value) d p q
-  choice_stands condition chosen other_value variable kind one other d below deep k word first second behind p asked inner
-      marked middle met from last stepped q target own asks tick inner_is below_is deep_is marked_is met_is from_is one_is
-      reads_one straight_one other_is reads_other straight_other many much stands stepped_is q_is touches =
+  choice_stands condition chosen other_value variable kind one other d below deep k word first second behind p asked
+      inner marked middle met from last stepped q target own asks tick inner_is below_is deep_is marked_is met_is from_is
+      one_is reads_one straight_one other_is reads_other straight_other many much stands stepped_is q_is touches =
       let met_place = ap (λ (p : Point). p.place) met_is in
       let inner_place = ap (λ (p : Point). p.place) inner_is in
       let deepest = deep_is ∙ ap suc below_is in

@@ -44,8 +44,8 @@ use Rattle.quick_trees.specs.Sites.{HasOwnWord, Site, base_of, kinds_of}
 use Rattle.quick_trees.specs.Standing.{Exits, IsFor, IsKeptStep, IsPaced}
 use Rattle.quick_trees.proofs.Stepping.{Follows, HasBranched, has_branched, has_put, stepped}
 use Rattle.quick_trees.proofs.Memories.{IsSite, Keeps, Spares, assigned_again, assigned_look, assigned_then, deeper}
-use Rattle.quick_trees.proofs.Memories.{holds_assigned, holds_kept, holds_looked, holds_temporary, keeps_all, keeps_below}
-use Rattle.quick_trees.proofs.Memories.{keeps_both, keeps_less, keeps_word, own_inside, own_value}
+use Rattle.quick_trees.proofs.Memories.{holds_assigned, holds_kept, holds_looked, holds_temporary, keeps_all}
+use Rattle.quick_trees.proofs.Memories.{keeps_below, keeps_both, keeps_less, keeps_word, own_inside, own_value}
 use Rattle.quick_trees.proofs.Memories.{spares_both, spares_kept, spares_less, spares_own, spares_word, still_told}
 use Rattle.quick_trees.proofs.Memories.{IsNoted, marks_of, noted_word, own_no_constant, own_place}
 use Rattle.quick_trees.proofs.Memories.{with_look, word_elsewhere, word_here}
@@ -399,7 +399,8 @@ record HasAdded (f : Frame) (q : ℕ) (e : Left) (t : Kind) (k : ℕ) (v by : �
 module _ (f : Frame) (s : Site) (ns : List Noting) (marks : List Mark) (e : Left) (t : Kind) (k limit d : ℕ) (by : ℤ)
     (w : Way) (past : ℕ) (m : Memory) (b : ℕ) (deep : first_temporary f ≤ d) (k_low : k < d) (limit_low : limit < d)
     (inside : k < length m.words) (place : (k < length f.window) ⊎ (first_temporary f ≤ k))
-    (other : (u : ℕ) → Stays f s u → u ≡ k → ⊥) (stays : Stays f s limit) (noted : IsNoted f ns marks m) (held : IsHeld (datum_at t (look m k)))
+    (other : (u : ℕ) → Stays f s u → u ≡ k → ⊥) (stays : Stays f s limit) (noted : IsNoted f ns marks m)
+    (held : IsHeld (datum_at t (look m k)))
   where
     has_added : (step p q : ℕ) → number_at t (look m step) ≡ by → IsHeld (datum_at t (look m step))
         → AddsStep f t k step p q → Ends f p m b e → HasAdded f q e t k (look m k) by m b

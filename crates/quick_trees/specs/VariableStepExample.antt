@@ -19,7 +19,8 @@ variable_step_body =
     stmt_then (FOR (own 0) (number 5) (number 1) (Some (variable 1))
     (stmt_then (assign (place (own 1) no_subscripts) (variable 0)) no_stmts)) no_stmts
 
--- i is the word 0, s is 1, and the constants 5 and 1 are 2 and 3. The step stays in 6, and 7 tells whether it is below 0.
+-- i is the word 0, s is 1, and the constants 5 and 1 are 2 and 3. The step stays in 6, and 7 tells whether it is below
+-- 0.
 abbrev pub variable_step_code : List QuickInstr
 variable_step_code =
     Jump (way 1 1) ∷ NoteRead 1 ∷ NoteWritten 0 ∷ Move 1 6 ∷ DivideLint 6 6 7 ∷ Set (pos 0) 7 ∷ Less 6 7 7 ∷ Move 2 0

@@ -45,8 +45,8 @@ pub fn a_program_in_quick_code()
     ensures short { exec its_code [] 0 50 0 (its_words (pos 0) (pos 3) 0 0) 24 ≡ None }
 {}
 
-/// An IF that assigns one of two values. Its code stands for it, and has no branch: it makes both. From 3, which is odd,
-/// both come to 6, and from 2 to 2. Each takes two ticks. With one tick the code cannot tell.
+/// An IF that assigns one of two values. Its code stands for it, and has no branch: it makes both. From 3, which is
+/// odd, both come to 6, and from 2 to 2. Each takes two ticks. With one tick the code cannot tell.
 pub fn a_choice_in_quick_code()
     ensures stands { IsProgram choice_frame no_units 0 0 choice_body }
     ensures odd { exec choice_code [] 0 50 0 (choice_words 3 0 0 0) 10 ≡ Some (left (choice_words 6 1 6 3) 8) }
@@ -82,8 +82,8 @@ pub fn a_short_for_in_quick_code()
     ensures short { exec short_for_code [] 0 50 0 (short_for_words 0 0 0) 4 ≡ None }
 {}
 
-/// A FOR from 5 to 1 by a variable, which the body assigns. Its code stands for it. By -2 both come to -1 and 1, and take
-/// seven ticks: one, and two for each of three turns. By 2 there is no turn, and by 0 the code cannot tell.
+/// A FOR from 5 to 1 by a variable, which the body assigns. Its code stands for it. By -2 both come to -1 and 1, and
+/// take seven ticks: one, and two for each of three turns. By 2 there is no turn, and by 0 the code cannot tell.
 pub fn a_variable_step_in_quick_code()
     ensures stands { IsProgram variable_step_frame no_units 0 0 variable_step_body }
     ensures run { exec variable_step_code [] 0 50 0

@@ -8,6 +8,8 @@ use Rattle.machine_code.specs.contracts.instr.Instr as instr
 use Rattle.coded_programs.specs.declared.code.Code.{Code}
 use Rattle.coded_programs.specs.Codes.{CodeView, code_view}
 use Rattle.coded_runs.specs.Effects.{Effect}
+use Rattle.coded_runs.specs.Executions.{IsEffectOf}
+use Rattle.coded_runs.specs.QuickExecutions.{IsQuickEffectOf}
 use Rattle.coded_runs.specs.declared.taken.Taken.{Taken}
 use Rattle.coded_runs.specs.declared.taken.Taken.TheVariants.{Quick, Whole}
 use Rattle.serial_core.specs.Steps.{State, code_at}
@@ -46,3 +48,13 @@ IsOwnTaken life taken = code_in life (program_of taken) ≡ Some (code_view (cod
 pub IsOwnTaken-prop : (life : Option State) (taken : Taken) → IsProp (IsOwnTaken life taken)
 IsOwnTaken-prop life taken =
     Coded-set (coded_option coded_view) (code_in life (program_of taken)) (Some (code_view (code_of taken)))
+
+-- what came of what was taken: an execution of these values, or of this snapshot
+abbrev pub CameOf : Taken → Effect → Type 0
+CameOf (Quick quick) effect = IsQuickEffectOf quick effect
+CameOf (Whole snapshot) effect = IsEffectOf snapshot effect
+
+-- all slots were taken
+abbrev pub IsWhole : Taken → Type 0
+IsWhole (Quick quick) = ⊥
+IsWhole (Whole snapshot) = Unit {0}

@@ -1,7 +1,7 @@
 //! What is taken of a run's core, and what came of it: both are of the code that their program has there.
 
-ghost use Rattle.std.specs.Prelude.{◌≡◌, IfOk, IfSome, Some};
-ghost use Rattle.run_lock.specs.Own.{IsOwn, IsOwn-prop, IsOwnTaken, IsOwnTaken-prop};
+ghost use Rattle.std.specs.Prelude.{◌≡◌, IfNone, IfOk, IfSome, Some};
+ghost use Rattle.run_lock.specs.Own.{CameOf, IsOwn, IsOwn-prop, IsOwnTaken, IsOwnTaken-prop, IsWhole};
 
 use crate::locked::Run;
 use coded_runs::{Execution, Taken, run_by_values, run_quick};
@@ -38,7 +38,10 @@ impl<J: Run> OwnTaken<J> {
     /// cannot tell how the run ends.
     ///
     /// The only error is out of memory.
-    pub fn run(self, alloc: Global) -> Result<Option<OwnExecution<J>>, AllocError> {
+    pub fn run(self, alloc: Global) -> Result<Option<OwnExecution<J>>, AllocError>
+        ensures came { IfOk result (λ o. IfSome o (λ own. CameOf self.taken own.execution)) }
+        ensures whole { IfOk result (λ o. IfNone o (IsWhole self.taken → ⊥)) }
+    {
         let OwnTaken { taken, run } = self;
         match taken {
             Taken::Quick(quick) => match run_quick(alloc, quick)? {

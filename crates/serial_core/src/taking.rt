@@ -83,6 +83,7 @@ impl SerialCore {
             Err(_) => Err(Refusal::NoMemory),
         }
     }
+
     /// The values of the slots that the code of an activation that waits names, as a snapshot; K6 out of memory.
     fn quick_snapshot_of(
         &self,
