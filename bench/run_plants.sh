@@ -4,6 +4,6 @@
 set -e
 . "$(dirname "$0")/copied.sh"
 # shellcheck disable=SC2046 # names without blanks
-copied "$1" plant_bench 'anyhow thiserror csv' $(below "$1" "st_build image")
+copied "$1" plant_bench 'anyhow thiserror csv' $(below "$1" "config image")
 rt run -- 1250
 for rows in 2500 5000 10000; do out/plant_bench "$rows"; done

@@ -7,7 +7,7 @@
 set -e
 . "$(dirname "$0")/copied.sh"
 # all that a text's plan and a core stand on
-crates=$(below "$1" 'st_build serial_core')
+crates=$(below "$1" 'config serial_core')
 built=${2:+$(realpath "$2")}
 # shellcheck disable=SC2086 # names without blanks
 copied "$1" speed 'anyhow thiserror' $crates

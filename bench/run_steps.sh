@@ -5,7 +5,7 @@
 set -euo pipefail
 . "$(dirname "$0")/copied.sh"
 # shellcheck disable=SC2046 # names without blanks
-copied "$1" steps 'anyhow thiserror' $(below "$1" 'st_build serial_core')
+copied "$1" steps 'anyhow thiserror' $(below "$1" 'config serial_core')
 
 # text STATEMENT SLOTS: a program of the statement, with so many globals
 text() {

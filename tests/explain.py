@@ -1,8 +1,8 @@
 #!/usr/bin/env python3
 """Tries what the built program says of refused texts with --explain: the line of the code, and behind it what a person is shown.
 
-Each case has the text with `@` at the place of the fault, where it has one, and all that is shown, by the rules of docs/GUIDE.md, "What is
-wrong, and where".
+Each case has the text with `@` at the place of the fault, where it has one, and all that is shown, by the rules of docs/GUIDE.md, "Faults of a
+text, for a person".
 
 usage: tests/explain.py PLANT     PLANT is the built program
 """

@@ -131,7 +131,7 @@ def titles(page):
 def main():
     program = Program(os.path.abspath(sys.argv[1]))
     wanted = titles((ROOT / "docs/CODES.md").read_text())
-    table = re.findall(r'codes "([A-Z]\d+)"', (ROOT / "crates/plant_codes/specs/Codes.antt").read_text())
+    table = re.findall(r'codes "([A-Z]\d+)"', (ROOT / "crates/source_run/specs/ToldCodes.antt").read_text())
     if sorted(table) != sorted(wanted):
         fail(f"docs/CODES.md and the table differ in {sorted(set(table) ^ set(wanted))}")
     for code, title in wanted.items():

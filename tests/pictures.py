@@ -44,37 +44,36 @@ END_CONFIGURATION
 
 
 class Pictures:
-    """A folder with the examples of the dosing pump and of the flow meter, in which the program runs."""
+    """Copies of the examples of the dosing pump and of the flow meter, in which the program runs."""
 
     def __init__(self, plant, work):
         self.plant = plant
         self.work = work
         for example in ("dosing", "flow"):
-            for path in (ROOT / "examples" / example).iterdir():
-                shutil.copy(path, work / (f"{example}.csv" if path.name == "plant.csv" else path.name))
+            shutil.copytree(ROOT / "examples" / example, work / example)
         (work / "tank.st").write_text(TANK)
 
-    def told(self, words, status=0):
+    def told(self, words, folder=".", status=0):
         """Returns what the program tells, with the command line before it."""
-        done = subprocess.run([self.plant, *shlex.split(words)], cwd=self.work, capture_output=True, text=True)
+        done = subprocess.run([self.plant, *shlex.split(words)], cwd=self.work / folder, capture_output=True, text=True)
         if done.returncode != status:
             sys.exit(f"pictures.py: `plant {words}` ended with {done.returncode}: {done.stderr}")
         return f"$ plant {words}\n{done.stdout}{done.stderr}"
 
     def run(self):
-        cold = self.told("run dosing.st --plant dosing.csv --store dosing.retain --start cold")
-        warm = self.told("run dosing.st --plant next.csv --store dosing.retain --start warm")
+        cold = self.told("run dosing.st --plant plant.csv --store dosing.retain --start cold", "dosing")
+        warm = self.told("run dosing.st --plant next.csv --store dosing.retain --start warm", "dosing")
         # how many saves a run makes, and so the generation, hangs on its threads
-        shown = self.told("show dosing.retain").splitlines(keepends=True)
+        shown = self.told("show dosing.retain", "dosing").splitlines(keepends=True)
         return cold + warm + "$ plant show dosing.retain | tail -n 3\n" + "".join(shown[-3:])
 
     def fault(self):
         return self.told("check tank.st --explain", status=2)
 
     def plot(self):
-        self.told("run flow.st --plant flow.csv --store flow.retain --start cold --trace flow.trace")
-        self.told("plot flow.st --plant flow.csv --trace flow.trace --out flow.svg")
-        return (self.work / "flow.svg").read_text()
+        self.told("run flow.st --plant plant.csv --store flow.retain --start cold --trace flow.trace", "flow")
+        self.told("plot flow.st --plant plant.csv --trace flow.trace --out flow.svg", "flow")
+        return (self.work / "flow" / "flow.svg").read_text()
 
 
 def block(name):

@@ -8,7 +8,7 @@ plant=$(realpath "$1")
 shift
 cd "$(dirname "$0")/.."
 
-scripts=(program.sh language.py edges.py examples.sh replays.sh broken.py codes.py explanations.py explain.py shows.py layouts.py plots.py
+scripts=(program.sh rules.py language.py edges.py examples.sh replays.sh broken.py codes.py explanations.py explain.py shows.py layouts.py plots.py
     pictures.py progress.py flat.py kill.sh two_runs.py hostile.py refusals.py refused_calls.py)
 told=$(mktemp -d)
 trap 'rm -rf "$told"' EXIT

@@ -13,7 +13,7 @@ cd "$(dirname "$0")/.."
 
 work=$PWD/out/dosing
 # what tools/first_run stands on
-libraries='source_run plant_jobs'
+libraries='source_run'
 rm -rf "$work"
 mkdir -p "$work/cases"
 cp examples/dosing/* "$work"

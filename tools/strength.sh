@@ -19,7 +19,7 @@ rt=$PWD/tools/rt.py
 mkdir -p out
 copy=$(mktemp -d)
 trap 'rm -rf "$copy"' EXIT
-copy_parts "$(below . "$names")" "$copy" src specs proofs
+copy_parts "$(below . "$names")" "$copy" src specs proofs args stdin stdout
 for crate in $names; do
     cp -r "strength/$crate" "$copy/crates/$crate/must-fail"
 done

@@ -1,8 +1,10 @@
-pub mod RecordedLemmas
-pub mod RecordLemmas
+mod DriveLemmas
+mod LogLemmas
+mod AckedLemmas
+mod LifeLemmas
+mod FrontLemmas
+mod CauseLemmas
+pub mod FindingLemmas
 pub mod StartLemmas
-pub mod SurvivalLemmas
-pub mod CallLemmas
-pub mod GivenBack
-pub mod MigratingLemmas
-pub mod GivenToOthers
+pub mod ReplayLemmas
+mod AcceptLemmas

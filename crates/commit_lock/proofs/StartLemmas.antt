@@ -1,218 +1,344 @@
--- Starting a core.
-use Rattle.std.proofs.Common.{◌≡◌, ℕ, ◌+◌, List, [], map, Option, Some, None, inl, inr, refl, sym, ap, subst, ◌∙◌}
-use Rattle.std.proofs.Common.{arith}
-use Rattle.st_types.specs.Stores.{Store}
-use Rattle.st_plans.specs.Restarts.{Kept, kept, warm_start}
-use Rattle.retain_records.specs.Records.{Content}
-use Rattle.retain_areas.specs.Recovered.{Recovered, TooLong, Refused, Nothing, Found}
-use Rattle.retain_store.specs.Kept.{record_in, IsLast}
-use Rattle.cut_bytes.specs.CutLaws.{some_is}
-use Rattle.config.specs.declared.plan.Plan.{Plan}
-use Rattle.config.specs.PlanViews.{plan_view}
-use Rattle.serial_core.specs.Steps.{State}
-use Rattle.serial_core.specs.Retained.{retained_kinds, told_by}
-use Rattle.commit_lock.specs.Recorded.{recorded}
-use Rattle.st_words.specs.Values.{Datum}
-use Rattle.kept_lines.specs.Told.{told}
-use Rattle.commit_lock.proofs.RecordedLemmas.{typed}
-use Rattle.commit_lock.proofs.RecordLemmas.{known_kinds, told_in_order}
-use Rattle.commit_lock.specs.Restart.{IsOfPlan, Survives, begun, layout_text_of, record_now, warm}
-use Rattle.commit_lock.specs.Starting.{CanStart, HasOtherLayout, LeftByStart, StartKeeps, RefusesStart, Saves, IsLastGeneration}
-use Rattle.commit_lock.specs.Starting.{IsStart, IsWantOfMemory, next_generation, start_in, start_of, start_record, started}
-use Rattle.commit_lock.specs.declared.refusal.StartFault.{StartFault}
-use Rattle.commit_lock.specs.declared.refusal.StartFault.TheVariants as faults
-use Rattle.retain_store.specs.declared.fault.StoreFault.TheVariants as stores
-use Rattle.retain_store.specs.Opening.{KeepsRecord}
-use Rattle.commit_lock.specs.declared.starting.StartMode.{StartMode}
-use Rattle.commit_lock.specs.declared.starting.StartMode.TheVariants.{Warm}
-use Rattle.retain_areas.specs.Areas.{IsEither}
-use Rattle.std.specs.Prelude.{MatchResult, IfOk, IfErr, Result, Ok, Err}
+-- Starts that a trace tells.
+use Rattle.std.proofs.Common.{◌≡◌, ◌∙◌, ap, sym, refl, subst, ℕ, suc, arith, Bool, true, false, List, [], ◌∷◌, ◌++◌, map, length, ◌&&◌}
+use Rattle.std.proofs.Common.{if◌then◌else◌, Option, Some, None, IfSome, option_map, append_assoc}
+use Rattle.std.specs.Prelude.{bytes_eq}
+use Rattle.std.specs.List.{All, AllByRecursion, find}
+use Rattle.std.proofs.lemmas.Bool.{and_parts}
+use Rattle.std.proofs.lemmas.List.{length-map}
+use Rattle.st_types.specs.declared.limits.TheConstants.{MAX_LOG_ROOM}
+use Rattle.st_types.specs.Kinds.{holds}
+use Rattle.st_types.specs.Paths.{Path}
+use Rattle.st_types.specs.Values.{Datum, IsHeld}
+use Rattle.st_meaning.specs.declared.plan.PlanVariable.{PlanVariable}
+use Rattle.st_meaning.specs.declared.plan.PlanInput.{PlanInput}
+use Rattle.st_meaning.specs.Stores.{Store}
+use Rattle.st_meaning.specs.Slots.{variables_in}
+use Rattle.st_meaning.specs.Layouts.{Enumerations, layout_of, path_text, type_text}
+use Rattle.st_meaning.specs.Restarts.{Kept, KeptLine, Start, cold_start, is_line_of, kept, restarted, value_in, warm_start}
+use Rattle.plan.specs.declared.plan.Plan.{Plan}
+use Rattle.plan.specs.PlanViews.{plan_view}
+use Rattle.serial_core.specs.Steps.{State, store_in}
+use Rattle.core_values.specs.Restored.{restored}
+use Rattle.serial_core.specs.Retained.{paired, retained_kinds, retained_paths, retained_values, told_by}
+use Rattle.serial_core.proofs.PlanSlots.{no_variables}
+use Rattle.serial_core.proofs.RetainedLemmas.{goes_by_itself, kept_paired, kinds_kept, restart_is, restored_back, restored_typed}
+use Rattle.durable_core.specs.Starting.{started}
+use Rattle.durable_core.specs.declared.starting.StartMode.{StartMode}
+use Rattle.durable_core.specs.declared.starting.StartMode.TheVariants.{Warm, Cold}
+use Rattle.trace.specs.Reads.{Begins, Follows}
+use Rattle.trace.specs.Heads.{AreKept, IsEarly, MayBegin, begin_of, kept_lines}
+use Rattle.commit_lock.specs.Starts.{IsBegun, IsBegunAt, IsBegunSo, head_of, kept_of}
+use Rattle.trace.specs.Texts.{begin_text, keep_text}
+use Rattle.trace.proofs.ReadLemmas.{both_are, none_some}
 
--- the record that a life goes on from is that of its start
-survives_of : (plan : Plan) (generation : ℕ) (content : Content) (start : Store) (before : Option ℕ)
-    → content.layout ≡ layout_text_of plan → before ≡ content.moment
-    → map recorded (map (λ e. e.1) (kept (plan_view plan) start)) ≡ content.values
-    → Survives plan start before [] 0 (Found generation content)
-survives_of plan generation content start before layout moment values = record {
-  front = [];
-  rest = [];
-  parts = refl;
-  acknowledged = omega arith;
-  holds = rw (moment, values, layout) refl;
+-- ---- a cold start
+
+-- a life with this start
+abbrev pub life_of : Plan → Start → State
+life_of plan start = started plan MAX_LOG_ROOM start
+
+begun_is : (plan : Plan) (start : Start) (life : State) → life ≡ started plan MAX_LOG_ROOM
+    record { store = life.start; moment = life.before }
+    → ◌≡◌ {A = Start} record { store = life.start; moment = life.before } start → life ≡ life_of plan start
+begun_is plan start life is same = is ∙ ap (life_of plan) same
+
+pub cold_begins : (plan : Plan) (life : State) (text words : List ℕ) (o : Option (List ℕ))
+    → life ≡ life_of plan (cold_start (plan_view plan)) → words ≡ kept_of life → Follows text words o
+    → Begins (IsBegunAt plan Cold None) kept_of text (option_map {T = List ℕ} {U = State × List ℕ} (λ rest. (life, rest)) o)
+cold_begins plan life text words o is spelled follows = (there o follows.0, only)
+  where
+    begun : IsBegunAt plan Cold None life
+    begun = subst (λ (s : State). IsBegunAt plan Cold None s) (sym is) ((refl, refl, tt), refl)
+
+    there : (u : Option (List ℕ)) → IfSome u (λ rest. text ≡ words ++ rest)
+        → IfSome (option_map {T = List ℕ} {U = State × List ℕ} (λ rest. (life, rest)) u)
+        (λ p. IsBegunAt plan Cold None p.0 × (text ≡ kept_of p.0 ++ p.1))
+    there None h = tt
+    there (Some rest) h = (begun, h ∙ ap (λ w. w ++ rest) spelled)
+
+    only : (s : State) (more : List ℕ) → IsBegunAt plan Cold None s → text ≡ kept_of s ++ more
+        → option_map {T = List ℕ} {U = State × List ℕ} (λ rest. (life, rest)) o ≡ Some (s, more)
+    only s more may e =
+        let same : life ≡ s = is ∙ sym (begun_is plan (cold_start (plan_view plan)) s may.0.0 may.0.1) in
+        let words_are : words ≡ kept_of s = spelled ∙ ap (λ (x : State). kept_of x) same in
+        ap (option_map {T = List ℕ} {U = State × List ℕ} (λ rest. (life, rest)))
+        (follows.1 more (e ∙ ap (λ w. w ++ more) (sym words_are)))
+        ∙ ap (λ (x : State). Some (x, more)) same
+
+-- a cold start has no moment
+pub cold_without_moment : (plan : Plan) (moment : ℕ) (text : List ℕ)
+    → Begins (IsBegunAt plan Cold (Some moment)) kept_of text None
+cold_without_moment plan moment text = (tt, only)
+  where
+    only : (s : State) (more : List ℕ) → IsBegunAt plan Cold (Some moment) s → text ≡ kept_of s ++ more
+        → ◌≡◌ {A = Option (State × List ℕ)} None (Some (s, more))
+    only s more may e =
+        let none : s.before ≡ None = ap (λ (x : Start). x.moment) may.0.1 in
+        let bad : Some moment ≡ None = sym may.1 ∙ none in absurd (cc)
+
+-- ---- a warm start
+
+-- a variable's value after a restart is one of its type
+held_at : (types : Enumerations) (v : PlanVariable) (l : KeptLine) (found : Option KeptLine) (b : Bool) → is_line_of types v l ≡ b
+    → holds v.initial.kind (value_in v found).number ≡ true
+    → holds v.initial.kind (value_in v (if b then Some l else found)).number ≡ true
+held_at types v l found true is rest =
+    (and_parts (bytes_eq (path_text v.path) l.path && bytes_eq (type_text types v.initial.kind) l.spelling)
+    (holds v.initial.kind l.number) is).1
+held_at types v l found false is rest = rest
+
+held_in : (types : Enumerations) (v : PlanVariable) (lines : List KeptLine) → holds v.initial.kind v.initial.number ≡ true
+    → holds v.initial.kind (value_in v (find (is_line_of types v) lines)).number ≡ true
+held_in types v [] held = held
+held_in types v (l ∷ lines) held =
+    held_at types v l (find (is_line_of types v) lines) (is_line_of types v l) refl (held_in types v lines held)
+
+value_typed : (v : PlanVariable) (found : Option KeptLine) → (value_in v found).kind ≡ v.initial.kind
+value_typed v None = refl
+value_typed v (Some l) = refl
+
+restarted_typed : (types : Enumerations) (v : PlanVariable) (lines : List KeptLine) (r : Bool)
+    → (if r then value_in v (find (is_line_of types v) lines) else v.initial).kind ≡ v.initial.kind
+restarted_typed types v lines true = value_typed v (find (is_line_of types v) lines)
+restarted_typed types v lines false = refl
+
+restarted_held : (types : Enumerations) (v : PlanVariable) (lines : List KeptLine) (r : Bool) → holds v.initial.kind v.initial.number ≡ true
+    → holds v.initial.kind (if r then value_in v (find (is_line_of types v) lines) else v.initial).number ≡ true
+restarted_held types v lines true held = held_in types v lines held
+restarted_held types v lines false held = held
+
+abbrev pub AreHeld : List PlanVariable → Type 0
+AreHeld vs = AllByRecursion (λ v. IsHeld v.initial) vs
+
+pub all_held : (vs : List PlanVariable) → All (λ v. IsHeld v.initial) vs → AreHeld vs
+all_held [] h = tt
+all_held (v ∷ vs) h = (h 0 v (omega arith), all_held vs (λ k d less. h (suc k) d (omega arith)))
+
+-- the values of all variables after a restart
+abbrev pub values_of : Enumerations → List KeptLine → List PlanVariable → List Datum
+values_of types lines vs = map (restarted types lines) vs
+
+kinds_of : (types : Enumerations) (lines : List KeptLine) (vs : List PlanVariable)
+    → map (λ d. d.kind) (values_of types lines vs) ≡ map (λ v. v.initial.kind) vs
+kinds_of types lines [] = refl
+kinds_of types lines (v ∷ vs) =
+    ap (λ k. k ∷ map (λ d. d.kind) (values_of types lines vs)) (restarted_typed types v lines v.retained)
+    ∙ ap (λ ks. v.initial.kind ∷ ks) (kinds_of types lines vs)
+
+held_if : (d : Datum) (ds : List Datum) (r : Bool) → IsHeld d → AllByRecursion IsHeld ds
+    → AllByRecursion IsHeld (if r then d ∷ ds else ds)
+held_if d ds true h k = (h, k)
+held_if d ds false h k = k
+
+held_of : (types : Enumerations) (lines : List KeptLine) (vs : List PlanVariable) → AreHeld vs
+    → AllByRecursion IsHeld (retained_values vs (values_of types lines vs))
+held_of types lines [] held = tt
+held_of types lines (v ∷ vs) held =
+    let kind = restarted_typed types v lines v.retained in
+    let one : IsHeld (restarted types lines v) =
+    subst (λ k. holds k (restarted types lines v).number ≡ true) (sym kind) (restarted_held types v lines v.retained held.0) in
+    held_if (restarted types lines v) (retained_values vs (values_of types lines vs)) v.retained one (held_of types lines vs held.1)
+
+-- what is not retained has its initial value
+restored_if : (types : Enumerations) (v : PlanVariable) (vs : List PlanVariable) (lines : List KeptLine) (r : Bool) → v.retained ≡ r
+    → values_of types lines vs ≡ restored vs (retained_values vs (values_of types lines vs))
+    → values_of types lines (v ∷ vs) ≡ restored (v ∷ vs) (retained_values (v ∷ vs) (values_of types lines (v ∷ vs)))
+restored_if types v vs lines true is rest = rw is (ap (λ ds. value_in v (find (is_line_of types v) lines) ∷ ds) rest)
+restored_if types v vs lines false is rest = rw is (ap (λ ds. v.initial ∷ ds) rest)
+
+restored_of : (types : Enumerations) (lines : List KeptLine) (vs : List PlanVariable)
+    → values_of types lines vs ≡ restored vs (retained_values vs (values_of types lines vs))
+restored_of types lines [] = refl
+restored_of types lines (v ∷ vs) = restored_if types v vs lines v.retained refl (restored_of types lines vs)
+
+-- a restart's variables, by their slots
+stored : (types : Enumerations) (lines : List KeptLine) (vs : List PlanVariable) (ins : List PlanInput)
+    → map (λ v. (v.path, restarted types lines v)) vs ≡ variables_in (layout_of vs ins) (values_of types lines vs)
+stored types lines [] ins = sym (no_variables ins [])
+stored types lines (v ∷ vs) ins = ap (λ t. (v.path, restarted types lines v) ∷ t) (stored types lines vs ins)
+
+-- the lines of what some values of the retained variables make
+lines_are : (plan : Plan) (ws : List Datum) → map (λ d. d.kind) ws ≡ retained_kinds plan.variables.items
+    → keep_text (plan_view plan).enumerations (kept (plan_view plan) (store_in plan (restored plan.variables.items ws)))
+    ≡ kept_lines (plan_view plan).enumerations plan.variables.items ws
+lines_are plan ws kinds =
+    let vs = plan.variables.items in
+    let long : length (restored vs ws) ≡ length vs =
+    sym (length-map (restored vs ws) (λ d. d.kind)) ∙ ap length (restored_typed vs ws kinds)
+    ∙ length-map vs (λ v. v.initial.kind) in
+    ap (keep_text (plan_view plan).enumerations) (kept_paired _ vs plan.inputs.items (restored vs ws) long (goes_by_itself vs plan.sound.different)
+    ∙ ap (paired (retained_paths vs)) (restored_back vs ws kinds))
+
+-- the same of what a record of them tells
+pub told_is : (plan : Plan) (ws : List Datum) (moment : Option ℕ) → AreKept plan.variables.items ws
+    → (warm_start (plan_view plan) (Some (told_by plan ws moment))).store
+    ≡ store_in plan (restored plan.variables.items ws)
+told_is plan ws moment are =
+    restart_is (plan_view plan).enumerations plan.variables.items plan.inputs.items ws plan.sound.different are.0 are.1
+
+-- a warm start is made of what it keeps
+pub record IsOfKept (plan : Plan) (start : Start) : Type 0 where
+  pub values : List Datum
+  pub are : AreKept plan.variables.items values
+  pub store : start.store ≡ store_in plan (restored plan.variables.items values)
+
+of_lines : (plan : Plan) (lines : List KeptLine) (moment : Option ℕ) → AreHeld plan.variables.items
+    → IsOfKept plan record {
+      store = map (λ v. (v.path, restarted (plan_view plan).enumerations lines v)) plan.variables.items;
+      moment = moment;
+    }
+of_lines plan lines moment held =
+    let vs = plan.variables.items in
+    let types = (plan_view plan).enumerations in
+    record {
+      values = retained_values vs (values_of types lines vs);
+      are = (kinds_kept vs (values_of types lines vs) (kinds_of types lines vs), held_of types lines vs held);
+      store = stored types lines vs plan.inputs.items ∙ ap (store_in plan) (restored_of types lines vs);
+    }
+
+-- without a record the initial values are kept, as if no line of one were any variable's
+initial_if : (v : PlanVariable) (r : Bool) → (if r then v.initial else v.initial) ≡ v.initial
+initial_if v true = refl
+initial_if v false = refl
+
+initials : (types : Enumerations) (vs : List PlanVariable)
+    → map {B = Path × Datum} (λ v. (v.path, restarted types [] v)) vs
+    ≡ map {B = Path × Datum} (λ v. (v.path, v.initial)) vs
+initials types [] = refl
+initials types (v ∷ vs) =
+    ap (λ (d : Datum). (v.path, d) ∷ map {B = Path × Datum} (λ u. (u.path, restarted types [] u)) vs)
+    (initial_if v v.retained)
+    ∙ ap (λ (t : List (Path × Datum)). (v.path, v.initial) ∷ t) (initials types vs)
+
+pub of_kept : (plan : Plan) (told : Option Kept) → AreHeld plan.variables.items
+    → IsOfKept plan (warm_start (plan_view plan) told)
+of_kept plan None held =
+    let is = of_lines plan [] None held in
+    record { values = is.values; are = is.are; store = sym (initials (plan_view plan).enumerations plan.variables.items) ∙ is.store }
+of_kept plan (Some r) held = of_lines plan r.lines r.moment held
+
+-- the life that goes on from these values
+abbrev pub warm_life : Plan → Option ℕ → List Datum → State
+warm_life plan moment ws = life_of plan record {
+  store = (warm_start (plan_view plan) (Some (told_by plan ws moment))).store;
+  moment = moment;
 }
 
--- what a record's values make in the plan's order is what the record makes by its lines
-pub resumed_from : (plan : Plan) (room : ℕ) (content : Content) (last : Recovered) (values : List Datum)
-    (moment : Option ℕ) → Some content ≡ record_in last → content.layout ≡ layout_text_of plan
-    → map (λ d. d.kind) content.values ≡ known_kinds plan.variables.items
-    → values ≡ typed (retained_kinds plan.variables.items) content.values
-    → moment ≡ content.moment
-    → ◌≡◌ {A = State} record {
-      plan = plan;
-      start = (warm_start (plan_view plan) (Some (told_by plan values moment))).store;
+abbrev pub with_life : Plan → Option ℕ → Option (List Datum × List ℕ) → Option (State × List ℕ)
+with_life plan moment o = option_map {T = List Datum × List ℕ} {U = State × List ℕ}
+    (λ p. (warm_life plan moment p.0, p.1)) o
+
+pub warm_begins : (plan : Plan) (moment : Option ℕ) (text : List ℕ) (o : Option (List Datum × List ℕ))
+    → IsEarly moment → AreHeld plan.variables.items
+    → Begins (AreKept plan.variables.items) (kept_lines (plan_view plan).enumerations plan.variables.items) text o
+    → Begins (IsBegunAt plan Warm moment) kept_of text (with_life plan moment o)
+warm_begins plan moment text o early held begins = (there o begins.0, only)
+  where
+    lines_of : (ws : List Datum) → AreKept plan.variables.items ws
+        → kept_of (warm_life plan moment ws) ≡ kept_lines (plan_view plan).enumerations plan.variables.items ws
+    lines_of ws are = ap (λ (s : Store). keep_text (plan_view plan).enumerations (kept (plan_view plan) s)) (told_is plan ws moment are)
+        ∙ lines_are plan ws are.0
+
+    there : (u : Option (List Datum × List ℕ))
+        → IfSome u (λ p. AreKept plan.variables.items p.0 × (text ≡ kept_lines (plan_view plan).enumerations plan.variables.items p.0 ++ p.1))
+        → IfSome (with_life plan moment u) (λ p. IsBegunAt plan Warm moment p.0 × (text ≡ kept_of p.0 ++ p.1))
+    there None h = tt
+    there (Some (ws, rest)) h = (
+      ((refl, (Some (told_by plan ws moment), refl), early), refl),
+      h.1 ∙ ap (λ w. w ++ rest) (sym (lines_of ws h.0)),
+    )
+
+    only : (s : State) (more : List ℕ) → IsBegunAt plan Warm moment s → text ≡ kept_of s ++ more
+        → with_life plan moment o ≡ Some (s, more)
+    only s more may e =
+        let told = may.0.1.0 in
+        let of = of_kept plan told held in
+        let start : s.start ≡ store_in plan (restored plan.variables.items of.values) =
+        ap (λ (x : Start). x.store) may.0.1.1 ∙ of.store in
+        let plan_is : s.plan ≡ plan = ap (λ (x : State). x.plan) may.0.0 in
+        let lines : kept_of s ≡ kept_lines (plan_view plan).enumerations plan.variables.items of.values =
+        ap (λ (p : Plan). keep_text (plan_view p).enumerations (kept (plan_view p) s.start)) plan_is
+        ∙ ap (λ (x : Store). keep_text (plan_view plan).enumerations (kept (plan_view plan) x)) start ∙ lines_are plan of.values of.are.0 in
+        let same : warm_life plan moment of.values ≡ s =
+        ap (λ (x : Store). life_of plan record { store = x; moment = moment })
+        (told_is plan of.values moment of.are ∙ sym start)
+        ∙ ap (λ (m : Option ℕ). life_of plan record { store = s.start; moment = m }) (sym may.1) ∙ sym may.0.0 in
+        ap (with_life plan moment) (begins.1 of.values more of.are (e ∙ ap (λ w. w ++ more) lines))
+        ∙ ap (λ (x : State). Some (x, more)) same
+
+-- ---- the head
+
+abbrev pub with_mode : StartMode → Option (State × List ℕ) → Option ((StartMode × State) × List ℕ)
+with_mode mode o = option_map {T = State × List ℕ} {U = (StartMode × State) × List ℕ} (λ p. ((mode, p.0), p.1)) o
+
+pair_parts : {A B : Type 0} (a x : A) (b y : B) → ◌≡◌ {A = A × B} (a, b) (x, y) → (a ≡ x) × (b ≡ y)
+pair_parts {A} {B} a x b y e = (ap (λ (p : A × B). p.0) e, ap (λ (p : A × B). p.1) e)
+
+pub start_begins : (plan : Plan) (text lines : List ℕ) (mode : StartMode) (moment : Option ℕ)
+    (o : Option (State × List ℕ)) → Begins MayBegin (begin_of plan.budget) text (Some ((mode, moment), lines))
+    → Begins (IsBegunAt plan mode moment) kept_of lines o → Begins (IsBegunSo plan) head_of text (with_mode mode o)
+start_begins plan text lines mode moment o begin rest = (there o rest.0, only)
+  where
+    there : (u : Option (State × List ℕ))
+        → IfSome u (λ p. IsBegunAt plan mode moment p.0 × (lines ≡ kept_of p.0 ++ p.1))
+        → IfSome (with_mode mode u) (λ p. IsBegunSo plan p.0 × (text ≡ head_of p.0 ++ p.1))
+    there None h = tt
+    there (Some (life, more)) h =
+        let plan_is : life.plan ≡ plan = ap (λ (x : State). x.plan) h.0.0.0 in
+        let words : begin_text plan.budget mode moment ≡ begin_text life.plan.budget mode life.before =
+        ap (λ (p : Plan). begin_text p.budget mode moment) (sym plan_is)
+        ∙ ap (λ (m : Option ℕ). begin_text life.plan.budget mode m) (sym h.0.1) in (
+          h.0.0,
+          begin.0.1 ∙ ap (λ w. w ++ lines) words
+              ∙ ap (λ t. begin_text life.plan.budget mode life.before ++ t) h.1
+              ∙ sym (append_assoc (begin_text life.plan.budget mode life.before) (kept_of life) more),
+        )
+
+    only : (told : StartMode × State) (more : List ℕ) → IsBegunSo plan told → text ≡ head_of told ++ more
+        → with_mode mode o ≡ Some (told, more)
+    only (m, s) more may e =
+        let plan_is : s.plan ≡ plan = ap (λ (x : State). x.plan) may.0 in
+        let split : text ≡ begin_text plan.budget m s.before ++ (kept_of s ++ more) =
+        e ∙ append_assoc (begin_text s.plan.budget m s.before) (kept_of s) more
+        ∙ ap (λ (p : Plan). begin_text p.budget m s.before ++ (kept_of s ++ more)) plan_is in
+        let first = both_are (mode, moment) (m, s.before) lines (kept_of s ++ more)
+        (begin.1 (m, s.before) (kept_of s ++ more) may.2 split) in
+        let parts = pair_parts mode m moment s.before first.0 in
+        let begun : IsBegunAt plan mode moment s =
+        (subst (λ (x : StartMode). IsBegun plan x s) (sym parts.0) may, sym parts.1) in
+        ap (with_mode mode) (rest.1 s more begun first.1) ∙ ap (λ (x : StartMode). Some ((x, s), more)) parts.0
+
+-- where the first lines are none
+pub start_not : (plan : Plan) (text : List ℕ) → Begins MayBegin (begin_of plan.budget) text None
+    → Begins (IsBegunSo plan) head_of text None
+start_not plan text begin = (tt, only)
+  where
+    only : (told : StartMode × State) (more : List ℕ) → IsBegunSo plan told → text ≡ head_of told ++ more
+        → ◌≡◌ {A = Option ((StartMode × State) × List ℕ)} None (Some (told, more))
+    only (m, s) more may e =
+        let plan_is : s.plan ≡ plan = ap (λ (x : State). x.plan) may.0 in
+        let split : text ≡ begin_text plan.budget m s.before ++ (kept_of s ++ more) =
+        e ∙ append_assoc (begin_text s.plan.budget m s.before) (kept_of s) more
+        ∙ ap (λ (p : Plan). begin_text p.budget m s.before ++ (kept_of s ++ more)) plan_is in
+        none_some ((m, s.before), kept_of s ++ more) (begin.1 (m, s.before) (kept_of s ++ more) may.2 split)
+
+abbrev given : List Datum → Option ℕ → State → State
+given values moment core = record {
+  plan = core.plan;
+  start = (warm_start (plan_view core.plan) (Some (told_by core.plan values moment))).store;
+  before = moment;
+  log = [];
+  room = core.room;
+}
+
+-- a cold life that was given these values
+pub resumed_life : (plan : Plan) (core new : State) (values items : List Datum) (moment : Option ℕ)
+    → core ≡ life_of plan (cold_start (plan_view plan)) → values ≡ items → new ≡ record {
+      plan = core.plan;
+      start = (warm_start (plan_view core.plan) (Some (told_by core.plan values moment))).store;
       before = moment;
       log = [];
-      room = room;
-    } (started plan room (warm plan last))
-resumed_from plan room content TooLong values moment at layout kinds valued timed = absurd (cc)
-resumed_from plan room content Refused values moment at layout kinds valued timed = absurd (cc)
-resumed_from plan room content Nothing values moment at layout kinds valued timed = absurd (cc)
-resumed_from plan room content (Found generation found) values moment at layout kinds valued timed =
-    let begins : Kept → State = λ r. started plan room (warm_start (plan_view plan) (Some r)) in
-    ap (λ vs. begins (told_by plan vs moment)) valued
-    ∙ ap (λ m. begins (told_by plan (typed (retained_kinds plan.variables.items) content.values) m)) timed
-    ∙ ap begins (sym (told_in_order plan content layout kinds))
-    ∙ ap (λ c. begins (told c)) (some_is content found at)
-
--- what a warm start gives is what some record tells, or none
-warm_is : (plan : Plan) (last : Recovered) → (r : Option Kept) × (warm plan last ≡ warm_start (plan_view plan) r)
-warm_is plan TooLong = (None, refl)
-warm_is plan Refused = (None, refl)
-warm_is plan Nothing = (None, refl)
-warm_is plan (Found generation content) = (Some (told content), refl)
-
--- so a core that goes on from a record was started warm
-pub started_warm : (plan : Plan) (room : ℕ) (last : Recovered) (state : State) → state ≡ started plan room (warm plan last)
-    → IsStart state.plan Warm (start_in state)
-started_warm plan room last state is =
-    subst (λ (s : State). IsStart s.plan Warm (start_in s)) (sym is) (warm_is plan last)
-
--- the record that a life goes on from survives
-pub survives_found : (plan : Plan) (content : Content) (state : State) (last : Recovered)
-    → Some content ≡ record_in last → content.layout ≡ layout_text_of plan
-    → state.plan ≡ plan → state.before ≡ content.moment
-    → map recorded (map (λ e. e.1) (kept (plan_view plan) state.start)) ≡ content.values
-    → Survives state.plan state.start state.before [] 0 last
-survives_found plan content state TooLong at layout same moment values = absurd (cc)
-survives_found plan content state Refused at layout same moment values = absurd (cc)
-survives_found plan content state Nothing at layout same moment values = absurd (cc)
-survives_found plan content state (Found generation found) at layout same moment values =
-    subst (λ (c : Content). Survives state.plan state.start state.before [] 0 (Found generation c))
-    (some_is content found at)
-    (subst (λ (p : Plan). Survives p state.start state.before [] 0 (Found generation content)) (sym same)
-    (survives_of plan generation content state.start state.before layout moment values))
-
--- a file without a record survives for a life that has begun with the initial values
-pub survives_none : (plan : Plan) (state : State) (room generation : ℕ) (last : Recovered) → None ≡ record_in last
-    → IsLast generation last → state ≡ begun plan room
-    → Survives state.plan state.start state.before [] 0 last
-survives_none plan state room generation TooLong none is new = absurd is
-survives_none plan state room generation Refused none is new = absurd is
-survives_none plan state room generation (Found g content) none is new = absurd (cc)
-survives_none plan state room generation Nothing none is new =
-    subst (λ (s : State). Survives s.plan s.start s.before [] 0 Nothing) (sym new) (record {
-      front = [];
-      rest = [];
-      parts = refl;
-      acknowledged = omega arith;
-      holds = (refl, refl);
-    })
-
--- each case of an answer on its own
-pub match_both : {A E : Type 0} (r : Result A E) (P P' : A → Type 0) (Q Q' : E → Type 0) → ((a : A) → P a → P' a)
-    → ((e : E) → Q e → Q' e) → MatchResult r P Q → MatchResult r P' Q'
-match_both (Ok a) P P' Q Q' p q h = p a h
-match_both (Err e) P P' Q Q' p q h = q e h
-
--- the generation after the last record's
-pub next_is : (last : Recovered) (generation : ℕ) → IsLast generation last → generation + 1 ≡ next_generation last
-next_is TooLong generation is = absurd is
-next_is Refused generation is = absurd is
-next_is Nothing generation is = ap (λ n. n + 1) is
-next_is (Found g content) generation is = ap (λ n. n + 1) (sym is.0)
-
--- what a save during a start leaves
-pub left_saved : (mode : StartMode) (plan : Plan) (content : Content) (before last file : Recovered) (generation : ℕ)
-    → Saves mode plan before → IsLast generation last → last ≡ before → content ≡ start_record mode plan before
-    → IsEither last (Found (generation + 1) content) file → LeftByStart mode plan before file
-left_saved mode plan content before last file generation saves is same kept (inl e) = inl (e ∙ same)
-left_saved mode plan content before last file generation saves is same kept (inr e) = inr (
-  saves,
-  e ∙ ap (λ n. Found n content) (next_is last generation is ∙ ap next_generation same)
-      ∙ ap (Found (next_generation before)) kept,
-)
-
--- the same plan over the same file
-pub saves_same : (mode : StartMode) (plan own : Plan) (before last : Recovered) → own ≡ plan → last ≡ before
-    → Saves mode own last → Saves mode plan before
-saves_same mode plan own before last one same saves =
-    subst (λ (q : Plan). Saves mode q before) one (subst (λ (f : Recovered). Saves mode own f) same saves)
-
-pub left_same : (mode : StartMode) (plan own : Plan) (before last file : Recovered) → own ≡ plan → last ≡ before
-    → LeftByStart mode own last file → LeftByStart mode plan before file
-left_same mode plan own before last file one same left =
-    subst (λ (q : Plan). LeftByStart mode q before file) one
-    (subst (λ (f : Recovered). LeftByStart mode own f file) same left)
-
--- the record of a life that has begun so
-pub record_started : (mode : StartMode) (plan : Plan) (room : ℕ) (state : State) (before : Recovered)
-    → state ≡ started plan room (start_of mode plan before) → record_now state ≡ start_record mode plan before
-record_started mode plan room state before is = ap record_now is
-
--- the record that was saved
-pub saved_next : (mode : StartMode) (plan : Plan) (content : Content) (before last new : Recovered) (generation now : ℕ)
-    → IsLast generation last → last ≡ before → content ≡ start_record mode plan before → now ≡ generation + 1
-    → new ≡ Found now content → new ≡ Found (next_generation before) (start_record mode plan before)
-saved_next mode plan content before last new generation now is same kept more e =
-    e ∙ ap (λ n. Found n content) (more ∙ next_is last generation is ∙ ap next_generation same)
-    ∙ ap (Found (next_generation before)) kept
-
--- ---- what a refused start leaves
-
--- a store that has the greatest generation has a record
-last_kept : (last : Recovered) (first old : List ℕ) → IsLastGeneration last → KeepsRecord last first old → old ≡ first
-last_kept TooLong first old h kept = absurd h
-last_kept Refused first old h kept = absurd h
-last_kept Nothing first old h kept = absurd h
-last_kept (Found generation content) first old h kept = kept
-
-saved_keeps : (mode : StartMode) (plan : Plan) (last : Recovered) (generation : ℕ) (fault : StartFault) (first old new : List ℕ)
-    → IsLast generation last → KeepsRecord last first old → RefusesStart mode plan last fault
-    → (IsWantOfMemory fault → ⊥) → StartKeeps fault old new → StartKeeps fault first new
-saved_keeps mode plan last generation (faults.Store stores.TooLong) first old new is kept h full same =
-    absurd (subst (λ (r : Recovered). IsLast generation r) h is)
-saved_keeps mode plan last generation (faults.Store stores.Damaged) first old new is kept h full same =
-    absurd (subst (λ (r : Recovered). IsLast generation r) h is)
-saved_keeps mode plan last generation (faults.Store stores.Device) first old new is kept h full same = tt
-saved_keeps mode plan last generation (faults.Store stores.Generations) first old new is kept h full same =
-    same ∙ last_kept last first old h.1 kept
-saved_keeps mode plan last generation (faults.Store stores.NoMemory) first old new is kept h full same =
-    absurd (full (inr refl))
-saved_keeps mode plan last generation (faults.Store stores.Failed) first old new is kept h full same = absurd h
-saved_keeps mode plan last generation faults.NoMemory first old new is kept h full same = absurd (full (inl refl))
-
-pub saved_unwritten : {C D : Type 0} (r : Result C (StartFault × D)) (seen : D → List ℕ) (P : C → Type 0) (mode : StartMode) (plan : Plan)
-    (last : Recovered) (generation : ℕ) (first old : List ℕ) → IsLast generation last → KeepsRecord last first old
-    → MatchResult r P (λ e. RefusesStart mode plan last e.0) → IfErr r (λ e. IsWantOfMemory e.0 → ⊥)
-    → IfErr r (λ e. StartKeeps e.0 old (seen e.1)) → IfErr r (λ e. StartKeeps e.0 first (seen e.1))
-saved_unwritten (Ok x) seen P mode plan last generation first old is kept h full same = tt
-saved_unwritten (Err e) seen P mode plan last generation first old is kept h full same =
-    saved_keeps mode plan last generation e.0 first old (seen e.1) is kept h full same
-
-pub ok_both : {C E : Type 0} (r : Result C E) (P Q R : C → Type 0) → ((x : C) → P x → Q x → R x) → IfOk r P → IfOk r Q
-    → IfOk r R
-ok_both (Ok x) P Q R both p q = both x p q
-ok_both (Err e) P Q R both p q = tt
-
-pub ok_weaker : {C E : Type 0} (r : Result C E) (P Q : C → Type 0) → ((x : C) → P x → Q x) → IfOk r P → IfOk r Q
-ok_weaker (Ok x) P Q weaker h = weaker x h
-ok_weaker (Err e) P Q weaker h = tt
-
--- ---- a warm start over a record of the plan's own layout text
-
-pub of_plan_not_other : (plan : Plan) (last : Recovered) → IsOfPlan plan last → HasOtherLayout plan last → ⊥
-of_plan_not_other plan TooLong same other = other
-of_plan_not_other plan Refused same other = other
-of_plan_not_other plan Nothing same other = other
-of_plan_not_other plan (Found generation content) same other = other same
-
-pub can_go_on : (plan : Plan) (last : Recovered) → IsOfPlan plan last → CanStart Warm plan last
-can_go_on plan TooLong same = same
-can_go_on plan Refused same = same
-can_go_on plan Nothing same = tt
-can_go_on plan (Found generation content) same = λ other. absurd (other same)
-
--- what was tried is the last record
-pub either_is : (last tried file : Recovered) → tried ≡ last → IsEither last tried file → file ≡ last
-either_is last tried file same (inl e) = e
-either_is last tried file same (inr e) = e ∙ same
+      room = core.room;
+    } → new ≡ warm_life plan moment items
+resumed_life plan core new values items moment is same resumed =
+    resumed ∙ ap (given values moment) is ∙ ap (λ (ds : List Datum). warm_life plan moment ds) same

@@ -1,6 +1,5 @@
-pub mod Recorded
-pub mod Restart
-pub mod Cores
-pub mod Kept
-pub mod Starting
-pub mod Flushing
+pub mod Driving
+pub mod LogsOfLives
+pub mod Lives
+pub mod Replays
+pub mod Starts

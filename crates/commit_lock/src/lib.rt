@@ -1,27 +1,26 @@
-//! The core under the lock, over a disk: what is acknowledged is there when power returns.
+//! Lists of calls of a core, several lives over one simulated disk, and the replay of a trace: the public calls around
+//! the core, which stand here by its own names and by re-exports.
 //!
-//! It owns the core without a disk and the store. The type of `Core` keeps that every file which a stop now may leave
-//! survives: a warm restart from it gives what a prefix of the log leaves that holds all that is acknowledged. No call
-//! but `start` and `flush` writes to the disk, and after a flush that failed no call goes on.
+//! Each life starts from the file that the one before it left, wherever that was stopped.
 #![tactic(auto)]
 
-mod calling;
-mod core_state;
-mod flushing;
+mod disks;
+mod driving;
+mod event;
+mod findings;
 mod laws;
-mod migrating;
-mod parts;
-mod reading;
-mod recording;
-mod refusal;
-mod saving;
+mod life;
+mod living;
+mod nobody;
+mod replaying;
 mod starting;
 
-pub use core_state::Core;
-pub use laws::{
-    records_know_types_by_their_names, records_tell_what_was_kept, what_survives_is_given_back,
-    what_survives_is_given_to_other_plans,
-};
-pub use refusal::{Refusal, StartFault};
-pub use serial_core::Answer;
-pub use starting::StartMode;
+pub use driving::drive;
+pub use durable_core::{Answer, Core};
+pub use event::{Event, Reply};
+pub use findings::Replayed;
+pub use laws::each_core_has_a_trace;
+pub use life::{Course, Life, LifeEnd};
+pub use living::lives;
+pub use replaying::{replay, replay_text, replay_watched};
+pub use trace::{ReplayError, Watcher, trace_budget, write_trace};

@@ -1,318 +1,154 @@
-//! Starting a core.
+//! A core that is started as a trace tells.
 
-ghost use Rattle.std.specs.Prelude.{◌≡◌, ◌≢◌, ◌≤◌, ◌+◌, List, ℕ, [], None, IsTrue, false, length};
-ghost use Rattle.std.specs.Prelude.{◌<◌, vec_capacity, IfOk, IfErr, IfSome, MatchResult};
-ghost use Rattle.st_words.specs.declared.limits.TheConstants.{MAX_LOG_ROOM, MOMENT_LIMIT};
-ghost use Rattle.disk.specs.Disk.{Only};
-ghost use Rattle.disk.specs.Runs.{LeavesOnly};
-ghost use Rattle.retain_areas.specs.declared.shape.TheConstants.{FILE_BYTES};
-ghost use Rattle.retain_areas.specs.Recovered.{recovered, Found};
-ghost use Rattle.retain_areas.specs.Areas.{IsEither};
-ghost use Rattle.retain_store.specs.Kept.{IsLast};
-ghost use Rattle.retain_store.specs.Opening.{KeepsRecord};
-ghost use Rattle.kept_lines.specs.Lines.{lines_of};
-ghost use Rattle.commit_lock.specs.Restart.{Survives, IsOfPlan, begun, layout_text_of, record_now, warm};
-ghost use Rattle.commit_lock.specs.Cores.{survives};
-ghost use Rattle.commit_lock.specs.Starting.{IsStart, start_in, start_of, started, HasOtherLayout, IsNew, Saves};
-ghost use Rattle.commit_lock.specs.Starting.{CanStart, RefusesStart, CountsStart, LeftByStart, IsWantOfMemory};
-ghost use Rattle.commit_lock.specs.Starting.{StartKeeps, next_generation, start_record};
+ghost use Rattle.std.specs.Prelude.{◌≡◌, IfOk, None, map, option_map};
+ghost use Rattle.std.specs.Vec.{vec_items};
+ghost use Rattle.std.specs.List.{All};
+ghost use Rattle.st_types.specs.Values.{IsHeld};
+ghost use Rattle.trace.specs.Reads.{Begins};
+ghost use Rattle.trace.specs.Heads.{AreKept, IsEarly, kept_lines};
+ghost use Rattle.commit_lock.specs.Starts.{IsBegunAt, IsBegunSo, head_of, kept_of};
 
-use crate::core_state::Core;
-use crate::migrating::migrate;
-use crate::parts::{Parts, layout_text};
-use crate::recording::take_numbers;
-use crate::refusal::StartFault;
-use crate::saving::save_record;
-use config::Plan;
-use disk::Disk;
-use retain_store::{Store, StoreFault};
-use st_words::limits::MAX_RECORD_BODY;
-use std::alloc::Global;
+use durable_core::StartMode;
+use plan::Plan;
+use serial_core::SerialCore;
+use st_meaning::PlanVariable;
+use st_types::Value;
+use st_types::limits::MAX_LOG_ROOM;
+use std::alloc::{AllocError, Global};
 use std::sync::Arc;
+use trace::{begin, behind, kept_values, put_kept};
 
-/// How a life starts.
-#[derive(Clone, Copy, Debug, PartialEq, Eq)]
-pub enum StartMode {
-    /// The retained variables take the values of the last record, if there is one; all others their initial values.
-    Warm,
-    /// All variables take their initial values.
-    Cold,
-}
-
-/// Goes on from the last record, if there is one; false where it is of another layout text.
-fn resume_from<D: Disk>(parts: &mut Parts, store: &Store<D>) -> bool
-    requires begun { parts.old.serial ≡ begun parts.old.serial.plan parts.old.serial.room }
-    requires kept { length parts.old.serial.plan.variables.items ≤ vec_capacity parts.old.kept }
-    requires lines { parts.old.lines ≡ lines_of (layout_text_of parts.old.serial.plan) }
-    requires last { IsLast store.now.generation store.now.last }
-
-    ensures resumed { parts.new.serial ≡ started parts.old.serial.plan parts.old.serial.room
-        (warm parts.old.serial.plan store.now.last) }
-    ensures early { IfSome parts.new.serial.before (λ t. t < MOMENT_LIMIT) }
-    ensures survives { IsTrue result → Survives parts.new.serial.plan parts.new.serial.start parts.new.serial.before
-        [] 0 store.now.last }
-    ensures same { IsTrue result → IsOfPlan parts.old.serial.plan store.now.last }
-    ensures other { result ≡ false → HasOtherLayout parts.old.serial.plan store.now.last }
-    ensures again { result ≡ false → (generation : ℕ)
-        → parts.new.serial ≡ started parts.old.serial.plan parts.old.serial.room
-        (warm parts.old.serial.plan (Found generation (record_now parts.new.serial))) }
-    ensures kept { vec_capacity parts.old.kept ≤ vec_capacity parts.new.kept }
+/// The lines of what the retained variables of a core started with.
+fn kept_of(alloc: Global, core: &SerialCore) -> Result<Vec<u8>, AllocError>
+    ensures { IfOk result (λ text. text.items ≡ kept_of core.now) }
 {
-    let Some(record) = store.last() else {
-        return true;
-    };
-    if record.layout() != layout_text(&parts.serial) {
-        migrate(parts, record);
-        return false;
-    }
-    parts.serial.retain(&mut parts.kept);
-    take_numbers(&mut parts.kept, record.values());
-    parts.serial.resume(&parts.kept, record.moment());
-    true
-}
-
-/// A core that starts as it stands. The record of what it starts with is saved before.
-fn saved_first<D: Disk>(
-    mode: StartMode,
-    parts: Parts,
-    store: Store<D>,
-) -> Result<Core<D>, (StartFault, D)>
-    requires start { IsStart parts.serial.plan mode (start_in parts.serial) }
-    requires empty { parts.serial.log ≡ [] }
-    requires early { IfSome parts.serial.before (λ t. t < MOMENT_LIMIT) }
-    requires kept { length parts.serial.plan.variables.items ≤ vec_capacity parts.kept }
-    requires log_room { parts.serial.room ≤ MAX_LOG_ROOM }
-    requires last { IsLast store.generation store.last }
-    requires fresh { store.failed ≡ false }
-    requires room { store.room ≡ MAX_RECORD_BODY }
-    requires saves { Saves mode parts.serial.plan store.last }
-
-    ensures state { IfOk result (λ core. core.state ≡ parts.serial) }
-    ensures mode { IfOk result (λ core. core.mode ≡ mode) }
-    ensures fresh { IfOk result (λ core. (core.acked ≡ 0) × (core.failed ≡ None)) }
-    ensures last { IfOk result (λ core. IsLast core.store.generation core.store.last) }
-    ensures saved { IfOk result (λ core. core.store.last ≡ Found core.store.generation (record_now parts.serial)) }
-    ensures next { IfOk result (λ core. core.store.generation ≡ store.generation + 1) }
-    ensures unwritten { D.tells → IfErr result (λ e. StartKeeps e.0 (D.seen store.disk) (D.seen e.1)) }
-    ensures serves { D.serves store.disk FILE_BYTES → MatchResult result
-        (λ core. D.serves core.store.disk FILE_BYTES)
-        (λ e. (e.0 ≢ StartFault.Store StoreFault.Device) × D.serves e.1 FILE_BYTES) }
-    ensures memory { IfErr result (λ e. IsWantOfMemory e.0 → ⊥) }
-    ensures survives { D.tells
-        → IfOk result (λ core. (file : List ℕ) → D.may_leave core.store.disk file → survives core (recovered file)) }
-    ensures answers { MatchResult result
-        (λ core. CanStart mode parts.serial.plan store.last)
-        (λ e. RefusesStart mode parts.serial.plan store.last e.0) }
-    ensures any_moment { D.tells → MatchResult result
-        (λ core. LeavesOnly D.left_since D.may_leave store.disk core.store.disk
-        (λ file. IsEither store.last (Found (store.generation + 1) (record_now parts.serial)) (recovered file)))
-        (λ e. LeavesOnly D.left_since D.may_leave store.disk e.1
-        (λ file. IsEither store.last (Found (store.generation + 1) (record_now parts.serial)) (recovered file))) }
-    ensures device { MatchResult result
-        (λ core. D.failure_count core.store.disk ≡ D.failure_count store.disk)
-        (λ e. CountsStart e.0 (D.failure_count store.disk) (D.failure_count e.1)) }
-{
-    let Parts {
-        serial,
-        mut kept,
-        lines: _,
-    } = parts;
-    let mut store = store;
-    match save_record(&serial, &mut store, &mut kept) {
-        Ok(()) => {}
-        Err(fault) => return Err((StartFault::Store(fault), store.into_disk())),
-    }
-    let core = Core {
-        mode,
-        serial,
-        store,
-        kept,
-        acked: 0,
-        failed: None,
-    };
-    core.kept();
-    Ok(core)
-}
-
-/// A core that goes on from the last record of the store, which is of the plan's layout text.
-fn gone_on<D: Disk>(parts: Parts, store: Store<D>) -> Core<D>
-    requires start { IsStart parts.serial.plan StartMode.Warm (start_in parts.serial) }
-    requires empty { parts.serial.log ≡ [] }
-    requires early { IfSome parts.serial.before (λ t. t < MOMENT_LIMIT) }
-    requires kept { length parts.serial.plan.variables.items ≤ vec_capacity parts.kept }
-    requires log_room { parts.serial.room ≤ MAX_LOG_ROOM }
-    requires survives { Survives parts.serial.plan parts.serial.start parts.serial.before [] 0 store.last }
-    requires tried { store.tried ≡ store.last }
-    requires fresh { store.failed ≡ false }
-    requires room { store.room ≡ MAX_RECORD_BODY }
-
-    ensures core { result ≡ record {
-      mode = StartMode.Warm;
-      state = parts.serial;
-      acked = 0;
-      failed = None;
-      store = store;
-    } }
-    ensures survives { D.tells → (file : List ℕ) → D.may_leave result.store.disk file → survives result (recovered file) }
-{
-    let Parts {
-        serial,
-        kept,
-        lines: _,
-    } = parts;
-    let core = Core {
-        mode: StartMode::Warm,
-        serial,
-        store,
-        kept,
-        acked: 0,
-        failed: None,
-    };
-    core.kept();
-    core
-}
-
-/// A core that goes on from the last record of the store. Where that is of another layout text, the record of what the
-/// life starts with is saved before.
-fn warm<D: Disk>(parts: Parts, store: Store<D>) -> Result<Core<D>, (StartFault, D)>
-    requires begun { parts.serial ≡ begun parts.serial.plan parts.serial.room }
-    requires kept { length parts.serial.plan.variables.items ≤ vec_capacity parts.kept }
-    requires lines { parts.lines ≡ lines_of (layout_text_of parts.serial.plan) }
-    requires log_room { parts.serial.room ≤ MAX_LOG_ROOM }
-    requires last { IsLast store.generation store.last }
-    requires tried { store.tried ≡ store.last }
-    requires fresh { store.failed ≡ false }
-    requires room { store.room ≡ MAX_RECORD_BODY }
-
-    ensures state { IfOk result
-        (λ core. core.state ≡ started parts.serial.plan parts.serial.room (warm parts.serial.plan store.last)) }
-    ensures again { IfOk result
-        (λ core. core.state ≡ started parts.serial.plan parts.serial.room (warm parts.serial.plan core.store.last)) }
-    ensures mode { IfOk result (λ core. core.mode ≡ StartMode.Warm) }
-    ensures fresh { IfOk result (λ core. (core.acked ≡ 0) × (core.failed ≡ None)) }
-    ensures last { IfOk result (λ core. IsLast core.store.generation core.store.last) }
-
-    // Where the layout text is the same, nothing is saved, and no call of the disk made.
-    ensures unsaved { (Saves StartMode.Warm parts.serial.plan store.last → ⊥) → IfOk result (λ core. core.store ≡ store) }
-    ensures saved { Saves StartMode.Warm parts.serial.plan store.last
-        → IfOk result (λ core. core.store.last ≡ Found core.store.generation (record_now core.state)) }
-    ensures next { Saves StartMode.Warm parts.serial.plan store.last
-        → IfOk result (λ core. core.store.generation ≡ store.generation + 1) }
-    ensures unwritten { D.tells → IfErr result (λ e. StartKeeps e.0 (D.seen store.disk) (D.seen e.1)) }
-    ensures serves { D.serves store.disk FILE_BYTES → MatchResult result
-        (λ core. D.serves core.store.disk FILE_BYTES)
-        (λ e. (e.0 ≢ StartFault.Store StoreFault.Device) × D.serves e.1 FILE_BYTES) }
-    ensures memory { IfErr result (λ e. IsWantOfMemory e.0 → ⊥) }
-    ensures survives { D.tells
-        → IfOk result (λ core. (file : List ℕ) → D.may_leave core.store.disk file → survives core (recovered file)) }
-    ensures answers { MatchResult result
-        (λ core. CanStart StartMode.Warm parts.serial.plan store.last)
-        (λ e. RefusesStart StartMode.Warm parts.serial.plan store.last e.0) }
-    ensures any_moment { D.tells → MatchResult result
-        (λ core. LeavesOnly D.left_since D.may_leave store.disk core.store.disk
-        (λ file. LeftByStart StartMode.Warm parts.serial.plan store.last (recovered file)))
-        (λ e. LeavesOnly D.left_since D.may_leave store.disk e.1
-        (λ file. LeftByStart StartMode.Warm parts.serial.plan store.last (recovered file))) }
-    ensures device { MatchResult result
-        (λ core. D.failure_count core.store.disk ≡ D.failure_count store.disk)
-        (λ e. CountsStart e.0 (D.failure_count store.disk) (D.failure_count e.1)) }
-{
-    let mut parts = parts;
-    store.kept();
-    let is_same = resume_from(&mut parts, &store);
-    if is_same {
-        Ok(gone_on(parts, store))
+    let mut text = Vec::new(alloc);
+    let plan = core.plan();
+    if put_kept(
+        &mut text,
+        true,
+        &plan.enumerations,
+        &plan.variables,
+        core.start_values(),
+    ) {
+        Ok(text)
     } else {
-        saved_first(StartMode::Warm, parts, store)
+        Err(AllocError)
     }
 }
 
-impl<D: Disk> Core<D> {
-    /// Starts a life of the plan over this disk, with room for so many entries of its log, 1 to 65,536. Its memory is
-    /// taken before the first device call. A cold start, and a warm one over a record of another layout text, saves the
-    /// record of what the life starts with before it answers.
-    ///
-    /// A warm start gives each retained variable the value in the line of the record that has its path and its type, as
-    /// they are written, and each other variable its initial value.
-    ///
-    /// S1 to S5, N2 out of memory. An error gives the disk back.
-    pub fn start(
-        alloc: Global,
-        plan: Arc<Plan>,
-        disk: D,
-        mode: StartMode,
-        log_room: usize,
-    ) -> Result<Core<D>, (StartFault, D)>
-        requires room { log_room ≤ MAX_LOG_ROOM }
+/// A core that starts cold, where these lines tell its initial values, and what stands behind them.
+fn cold_without_moment(
+    alloc: Global,
+    plan: Arc<Plan>,
+    text: &[u8],
+) -> Result<Option<(SerialCore, &[u8])>, AllocError>
+    ensures { IfOk result (λ told. Begins (IsBegunAt plan.value StartMode.Cold None) kept_of text.now
+        (option_map (λ p. (p.0, p.1.now)) told)) }
+{
+    let core = SerialCore::start(alloc, plan, MAX_LOG_ROOM)?;
+    let kept = kept_of(alloc, &core)?;
+    match behind(text, &kept) {
+        Some(rest) => Ok(Some((core, rest))),
+        None => Ok(None),
+    }
+}
 
-        // The values and the moment are those of a warm or a cold start, and the log is empty.
-        ensures started { D.tells → IfOk result
-            (λ core. core.state ≡ started plan.value log_room (start_of mode plan.value (recovered (D.seen disk)))) }
-        ensures cold { mode ≡ StartMode.Cold → IfOk result (λ core. core.state ≡ begun plan.value log_room) }
-        ensures mode { IfOk result (λ core. core.mode ≡ mode) }
-        ensures fresh { IfOk result (λ core. (core.acked ≡ 0) × (core.failed ≡ None)) }
-        ensures begun { IfOk result (λ core. IsNew core.state plan.value log_room) }
+/// A core that starts cold, where these lines tell its initial values and there is no moment, and what stands behind
+/// them.
+fn cold(
+    alloc: Global,
+    plan: Arc<Plan>,
+    moment: Option<u64>,
+    text: &[u8],
+) -> Result<Option<(SerialCore, &[u8])>, AllocError>
+    ensures { IfOk result (λ told. Begins (IsBegunAt plan.value StartMode.Cold moment) kept_of text.now
+        (option_map (λ p. (p.0, p.1.now)) told)) }
+{
+    match moment {
+        Some(_) => Ok(None),
+        None => cold_without_moment(alloc, plan, text),
+    }
+}
 
-        // A warm start goes on from the last record of the store. Where nothing was saved, that is what a read gives,
-        // and the file stands as it was, but that one which was too short has two closed areas now.
-        ensures resumed { mode ≡ StartMode.Warm → IfOk result
-            (λ core. core.state ≡ started plan.value log_room (warm plan.value core.store.last)) }
-        ensures last { IfOk result (λ core. IsLast core.store.generation core.store.last) }
-        ensures found { D.tells → (Saves mode plan.value (recovered (D.seen disk)) → ⊥) → IfOk result
-            (λ core. core.store.last ≡ recovered (D.seen disk)) }
-        ensures unsaved { D.tells → (Saves mode plan.value (recovered (D.seen disk)) → ⊥) → IfOk result
-            (λ core. KeepsRecord (recovered (D.seen disk)) (D.seen disk) (D.seen core.store.disk)) }
+/// The type of each variable holds the value that it starts with.
+fn held_initials(variables: &[PlanVariable])
+    ensures { All (λ v. IsHeld v.initial) variables.now }
+{
+    for variable in variables {
+        let _held = variable.initial.number();
+    }
+}
 
-        // A cold start, and a warm one over a record of another layout text, has saved the record of what the life
-        // starts with, of the next generation.
-        ensures saved { D.tells → Saves mode plan.value (recovered (D.seen disk)) → IfOk result
-            (λ core. core.store.last ≡ Found (next_generation (recovered (D.seen disk)))
-            (start_record mode plan.value (recovered (D.seen disk)))) }
+/// What the retained variables of a plan started with, by their lines, and what stands behind these.
+fn told_values<'a>(
+    alloc: Global,
+    plan: &Plan,
+    text: &'a [u8],
+) -> Result<Option<(Vec<Value>, &'a [u8])>, AllocError>
+    ensures { IfOk result (λ told. Begins (AreKept plan.now.variables.items)
+        (kept_lines (map vec_items plan.now.enumerations.items) plan.now.variables.items) text.now
+        (option_map (λ p. (p.0.items, p.1.now)) told)) }
+{
+    kept_values(alloc, &plan.enumerations, &plan.variables, text)
+}
 
-        // A start that is refused has written nothing.
-        ensures unwritten { D.tells → IfErr result (λ e. StartKeeps e.0 (D.seen disk) (D.seen e.1)) }
+/// A core that starts warm from what these lines tell, and what stands behind them.
+fn warm(
+    alloc: Global,
+    plan: Arc<Plan>,
+    moment: Option<u64>,
+    text: &[u8],
+) -> Result<Option<(SerialCore, &[u8])>, AllocError>
+    requires early { IsEarly moment }
+    ensures { IfOk result (λ told. Begins (IsBegunAt plan.value StartMode.Warm moment) kept_of text.now
+        (option_map (λ p. (p.0, p.1.now)) told)) }
+{
+    let mut core = SerialCore::start(alloc, plan, MAX_LOG_ROOM)?;
+    held_initials(&core.plan().variables);
+    let (values, rest) = match told_values(alloc, core.plan(), text)? {
+        Some(told) => told,
+        None => return Ok(None),
+    };
+    core.resume(&values, moment);
+    Ok(Some((core, rest)))
+}
 
-        // All memory is taken before the first call of the disk.
-        ensures memory { IfErr result (λ e. IsWantOfMemory e.0 → e.1 ≡ disk) }
+/// A core that starts so, as these lines tell, and what stands behind them.
+fn begun(
+    alloc: Global,
+    plan: Arc<Plan>,
+    mode: StartMode,
+    moment: Option<u64>,
+    text: &[u8],
+) -> Result<Option<(SerialCore, &[u8])>, AllocError>
+    requires early { IsEarly moment }
+    ensures { IfOk result (λ told. Begins (IsBegunAt plan.value mode moment) kept_of text.now
+        (option_map (λ p. (p.0, p.1.now)) told)) }
+{
+    match mode {
+        StartMode::Warm => warm(alloc, plan, moment, text),
+        StartMode::Cold => cold(alloc, plan, moment, text),
+    }
+}
 
-        // It is answered and refused exactly by what the file is recovered to, faults of the device and out of memory
-        // aside.
-        ensures answers { D.tells → MatchResult result
-            (λ core. CanStart mode plan.value (recovered (D.seen disk)))
-            (λ e. RefusesStart mode plan.value (recovered (D.seen disk)) e.0) }
-
-        // S3 exactly where a call of the disk failed, and then one did.
-        ensures device { MatchResult result
-            (λ core. D.failure_count core.store.disk ≡ D.failure_count disk)
-            (λ e. CountsStart e.0 (D.failure_count disk) (D.failure_count e.1)) }
-
-        // S3 does not come from a disk that serves a whole file.
-        ensures serves { D.tells → D.serves disk FILE_BYTES → MatchResult result
-            (λ core. D.serves core.store.disk FILE_BYTES)
-            (λ e. (e.0 ≢ StartFault.Store StoreFault.Device) × D.serves e.1 FILE_BYTES) }
-
-        // Every file that a stop may leave after it survives.
-        ensures survives { D.tells → IfOk result
-            (λ core. (file : List ℕ) → D.may_leave core.store.disk file → survives core (recovered file)) }
-
-        // On a disk with nothing unsynced, a stop at any moment leaves what was recovered before, or, where the start
-        // saves it, the record of what the life starts with.
-        ensures any_moment { D.tells → Only (D.seen disk) (D.may_leave disk) → MatchResult result
-            (λ core. LeavesOnly D.left_since D.may_leave disk core.store.disk
-            (λ file. LeftByStart mode plan.value (recovered (D.seen disk)) (recovered file)))
-            (λ e. LeavesOnly D.left_since D.may_leave disk e.1
-            (λ file. LeftByStart mode plan.value (recovered (D.seen disk)) (recovered file))) }
-    {
-        let Ok(parts) = Parts::new(alloc, plan, log_room) else {
-            return Err((StartFault::NoMemory, disk));
-        };
-        let store = match Store::open(alloc, disk, MAX_RECORD_BODY) {
-            Ok(store) => store,
-            Err((fault, disk)) => return Err((StartFault::Store(fault), disk)),
-        };
-        match mode {
-            StartMode::Warm => warm(parts, store),
-            StartMode::Cold => saved_first(StartMode::Cold, parts, store),
+/// How the life of a trace was started, a core of this start, and what stands behind the head of the trace.
+pub(crate) fn start(
+    alloc: Global,
+    plan: Arc<Plan>,
+    text: &[u8],
+) -> Result<Option<(StartMode, SerialCore, &[u8])>, AllocError>
+    ensures { IfOk result (λ told. Begins (IsBegunSo plan.value) head_of text.now
+        (option_map (λ p. ((p.0, p.1), p.2.now)) told)) }
+{
+    match begin(plan.budget, text) {
+        Some((mode, moment, lines)) => {
+            let life = begun(alloc, plan, mode, moment, lines)?;
+            match life {
+                Some((core, rest)) => Ok(Some((mode, core, rest))),
+                None => Ok(None),
+            }
         }
+        None => Ok(None),
     }
 }

@@ -1,190 +1,179 @@
--- Paths in a layout stand where a plan has them.
-use Rattle.std.proofs.Common.{◌≡◌, ◌<◌, ◌+◌, ℕ, zero, suc, refl, sym, ap, ap₂, ◌∙◌, subst, arith, Bool, true, false}
-use Rattle.std.proofs.Common.{if◌then◌else◌, List, [], ◌∷◌, ◌++◌, map, length, Option, Some, None}
-use Rattle.std.proofs.lemmas.List.{length-map}
-use Rattle.std.specs.Prelude.{option_and_then, option_map, position, slice_get}
-use Rattle.st_words.specs.Comparisons.{same_path_is}
-use Rattle.st_words.specs.Paths.{Path, same_path}
-use Rattle.st_types.specs.Slots.{Slot, IsLayout, slot_of}
-use Rattle.st_plans.specs.declared.plan.PlanInput.{PlanInput}
-use Rattle.st_plans.specs.declared.plan.PlanVariable.{PlanVariable}
-use Rattle.st_plans.specs.Layouts.{Enumerations, input_slot, layout_of, variable_slot}
-use Rattle.layout.specs.Indexed.{LayoutView, slot_number}
-use Rattle.layout.specs.TextLayouts.{input_of, inputs_among, variable_of, variables_among}
-use Rattle.layout.specs.declared.slots.LayoutSlot.{LayoutSlot}
-use Rattle.layout.proofs.Positions.{position_step}
-use Rattle.config.specs.LaidOut.{IsLaidOut}
-use Rattle.config.specs.NumberedSlots.{numbered_from}
-use Rattle.config.specs.SlotPlaces.{place_among, place_of}
-use Rattle.config.specs.declared.slots.SlotPlace.{SlotPlace}
-use Rattle.config.specs.declared.slots.SlotPlace.TheVariants.{Input, Variable}
+-- Where the instances of known programs run.
+use Rattle.std.proofs.Common.{◌≡◌, ◌+◌, ℕ, suc, refl, sym, ap, ap₂, ◌∙◌, subst, arith, Bool, true, false}
+use Rattle.std.proofs.Common.{List, [], ◌∷◌, ◌++◌, map, length, slice_get, Option, Some, None, option_map}
+use Rattle.std.proofs.Common.{append_assoc}
+use Rattle.std.specs.Prelude.{◌==◌, is_some}
+use Rattle.std.specs.List.{flat_map, list_all}
+use Rattle.std.specs.Option.{unwrap_or}
+use Rattle.std.proofs.lemmas.Bool.Decides.{nat_tests}
+use Rattle.st_types.specs.declared.identifier.Identifier.{Identifier}
+use Rattle.st_types.specs.declared.path.Owner.{Owner}
+use Rattle.st_types.specs.declared.configuration.Instance.{Instance}
+use Rattle.st_types.specs.declared.configuration.Task as declared_task
+use Rattle.st_types.specs.declared.unit.UnitSort.{UnitSort}
+use Rattle.st_types.specs.declared.unit.UnitSort.TheVariants as sorts
+use Rattle.st_types.specs.Configurations.{Resource}
+use Rattle.st_types.specs.Sources.{Source}
+use Rattle.st_types.specs.Units.{OrganisationUnit}
+use Rattle.st_meaning.specs.NameTypes.{Declared, declared_in, is_named, unit_named}
+use Rattle.st_meaning.specs.ResolvedUnits.{resolved}
+use Rattle.st_meaning.specs.Runs.{Program}
+use Rattle.st_meaning.specs.Scopes.{Name}
+use Rattle.st_rules.specs.ConfigurationRules.{is_known_task, is_known_instance, is_program_unit}
+use Rattle.st_meaning.specs.declared.plan.PlanInput.{PlanInput}
+use Rattle.st_meaning.specs.declared.plan.PlanVariable.{PlanVariable}
+use Rattle.layout.specs.LayoutVariables.{owner_in, declared_of}
+use Rattle.layout.specs.Libraries.{program_by_sort, program_if_there, programs_of_instances, programs_of_resources}
+use Rattle.st_link.proofs.TakenBodies.{unit_taken}
+use Rattle.plan.specs.declared.task.Task.{Task}
+use Rattle.plan.specs.Sound.{is_of_resource}
+use Rattle.config.specs.declared.places.Place.{Place}
+use Rattle.config.specs.Places.{task_number, place_of, places_from}
+use Rattle.config.specs.Tasks.{task_at, tasks_from}
+use Rattle.config.proofs.ListLemmas.{both, both_are, all_append, map_append, map_map, length_map, length_both}
+use Rattle.config.proofs.ListLemmas.{get_map, get_left, get_right, first_there}
 
--- a path stands not both among the inputs and among the variables
-abbrev IsApart : Option ℕ → Option ℕ → Type 0
-IsApart i v = (k j : ℕ) → i ≡ Some k → v ≡ Some j → ⊥
+-- ---- each instance has a program
 
-abbrev among_inputs : Path → List PlanInput → Option ℕ
-among_inputs p xs = position (λ i. same_path p i.path) xs
+abbrev pub owners_on : Resource → List Owner
+owners_on r = map (owner_in r.name.name) r.instances
 
-abbrev among_variables : Path → List PlanVariable → Option ℕ
-among_variables p xs = position (λ v. same_path p v.path) xs
+abbrev pub owners_in : List Resource → List Owner
+owners_in rs = flat_map owners_on rs
 
--- the first slot of a path, where the numbers begin so
-abbrev first_place : ℕ → ℕ → List LayoutSlot → Path → Option SlotPlace
-first_place v i [] p = None
-first_place v i (s ∷ ss) p = if same_path p s.path
-    then (if s.is_input then Some (Input i) else Some (Variable v))
-    else (if s.is_input then first_place v (suc i) ss p else first_place (suc v) i ss p)
+module _ (source : Source) where
+  abbrev text : Declared
+  text = declared_in source
 
-abbrev pub at_number : List SlotPlace → Option ℕ → Option SlotPlace
-at_number ps o = option_and_then (slice_get ps) o
+  abbrev whole : Declared
+  whole = declared_of source
 
--- it is found by the path's number
-one_place : (t : Bool) (x : SlotPlace) (xs : List SlotPlace) (o : Option ℕ) (rest : Option SlotPlace)
-    → at_number xs o ≡ rest → at_number (x ∷ xs) (if t then Some 0 else option_map suc o) ≡ (if t then Some x else rest)
-one_place true x xs o rest h = refl
-one_place false x xs None rest h = h
-one_place false x xs (Some n) rest h = h
+  one_program : (owner : Owner) (x : Name) → is_program_unit (unit_named text.units x) ≡ true
+      → map (λ (p : Program). p.owner) (program_if_there whole owner (unit_named whole.units x)) ≡ owner ∷ []
+  one_program owner x known = by_unit (unit_named text.units x) refl known
+    where
+      by_sort : (u : OrganisationUnit) → unit_named text.units x ≡ Some u → (s : UnitSort) → u.sort ≡ s
+          → is_program_unit (Some u) ≡ true
+          → map (λ (p : Program). p.owner) (program_if_there whole owner (unit_named whole.units x)) ≡ owner ∷ []
+      by_sort u e (sorts.Function t) s k = let f : true ≡ false = sym k ∙ rw s refl in absurd (cc)
+      by_sort u e sorts.FunctionBlock s k = let f : true ≡ false = sym k ∙ rw s refl in absurd (cc)
+      by_sort u e sorts.Program s k =
+          ap (λ o. map (λ (p : Program). p.owner) (program_if_there whole owner o)) (unit_taken source x u e)
+          ∙ ap (λ z. map (λ (p : Program). p.owner) (program_by_sort whole owner z (resolved text u))) s
 
-place_at : (ss : List LayoutSlot) (v i : ℕ) (p : Path)
-    → at_number (numbered_from v i ss) (slot_number ss p) ≡ first_place v i ss p
-place_at [] v i p = refl
-place_at (s ∷ ss) v i p = by_test s.is_input refl (place_at ss v (suc i) p) (place_at ss (suc v) i p)
-  where
-    by_test : (b : Bool) → s.is_input ≡ b
-        → at_number (numbered_from v (suc i) ss) (slot_number ss p) ≡ first_place v (suc i) ss p
-        → at_number (numbered_from (suc v) i ss) (slot_number ss p) ≡ first_place (suc v) i ss p
-        → at_number (numbered_from v i (s ∷ ss)) (slot_number (s ∷ ss) p) ≡ first_place v i (s ∷ ss) p
-    by_test true e one other = rw e (one_place (same_path p s.path) (Input i) (numbered_from v (suc i) ss)
-        (slot_number ss p) (first_place v (suc i) ss p) one)
-    by_test false e one other = rw e (one_place (same_path p s.path) (Variable v) (numbered_from (suc v) i ss)
-        (slot_number ss p) (first_place (suc v) i ss p) other)
+      by_unit : (o : Option OrganisationUnit) → unit_named text.units x ≡ o → is_program_unit o ≡ true
+          → map (λ (p : Program). p.owner) (program_if_there whole owner (unit_named whole.units x)) ≡ owner ∷ []
+      by_unit None e k = absurd (cc)
+      by_unit (Some u) e k = by_sort u e u.sort refl k
 
--- it is the place among the inputs, or else among the variables, counted on from these numbers
-abbrev IsPlace : ℕ → ℕ → Option SlotPlace → Option ℕ → Option ℕ → Type 0
-IsPlace v i place x y =
-    IsApart x y → place ≡ place_among (option_map (λ n. i + n) x) (option_map (λ n. v + n) y)
+  programs_on : (resource : Name) (tasks : List declared_task.Task) (is : List Instance)
+      → list_all (is_known_instance text tasks) is ≡ true
+      → map (λ (p : Program). p.owner) (programs_of_instances whole resource is) ≡ map (owner_in resource) is
+  programs_on resource tasks [] known = refl
+  programs_on resource tasks (i ∷ is) known =
+      let b = both (is_known_instance text tasks i) (list_all (is_known_instance text tasks) is) known in
+      let p = both (is_known_task tasks i.task) (is_program_unit (unit_named text.units i.program.name)) b.0 in
+      let here = program_if_there whole (owner_in resource i) (unit_named whole.units i.program.name) in
+      map_append (λ (q : Program). q.owner) here (programs_of_instances whole resource is)
+      ∙ ap₂ (λ (xs ys : List Owner). xs ++ ys) (one_program (owner_in resource i) i.program.name p.1)
+      (programs_on resource tasks is b.1)
 
-one_more : (i : ℕ) (o : Option ℕ) → option_map (λ n. suc i + n) o ≡ option_map (λ n. i + n) (option_map suc o)
-one_more i None = refl
-one_more i (Some n) = let e : suc i + n ≡ i + suc n = omega arith in ap Some e
+  -- the programs of a text are of the instances, one of each
+  pub owners_of_programs : (rs : List Resource)
+      → list_all (λ r. list_all (is_known_instance text r.tasks) r.instances) rs ≡ true
+      → map (λ (p : Program). p.owner) (programs_of_resources whole rs) ≡ owners_in rs
+  owners_of_programs [] known = refl
+  owners_of_programs (r ∷ rs) known =
+      let b = both (list_all (is_known_instance text r.tasks) r.instances)
+      (list_all (λ q. list_all (is_known_instance text q.tasks) q.instances) rs) known in
+      map_append (λ (q : Program). q.owner) (programs_of_instances whole r.name.name r.instances)
+      (programs_of_resources whole rs)
+      ∙ ap₂ (λ (xs ys : List Owner). xs ++ ys) (programs_on r.name.name r.tasks r.instances b.0)
+      (owners_of_programs rs b.1)
 
-on_input : (t : Bool) (v i : ℕ) (x y : Option ℕ) (rest : Option SlotPlace) → IsPlace v (suc i) rest x y
-    → IsPlace v i (if t then Some (Input i) else rest) (if t then Some 0 else option_map suc x) y
-on_input true v i x y rest h a = let e : i ≡ i + 0 = omega arith in ap (λ n. Some (Input n)) e
-on_input false v i x y rest h a =
-    h (λ k j e f. a (suc k) j (ap (option_map suc) e) f)
-    ∙ ap (λ o. place_among o (option_map (λ n. v + n) y)) (one_more i x)
+-- and so are the places
+pub owners_of_places : (number first : ℕ) (rs : List Resource)
+    → map (λ (p : Place). p.owner) (places_from number first rs) ≡ owners_in rs
+owners_of_places number first [] = refl
+owners_of_places number first (r ∷ rs) =
+    map_append (λ (p : Place). p.owner) (map (place_of number first r) r.instances)
+    (places_from (suc number) (first + length r.tasks) rs)
+    ∙ ap₂ (λ (xs ys : List Owner). xs ++ ys) (map_map (λ (p : Place). p.owner) (place_of number first r) r.instances)
+    (owners_of_places (suc number) (first + length r.tasks) rs)
 
-on_variable : (t : Bool) (v i : ℕ) (x y : Option ℕ) (rest : Option SlotPlace) → IsPlace (suc v) i rest x y
-    → IsPlace v i (if t then Some (Variable v) else rest) x (if t then Some 0 else option_map suc y)
-on_variable true v i None y rest h a = let e : v ≡ v + 0 = omega arith in ap (λ n. Some (Variable n)) e
-on_variable true v i (Some k) y rest h a = absurd (a k 0 refl refl)
-on_variable false v i x y rest h a =
-    h (λ k j e f. a k (suc j) e (ap (option_map suc) f))
-    ∙ ap (λ o. place_among (option_map (λ n. i + n) x) o) (one_more v y)
+-- as many as there are instances
+pub places_counted : (number first : ℕ) (rs : List Resource)
+    → length (places_from number first rs) ≡ length (flat_map (λ r. r.instances) rs)
+places_counted number first [] = refl
+places_counted number first (r ∷ rs) =
+    length_both (map (place_of number first r) r.instances) (places_from (suc number) (first + length r.tasks) rs)
+    ∙ ap₂ (λ n m. n + m) (length_map (place_of number first r) r.instances)
+    (places_counted (suc number) (first + length r.tasks) rs)
+    ∙ sym (length_both r.instances (flat_map (λ q. q.instances) rs))
 
-places : (ss : List LayoutSlot) (v i : ℕ) (p : Path)
-    → IsPlace v i (first_place v i ss p) (among_inputs p (inputs_among ss)) (among_variables p (variables_among ss))
-places [] v i p = λ a. refl
-places (s ∷ ss) v i p = by_test s.is_input refl (places ss v (suc i) p) (places ss (suc v) i p)
-  where
-    by_test : (b : Bool) → s.is_input ≡ b
-        → IsPlace v (suc i) (first_place v (suc i) ss p) (among_inputs p (inputs_among ss))
-        (among_variables p (variables_among ss))
-        → IsPlace (suc v) i (first_place (suc v) i ss p) (among_inputs p (inputs_among ss))
-        (among_variables p (variables_among ss))
-        → IsPlace v i (first_place v i (s ∷ ss) p) (among_inputs p (inputs_among (s ∷ ss)))
-        (among_variables p (variables_among (s ∷ ss)))
-    by_test true e one other = rw e (subst (λ o. IsPlace v i
-        (if same_path p s.path then Some (Input i) else first_place v (suc i) ss p) o
-        (among_variables p (variables_among ss)))
-        (sym (position_step (λ x. same_path p x.path) (input_of s) (inputs_among ss)))
-        (on_input (same_path p s.path) v i (among_inputs p (inputs_among ss)) (among_variables p (variables_among ss))
-        (first_place v (suc i) ss p) one))
-    by_test false e one other = rw e (subst (λ o. IsPlace v i
-        (if same_path p s.path then Some (Variable v) else first_place (suc v) i ss p)
-        (among_inputs p (inputs_among ss)) o)
-        (sym (position_step (λ x. same_path p x.path) (variable_of s) (variables_among ss)))
-        (on_variable (same_path p s.path) v i (among_inputs p (inputs_among ss)) (among_variables p (variables_among ss))
-        (first_place (suc v) i ss p) other))
+-- ---- each instance runs in a task of its resource
 
--- no path of the inputs is one of the variables, where each path has one slot
-numbered_variable : (vs : List PlanVariable) (rest : List Slot) (p : Path) (j : ℕ) → among_variables p vs ≡ Some j
-    → (slot_of (map variable_slot vs ++ rest) p ≡ Some j) × (j < length vs)
-numbered_variable [] rest p j h = absurd (cc)
-numbered_variable (v ∷ vs) rest p j h =
-    by_test (same_path p v.path) (among_variables p vs) refl
-    (sym (position_step (λ x. same_path p x.path) v vs) ∙ h) (numbered_variable vs rest p) j
-  where
-    by_test : (t : Bool) (o : Option ℕ) → among_variables p vs ≡ o
-        → (if t then Some 0 else option_map suc o) ≡ Some j
-        → ((k : ℕ) → among_variables p vs ≡ Some k → (slot_of (map variable_slot vs ++ rest) p ≡ Some k) × (k < length vs))
-        → (n : ℕ)
-        → ((if t then Some 0 else option_map suc (slot_of (map variable_slot vs ++ rest) p)) ≡ Some j) × (j < suc (length vs))
-    by_test true o is e more n = (e, let z : 0 ≡ j = cc in omega arith)
-    by_test false None is e more n = absurd (cc)
-    by_test false (Some k) is e more n =
-        let m = more k is in
-        let z : suc k ≡ j = cc in
-        (ap (option_map suc) m.0 ∙ e, let l : k < length vs = m.1 in omega arith)
+abbrev pub runs_in : List Task → Place → Bool
+runs_in tasks p = is_of_resource p.resource (slice_get tasks p.task)
 
-input_there : (is : List PlanInput) (p : Path) (k : ℕ) → among_inputs p is ≡ Some k
-    → (l : Slot) × (slice_get (map input_slot is) k ≡ Some l) × (p ≡ l.path)
-input_there [] p k h = absurd (cc)
-input_there (i ∷ is) p k h =
-    by_test (same_path p i.path) refl (among_inputs p is) refl (sym (position_step (λ x. same_path p x.path) i is) ∙ h)
-    (input_there is p)
-  where
-    by_test : (t : Bool) → same_path p i.path ≡ t → (o : Option ℕ) → among_inputs p is ≡ o
-        → (if t then Some 0 else option_map suc o) ≡ Some k
-        → ((n : ℕ) → among_inputs p is ≡ Some n → (l : Slot) × (slice_get (map input_slot is) n ≡ Some l) × (p ≡ l.path))
-        → (l : Slot) × (slice_get (map input_slot (i ∷ is)) k ≡ Some l) × (p ≡ l.path)
-    by_test true same o is_o e more =
-        let z : 0 ≡ k = cc in
-        (input_slot i, ap (slice_get (map input_slot (i ∷ is))) (sym z), same_path_is p i.path same)
-    by_test false same None is_o e more = absurd (cc)
-    by_test false same (Some n) is_o e more =
-        let z : suc n ≡ k = cc in
-        let (l, at, p_is) = more n is_o in
-        (l, ap (slice_get (map input_slot (i ∷ is))) (sym z) ∙ at, p_is)
+same_number : (n : ℕ) → (n == n) ≡ true
+same_number n = grind (arith, nat_tests)
 
-behind : (xs ys : List Slot) (k : ℕ) → slice_get (xs ++ ys) (length xs + k) ≡ slice_get ys k
-behind [] ys k = let e : 0 + k ≡ k = omega arith in ap (slice_get ys) e
-behind (x ∷ xs) ys k =
-    let e : suc (length xs) + k ≡ suc (length xs + k) = omega arith in
-    ap (slice_get (x ∷ xs ++ ys)) e ∙ behind xs ys k
+module _ (vs : List PlanVariable) (is : List PlanInput) where
+  -- the task of an instance is known, so it has a number
+  task_there : (tasks : List declared_task.Task) (o : Option Identifier) → is_known_task tasks o ≡ true
+      → is_some o ≡ true
+      → (k : ℕ) × (t : declared_task.Task) × (task_number tasks o ≡ Some k) × (slice_get tasks k ≡ Some t)
+  task_there tasks None known some = absurd (cc)
+  task_there tasks (Some x) known some =
+      let f = first_there (λ (t : declared_task.Task). is_named x.name t.name) tasks known in
+      (f.number, f.one, f.is, f.at)
 
-apart : (vs : List PlanVariable) (is : List PlanInput) (p : Path) → IsLayout (layout_of vs is)
-    → IsApart (among_inputs p is) (among_variables p vs)
-apart vs is p once k j there found =
-    let (l, at, p_is) = input_there is p k there in
-    let n = length (map variable_slot vs) + k in
-    let number : slot_of (layout_of vs is) l.path ≡ Some n =
-    once n l (behind (map variable_slot vs) (map input_slot is) k ∙ at) in
-    let v = numbered_variable vs (map input_slot is) p j found in
-    let same : Some j ≡ Some n = sym v.0 ∙ ap (slot_of (layout_of vs is)) p_is ∙ number in
-    let is_n : j ≡ n = cc in
-    let long : length (map variable_slot vs) ≡ length vs = length-map vs variable_slot in
-    let below : j < length vs = v.1 in
-    absurd (omega arith)
+  places_on : (before behind : List Task) (number : ℕ) (r : Resource) (xs : List Instance)
+      → list_all (λ (i : Instance). is_known_task r.tasks i.task) xs ≡ true
+      → list_all (λ (i : Instance). is_some i.task) xs ≡ true
+      → list_all (runs_in (before ++ (map (task_at vs is number) r.tasks ++ behind)))
+      (map (place_of number (length before) r) xs) ≡ true
+  places_on before behind number r [] known tasked = refl
+  places_on before behind number r (i ∷ xs) known tasked =
+      let own = map (task_at vs is number) r.tasks in
+      let all = before ++ (own ++ behind) in
+      let k = both (is_known_task r.tasks i.task) (list_all (λ (j : Instance). is_known_task r.tasks j.task) xs) known in
+      let t = both (is_some i.task) (list_all (λ (j : Instance). is_some j.task) xs) tasked in
+      let f = task_there r.tasks i.task k.0 t.0 in
+      let there : slice_get own f.0 ≡ Some (task_at vs is number f.1) =
+      get_map (task_at vs is number) r.tasks f.0 ∙ ap (option_map (task_at vs is number)) f.3 in
+      let found : slice_get all (length before + f.0) ≡ Some (task_at vs is number f.1) =
+      get_right before (own ++ behind) f.0 ∙ get_left own behind f.0 (task_at vs is number f.1) there in
+      let at : slice_get all (length before + unwrap_or (task_number r.tasks i.task) 0)
+      ≡ Some (task_at vs is number f.1) =
+      ap (λ o. slice_get all (length before + unwrap_or o 0)) f.2 ∙ found in
+      let here : runs_in all (place_of number (length before) r i) ≡ true =
+      ap (is_of_resource number) at ∙ same_number number in
+      both_are (runs_in all (place_of number (length before) r i))
+      (list_all (runs_in all) (map (place_of number (length before) r) xs)) here
+      (places_on before behind number r xs k.1 t.1)
 
-none_more : (o : Option ℕ) → option_map (λ n. 0 + n) o ≡ o
-none_more None = refl
-none_more (Some n) = let e : 0 + n ≡ n = omega arith in ap Some e
-
--- what stands in the slot of a path
-place_is : (ss : List LayoutSlot) (p : Path) → IsLayout (layout_of (variables_among ss) (inputs_among ss))
-    → at_number (numbered_from 0 0 ss) (slot_number ss p) ≡ place_of (variables_among ss) (inputs_among ss) p
-place_is ss p once =
-    place_at ss 0 0 p
-    ∙ places ss 0 0 p (apart (variables_among ss) (inputs_among ss) p once)
-    ∙ ap₂ place_among (none_more (among_inputs p (inputs_among ss))) (none_more (among_variables p (variables_among ss)))
-
-pub laid_place : (types : Enumerations) (vs : List PlanVariable) (is : List PlanInput) (ps : List SlotPlace)
-    (layout : LayoutView) → IsLaidOut types vs is ps layout → IsLayout (layout_of vs is) → (p : Path) (o : Option ℕ)
-    → o ≡ slot_number layout.slots p → at_number ps o ≡ place_of vs is p
-laid_place types vs is ps layout laid once p o e =
-    let apart = subst IsLayout (ap₂ layout_of laid.variables_are laid.inputs_are) once in
-    ap₂ at_number laid.places_are e ∙ place_is layout.slots p apart
-    ∙ sym (ap₂ (λ xs ys. place_of xs ys p) laid.variables_are laid.inputs_are)
+  pub places_run : (before : List Task) (number first : ℕ) (rs : List Resource) → first ≡ length before
+      → list_all (λ r. list_all (λ (i : Instance). is_known_task r.tasks i.task) r.instances) rs ≡ true
+      → list_all (λ r. list_all (λ (i : Instance). is_some i.task) r.instances) rs ≡ true
+      → list_all (runs_in (before ++ tasks_from vs is number rs)) (places_from number first rs) ≡ true
+  places_run before number first [] e known tasked = refl
+  places_run before number first (r ∷ rs) e known tasked =
+      let own = map (task_at vs is number) r.tasks in
+      let behind = tasks_from vs is (suc number) rs in
+      let k = both (list_all (λ (i : Instance). is_known_task r.tasks i.task) r.instances)
+      (list_all (λ q. list_all (λ (i : Instance). is_known_task q.tasks i.task) q.instances) rs) known in
+      let t = both (list_all (λ (i : Instance). is_some i.task) r.instances)
+      (list_all (λ q. list_all (λ (i : Instance). is_some i.task) q.instances) rs) tasked in
+      let here = places_on before behind number r r.instances k.0 t.0 in
+      let n : first + length r.tasks ≡ length (before ++ own) =
+      ap (λ m. m + length r.tasks) e ∙ ap (λ m. length before + m) (sym (length_map (task_at vs is number) r.tasks))
+      ∙ sym (length_both before own) in
+      let rest = places_run (before ++ own) (suc number) (first + length r.tasks) rs n k.1 t.1 in
+      let joined : (before ++ own) ++ behind ≡ before ++ (own ++ behind) = append_assoc before own behind in
+      all_append (runs_in (before ++ (own ++ behind))) (map (place_of number first r) r.instances)
+      (places_from (suc number) (first + length r.tasks) rs)
+      (subst (λ m. list_all (runs_in (before ++ (own ++ behind))) (map (place_of number m r) r.instances) ≡ true) (sym e)
+      here)
+      (subst (λ ts. list_all (runs_in ts) (places_from (suc number) (first + length r.tasks) rs) ≡ true) joined rest)

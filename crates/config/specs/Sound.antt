@@ -1,115 +1,118 @@
--- What the parts of a plan have to do with each other, and their limits.
-use Rattle.std.specs.Prelude.{◌≡◌, ℕ, ◌+◌, ◌<◌, ◌≤◌, ◌==◌, nat_le, List, [], ◌∷◌, length, map, filter, Bool, true}
-use Rattle.std.specs.Prelude.{false, not, ◌&&◌, Option, Some, None, slice_get}
-use Rattle.std.specs.List.{list_all}
-use Rattle.st_words.specs.declared.limits.TheConstants.{MAX_BUDGET, MAX_PATHS, MAX_PROGRAMS, MAX_RECORD_BODY}
-use Rattle.st_words.specs.declared.limits.TheConstants.{MAX_RESOURCES, MAX_TASKS}
-use Rattle.st_words.specs.declared.kind.Kind.{Kind}
-use Rattle.st_words.specs.declared.kind.Kind.TheVariants.{Bool as Boolean, Enumerated}
-use Rattle.st_words.specs.Kinds.{same_kind}
-use Rattle.st_words.specs.UpperNames.{is_upper_name}
-use Rattle.st_statics.specs.declared.limits.TheConstants.{MAX_NAMES}
-use Rattle.st_plans.specs.declared.plan.PlanVariable.{PlanVariable}
-use Rattle.st_plans.specs.declared.plan.PlanInput.{PlanInput}
-use Rattle.st_types.specs.Scopes.{Name, contains_name}
-use Rattle.st_types.specs.Slots.{IsLayout}
-use Rattle.st_plans.specs.Layouts.{Enumerations, layout_of, path_text, record_length}
-use Rattle.st_types.specs.Slots.{Slot}
-use Rattle.st_trees.specs.Sources.{Source}
-use Rattle.coded_programs.specs.Codes.{code_view}
-use Rattle.coded_programs.specs.Meanings.{Means}
-use Rattle.coded_programs.specs.Reads.{ReadsAsAsked}
-use Rattle.config.specs.declared.slots.SlotPlace.{SlotPlace}
-use Rattle.config.specs.Owners.{AreToldApart}
-use Rattle.config.specs.SlotPlaces.{are_numbered, slots_among}
-use Rattle.config.specs.Sources.{program_numbered}
-use Rattle.config.specs.declared.task.Trigger.{Trigger}
-use Rattle.config.specs.declared.task.Trigger.TheVariants.{Absent, Input, Variable}
-use Rattle.config.specs.declared.task.Task.{Task}
-use Rattle.config.specs.declared.task.ProgramInstance.{ProgramInstance}
+-- What is asked of a body with names, so that code is made of its linked form.
+use Rattle.std.specs.Prelude.{◌≡◌, ℕ, suc, ◌+◌, ◌<◌, ◌≤◌, List, [], ◌∷◌, Option, Some, None}
+use Rattle.std.specs.Prelude.{option_and_then}
+use Rattle.st_types.specs.Expressions as named
+use Rattle.st_types.specs.Expressions.{Expr, literal, read, parenthesis, Exprs, Variable, variable, member, subscript}
+use Rattle.st_types.specs.Expressions.{Selectors, no_selectors, selector_then}
+use Rattle.st_types.specs.Statements as text
+use Rattle.st_types.specs.Statements.{Argument, Stmt, Stmts, Arms, CaseArms}
+use Rattle.st_meaning.specs.NameTypes.{Declared}
+use Rattle.st_meaning.specs.Operators.{value_of_literal}
+use Rattle.layout.specs.LayoutVariables.{Owned}
+use Rattle.layout.specs.TextLayouts.{variable_shape}
+use Rattle.st_meaning.specs.Scopes.{Name}
+use Rattle.st_meaning.specs.StandardFunctions.{Standard, standard_of}
+use Rattle.layout.specs.Shapes.{Shape, plain, array, parts, Parts, no_parts, part_then, size}
+use Rattle.slot_trees.specs.LinkedStatements.{Instance, instance_of_symbol, code_of}
+use Rattle.slot_trees.specs.SlotEvaluation.{slot_at}
+use Rattle.slot_trees.specs.SlotTrees.{BlockCode}
+use Rattle.slot_trees.specs.Tables.{Symbol, Table, symbol_of, named_in}
+use Rattle.machine_code.specs.Fitting.{UnitCall, of_function, of_block, IsValue}
+use Rattle.machine_code.specs.Sites.{Site, end_of, site_at}
+use Rattle.st_compile.specs.Linked.{IsNumber, AreLabels}
 
--- each name stands once
-abbrev pub are_different : List Name → Bool
-are_different [] = true
-are_different (x ∷ xs) = not (contains_name xs x) && are_different xs
+-- each array has an element, and a lower bound that instructions hold
+abbrev mutual
+  pub IsBounded : Shape → Type 0
+  IsBounded (plain k) = Unit {0}
+  IsBounded (array lower count sh) = (0 < count) × IsNumber lower × IsBounded sh
+  IsBounded (parts w ps) = AreBounded ps
 
--- the bytes that a path in a record's layout text may have
-abbrev pub is_spelled : Name → Bool
-is_spelled x = not (length x == 0) && list_all (λ b. nat_le 33 b && nat_le b 126) x
+  pub AreBounded : Parts → Type 0
+  AreBounded no_parts = Unit {0}
+  AreBounded (part_then x sh ps) = IsBounded sh × AreBounded ps
 
--- so many names, each an identifier in upper case
-abbrev pub has_names : Option (List Name) → ℕ → Bool
-has_names None n = false
-has_names (Some names) n =
-    length names == n && nat_le 1 n && nat_le n MAX_NAMES && list_all is_upper_name names
+-- each array of a layout's variables is bounded so
+abbrev pub AreBoundedVariables : Declared → List Owned → Type 0
+AreBoundedVariables text [] = Unit {0}
+AreBoundedVariables text (v ∷ vs) = IsBounded (variable_shape text v) × AreBoundedVariables text vs
 
--- a type that a record can spell: an elementary one, or an enumerated one of the text with all its names
-abbrev pub has_spelling : Enumerations → Kind → Bool
-has_spelling types (Enumerated n number) = has_names (slice_get types number) n
-has_spelling types k = true
+-- variables lie among the values of a unit
+abbrev pub SymbolsWithin : Site → List Symbol → Type 0
+SymbolsWithin site [] = Unit {0}
+SymbolsWithin site (y ∷ ys) =
+    (slot_at site.base y.anchor + size y.shape ≤ site.size) × IsBounded y.shape × SymbolsWithin site ys
 
--- a variable that may have a line in a record's layout text: its path may stand there, and its type
-abbrev pub has_line : Enumerations → PlanVariable → Bool
-has_line types v = is_spelled (path_text v.path) && has_spelling types v.initial.kind
+-- how many expressions there are
+abbrev pub number_of_exprs : Exprs → ℕ
+number_of_exprs named.no_exprs = 0
+number_of_exprs (named.expr_then e es) = suc (number_of_exprs es)
 
-abbrev pub is_boolean_variable : Option PlanVariable → Bool
-is_boolean_variable None = false
-is_boolean_variable (Some v) = same_kind v.initial.kind Boolean
+module _ (CallLinked : UnitCall → Type 0) (site : Site) (t : Table) where
+  -- a standard function has as few arguments as instructions hold, and code is made of the function of the text that
+  -- a name stands for, with so many arguments
+  abbrev pub CallSound : Option Standard → Name → ℕ → Type 0
+  CallSound (Some standard) f count = count < 65536
+  CallSound None f count = (i : ℕ) → named_in t.functions f ≡ Some i → CallLinked (of_function i (end_of site) count)
 
-abbrev pub is_boolean_input : Option PlanInput → Bool
-is_boolean_input None = false
-is_boolean_input (Some i) = same_kind i.kind Boolean
+  abbrev mutual
+    pub ExprSound : Expr → Type 0
+    ExprSound (literal l) = IsValue (value_of_literal l)
+    ExprSound (read v) = VariableSound v
+    ExprSound (named.call f es) = ExprsSound es × CallSound (standard_of f.name) f.name (number_of_exprs es)
+    ExprSound (parenthesis at e) = ExprSound e
+    ExprSound (named.unary op at e) = ExprSound e
+    ExprSound (named.binary op l r) = ExprSound l × ExprSound r
 
--- SINGLE is a BOOL
-abbrev pub is_sound_trigger : List PlanVariable → List PlanInput → Trigger → Bool
-is_sound_trigger variables inputs Absent = true
-is_sound_trigger variables inputs (Input i) = is_boolean_input (slice_get inputs i)
-is_sound_trigger variables inputs (Variable k) = is_boolean_variable (slice_get variables k)
+    pub ExprsSound : Exprs → Type 0
+    ExprsSound named.no_exprs = Unit {0}
+    ExprsSound (named.expr_then e es) = ExprSound e × ExprsSound es
 
-abbrev pub is_of_resource : ℕ → Option Task → Bool
-is_of_resource r None = false
-is_of_resource r (Some t) = t.resource == r
+    pub VariableSound : Variable → Type 0
+    VariableSound (variable x xs) = SelectorsSound xs
 
-abbrev pub tasks_of : ℕ → List Task → ℕ
-tasks_of r tasks = length (filter (λ t. t.resource == r) tasks)
+    pub SelectorsSound : Selectors → Type 0
+    SelectorsSound no_selectors = Unit {0}
+    SelectorsSound (selector_then (member x) xs) = SelectorsSound xs
+    SelectorsSound (selector_then (subscript e) xs) = ExprSound e × SelectorsSound xs
 
--- The limits: 4,096 paths, 8 resources with 32 tasks each, 64 programs, 1 to 1,000,000 ticks, a record of 131,059
--- bytes.
-pub record IsWithinLimits (types : Enumerations) (variables : List PlanVariable) (inputs : List PlanInput) (resources : ℕ)
-    (tasks : List Task) (programs budget : ℕ) : Type 0 where
-  pub paths : length variables + length inputs ≤ MAX_PATHS
-  pub resources_are : resources ≤ MAX_RESOURCES
-  pub tasks_each : list_all (λ t. nat_le (tasks_of t.resource tasks) MAX_TASKS) tasks ≡ true
-  pub programs_are : programs ≤ MAX_PROGRAMS
-  pub some_ticks : 1 ≤ budget
-  pub ticks : budget ≤ MAX_BUDGET
-  pub record_is : record_length types variables ≤ MAX_RECORD_BODY
+  abbrev pub StepSound : Option Expr → Type 0
+  StepSound None = Unit {0}
+  StepSound (Some e) = ExprSound e
 
--- The code of an instance does over the slots what its program does, the instance has its program's names, and what the
--- code reads of globals and inputs, the program asks for.
-pub record IsCodeOf (source : Source) (layout : List Slot) (p : ProgramInstance) : Type 0 where
-  pub means : Means layout (code_view p.code.value) (program_numbered source p.number)
-  pub owner : (program_numbered source p.number).owner ≡ p.owner
-  pub reads : ReadsAsAsked layout (code_view p.code.value) (program_numbered source p.number)
+  abbrev pub ArgumentsSound : List Argument → Type 0
+  ArgumentsSound [] = Unit {0}
+  ArgumentsSound (text.given x e ∷ rest) = ExprSound e × ArgumentsSound rest
+  ArgumentsSound (text.copied x v ∷ rest) = VariableSound v × ArgumentsSound rest
 
--- Each path has one slot; variables and inputs are numbered in the order of the slots; the code of each instance does
--- what its program does, and reads what this asks for; each program runs in a task of its resource; each variable can
--- have a line in a record, and no two paths are spelled alike; the names of instances tell them apart, and so do those
--- of the values of each enumerated type.
-pub record PlanInvariant (source : Source) (types : Enumerations) (variables : List PlanVariable)
-    (inputs : List PlanInput) (slots : List SlotPlace) (resources : ℕ) (tasks : List Task) (programs : List ProgramInstance)
-    (budget : ℕ) : Type 0 where
-  pub layout : IsLayout (layout_of variables inputs)
-  pub numbered : are_numbered 0 0 slots (length variables) (length inputs) ≡ true
-  pub codes : (k : ℕ) (p : ProgramInstance) → slice_get programs k ≡ Some p
-      → IsCodeOf source (slots_among slots variables inputs) p
-  pub resources_are : (k : ℕ) (t : Task) → slice_get tasks k ≡ Some t → t.resource < resources
-  pub places : (k : ℕ) (p : ProgramInstance) → slice_get programs k ≡ Some p
-      → is_of_resource p.resource (slice_get tasks p.task) ≡ true
-  pub singles : list_all (λ t. is_sound_trigger variables inputs t.single) tasks ≡ true
-  pub spelled : list_all (has_line types) variables ≡ true
-  pub different : are_different (map (λ v. path_text v.path) variables) ≡ true
-  pub limits : IsWithinLimits types variables inputs resources tasks (length programs) budget
-  pub once : IsLayout (slots_among slots variables inputs)
-  pub instances : AreToldApart (map (λ p. p.owner) programs)
-  pub values : list_all are_different types ≡ true
+  -- code is made of the block of an instance, wherever the instance stands
+  abbrev pub InstanceSound : Name → Type 0
+  InstanceSound x = (code : BlockCode) (i : Instance) → code_of t x ≡ Some code
+      → option_and_then instance_of_symbol (symbol_of t.symbols x) ≡ Some i
+      → CallLinked (of_block code (site_at site (slot_at site.base i.anchor)))
+
+  abbrev mutual
+    pub StmtSound : Stmt → Type 0
+    StmtSound text.empty = Unit {0}
+    StmtSound (text.assign v e) = VariableSound v × ExprSound e
+    StmtSound (text.invoke x arguments) = InstanceSound x.name × ArgumentsSound arguments
+    StmtSound (text.IF arms otherwise) = ArmsSound arms × StmtsSound otherwise
+    StmtSound (text.CASE e arms otherwise) = ExprSound e × CaseArmsSound arms × StmtsSound otherwise
+    StmtSound (text.FOR x start limit step body) =
+        ExprSound start × ExprSound limit × StepSound step × StmtsSound body
+    StmtSound (text.WHILE e body) = ExprSound e × StmtsSound body
+    StmtSound (text.REPEAT body e) = StmtsSound body × ExprSound e
+    StmtSound (text.EXIT at) = Unit {0}
+    StmtSound text.RETURN = Unit {0}
+
+    pub StmtsSound : Stmts → Type 0
+    StmtsSound text.no_stmts = Unit {0}
+    StmtsSound (text.stmt_then x xs) = StmtSound x × StmtsSound xs
+
+    pub ArmsSound : Arms → Type 0
+    ArmsSound text.no_arms = Unit {0}
+    ArmsSound (text.arm_then e body arms) = ExprSound e × StmtsSound body × ArmsSound arms
+
+    pub CaseArmsSound : CaseArms → Type 0
+    CaseArmsSound text.no_case_arms = Unit {0}
+    CaseArmsSound (text.case_arm_then labels body arms) = AreLabels labels × StmtsSound body × CaseArmsSound arms

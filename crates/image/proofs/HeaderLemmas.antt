@@ -3,7 +3,7 @@ use Rattle.std.proofs.Common.{◌≡◌, ◌∙◌, sym, refl, ap, ℕ, suc, zer
 use Rattle.std.proofs.Common.{Some, option_map, codes, arith}
 use Rattle.std.specs.Char.{to_ascii_lowercase}
 use Rattle.csv.specs.Records.{field_at}
-use Rattle.st_plans.specs.declared.plan.PlanInput.{PlanInput}
+use Rattle.st_meaning.specs.declared.plan.PlanInput.{PlanInput}
 use Rattle.image.specs.Plants.{Fields, columns, without_case, IsHeader}
 use Rattle.image.proofs.FieldLemmas.{field_at-map, field_at-cons, field_at-first, take_same}
 

@@ -10,9 +10,9 @@ use Rattle.std.proofs.lemmas.Bool.{cases_lt}
 use Rattle.std.proofs.lemmas.Option.{slice_get_within, slice_get-get_or}
 use Rattle.std.proofs.lemmas.List.{get_or_at, get_or_push, get_or_append_left, map-append, length-append}
 use Rattle.std.proofs.lemmas.List.Elements.{All-push}
-use Rattle.st_words.specs.declared.limits.TheConstants.{MAX_ROWS}
-use Rattle.st_plans.specs.declared.plan.PlanInput.{PlanInput}
-use Rattle.st_plans.specs.Rows.{Latch}
+use Rattle.st_types.specs.declared.limits.TheConstants.{MAX_ROWS}
+use Rattle.st_meaning.specs.declared.plan.PlanInput.{PlanInput}
+use Rattle.st_types.specs.Rows.{Latch}
 use Rattle.image.specs.Plants.{AreRowsOf, IsRowOf, IsLater, IsNotLater}
 
 -- what is not empty has a last element

@@ -3,13 +3,13 @@ use Rattle.std.proofs.Common.{◌≡◌, ◌∙◌, sym, refl, ap, subst, ℕ, �
 use Rattle.std.proofs.Common.{map, get_or, All, true, false, Option, Some, None, Ok, inr, arith}
 use Rattle.std.proofs.lemmas.List.{get_or_at, length-append, length-map, map-append}
 use Rattle.std.proofs.lemmas.List.Elements.{All-nil}
-use Rattle.st_words.specs.declared.limits.TheConstants.{MAX_ROWS}
+use Rattle.st_types.specs.declared.limits.TheConstants.{MAX_ROWS}
 use Rattle.csv.specs.Records.{Row, fields_of}
 use Rattle.csv.specs.Reading.{default_config}
 use Rattle.csv.specs.declared.reader.Reader.{Reader}
 use Rattle.csv.specs.declared.reader.Trim.TheVariants as trim
-use Rattle.st_plans.specs.declared.plan.PlanInput.{PlanInput}
-use Rattle.st_plans.specs.Rows.{Latch}
+use Rattle.st_meaning.specs.declared.plan.PlanInput.{PlanInput}
+use Rattle.st_types.specs.Rows.{Latch}
 use Rattle.image.specs.Plants.{AreRowsOf, Fields, IsHeader, IsNotLater, IsPlant, IsRowOf, spelled}
 use Rattle.image.specs.Faults.{HasNoHeader, HasNoRise, HasTooManyRows, HasWrongField, IsNoRow}
 use Rattle.image.specs.Records.{OfRecords}

@@ -11,8 +11,8 @@ use Rattle.csv.specs.declared.reader.Reader.{Reader}
 use Rattle.csv.specs.declared.reader.Trim.TheVariants as trim
 use Rattle.csv.specs.declared.parser.State.TheVariants as st
 use Rattle.csv.proofs.ReadFacts.{rows-more, rows-end}
-use Rattle.st_plans.specs.declared.plan.PlanInput.{PlanInput}
-use Rattle.st_plans.specs.Rows.{Latch}
+use Rattle.st_meaning.specs.declared.plan.PlanInput.{PlanInput}
+use Rattle.st_types.specs.Rows.{Latch}
 use Rattle.image.specs.Plants.{AreRowsOf, Fields, IsHeader, spelled}
 use Rattle.image.specs.Records.{OfRecords}
 use Rattle.image.proofs.RecordsLemmas.{read_begins, read_all}

@@ -5,11 +5,11 @@ use Rattle.std.specs.Fmt.{signed_decimal}
 use Rattle.std.proofs.lemmas.Bool.{and_parts}
 use Rattle.std.proofs.lemmas.List.{take_more, map-append}
 use Rattle.csv.specs.Records.{field_at}
-use Rattle.st_words.specs.declared.kind.Kind.{Kind}
-use Rattle.st_words.specs.Kinds.{same_kind, holds}
-use Rattle.st_words.specs.Values.{Datum}
-use Rattle.st_plans.specs.declared.plan.PlanInput.{PlanInput}
-use Rattle.st_plans.specs.Plans.{holds_each}
+use Rattle.st_types.specs.declared.kind.Kind.{Kind}
+use Rattle.st_types.specs.Kinds.{same_kind, holds}
+use Rattle.st_types.specs.Values.{Datum}
+use Rattle.st_meaning.specs.declared.plan.PlanInput.{PlanInput}
+use Rattle.st_meaning.specs.Plans.{holds_each}
 use Rattle.st_print.specs.Numbers.{SpellsValueAt}
 use Rattle.image.specs.Plants.{Fields, spelled_values}
 use Rattle.image.proofs.FieldLemmas.{take_field, field_at-behind, field_at-cons}

@@ -1,8 +1,8 @@
 -- What keeps records from being a plant.
 use Rattle.std.specs.Prelude.{◌≡◌, ◌≢◌, ◌<◌, ◌≤◌, List, [], ◌∷◌, ◌++◌, length, drop, Any, ⊤}
-use Rattle.st_words.specs.declared.limits.TheConstants.{MAX_ROWS}
-use Rattle.st_plans.specs.declared.plan.PlanInput.{PlanInput}
-use Rattle.st_plans.specs.Rows.{Latch}
+use Rattle.st_types.specs.declared.limits.TheConstants.{MAX_ROWS}
+use Rattle.st_meaning.specs.declared.plan.PlanInput.{PlanInput}
+use Rattle.st_types.specs.Rows.{Latch}
 use Rattle.image.specs.Plants.{Fields, IsRowOf, IsHeader, spelled}
 
 -- the first record is no header, or there is no record

@@ -3,11 +3,11 @@ use Rattle.std.specs.Prelude.{[], ◌++◌, ◌≡◌, ℕ, ◌<◌, ◌≤◌, 
 use Rattle.std.specs.Char.{to_ascii_lowercase}
 use Rattle.std.specs.Fmt.{decimal, signed_decimal}
 use Rattle.std.specs.List.Sorted.{IsStrictlyIncreasing}
-use Rattle.st_words.specs.declared.limits.TheConstants.{MAX_ROWS, MOMENT_LIMIT}
-use Rattle.st_plans.specs.declared.plan.PlanInput.{PlanInput}
-use Rattle.st_words.specs.Values.{Datum}
-use Rattle.st_plans.specs.Rows.{Latch}
-use Rattle.st_plans.specs.Plans.{holds_each}
+use Rattle.st_types.specs.declared.limits.TheConstants.{MAX_ROWS, MOMENT_LIMIT}
+use Rattle.st_meaning.specs.declared.plan.PlanInput.{PlanInput}
+use Rattle.st_types.specs.Values.{Datum}
+use Rattle.st_types.specs.Rows.{Latch}
+use Rattle.st_meaning.specs.Plans.{holds_each}
 
 -- the fields of a record, each the list of its bytes
 abbrev pub Fields : Type 0

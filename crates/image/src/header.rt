@@ -6,7 +6,7 @@ ghost use Rattle.csv.specs.Records.{field_at, fields_of};
 ghost use Rattle.image.specs.Plants.{IsHeader};
 
 use csv::ByteRecord;
-use st_plans::PlanInput;
+use st_meaning::PlanInput;
 
 /// Whether the field at this column is the name, in any case.
 fn is_name_at(record: &ByteRecord, column: usize, name: &[u8]) -> bool

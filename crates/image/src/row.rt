@@ -3,19 +3,19 @@
 ghost use Rattle.std.specs.Prelude.{◌≡◌, ◌≢◌, ◌<◌, ◌⊎◌, ◌^◌, ◌∷◌, ℕ, List, true, drop, IfOk, IfErr, IsErrOf, IfSome};
 ghost use Rattle.std.specs.Prelude.{IfNone, Err};
 ghost use Rattle.std.specs.Fmt.{decimal};
-ghost use Rattle.st_words.specs.declared.limits.TheConstants.{MOMENT_LIMIT};
+ghost use Rattle.st_types.specs.declared.limits.TheConstants.{MOMENT_LIMIT};
 ghost use Rattle.csv.specs.Records.{field_at, fields_of};
-ghost use Rattle.st_words.specs.Values.{Datum};
-ghost use Rattle.st_plans.specs.Plans.{holds_each};
+ghost use Rattle.st_types.specs.Values.{Datum};
+ghost use Rattle.st_meaning.specs.Plans.{holds_each};
 ghost use Rattle.st_print.specs.Numbers.{SpellsValueAt};
 ghost use Rattle.image.specs.Plants.{IsRowOf, spelled, spelled_values};
 ghost use Rattle.image.specs.Faults.{IsNoRow};
 
 use crate::plant_error::PlantError;
 use csv::ByteRecord;
-use st_plans::{PlanInput, Row};
+use st_meaning::PlanInput;
 use st_print::number::{moment, value};
-use st_words::{Kind, Value};
+use st_types::{Kind, Row, Value};
 use std::alloc::Global;
 
 /// The value of the type that the field at this column spells.

@@ -2,15 +2,15 @@
 use Rattle.std.proofs.Common.{◌≡◌, refl, sym, ap, ◌∙◌, arith, ℕ, ◌≤◌, List, [], ◌∷◌, ◌++◌, length, map, Bool, false}
 use Rattle.std.specs.Prelude.{nat_lt, ◌||◌}
 use Rattle.std.proofs.lemmas.Bool.Decides.{nat_tests}
-use Rattle.st_words.specs.declared.limits.TheConstants.{MAX_PATHS}
-use Rattle.st_plans.specs.declared.plan.PlanVariable.{PlanVariable}
-use Rattle.st_types.specs.NameTypes.{Declared}
-use Rattle.st_layouts.specs.LayoutVariables.{Owned}
-use Rattle.st_layouts.specs.Shapes.{Shape, leaves_of, size}
-use Rattle.st_layouts.specs.TextLayouts.{initial_values, instances_of, plan_variables_of}
+use Rattle.st_types.specs.declared.limits.TheConstants.{MAX_PATHS}
+use Rattle.st_meaning.specs.declared.plan.PlanVariable.{PlanVariable}
+use Rattle.st_meaning.specs.NameTypes.{Declared}
+use Rattle.layout.specs.LayoutVariables.{Owned}
+use Rattle.layout.specs.Shapes.{Shape, leaves_of, size}
+use Rattle.layout.specs.TextLayouts.{initial_values, instances_of, plan_variables_of}
 use Rattle.layout.specs.Growth.{is_too_large}
 use Rattle.layout.specs.Layouts.{GrowsBy, layout_size, layout_slots}
-use Rattle.layout.specs.TextLayouts.{variables_among}
+use Rattle.layout.specs.KeptLayouts.{variables_among}
 use Rattle.layout.specs.declared.growing.Growing.{Growing}
 use Rattle.layout.specs.declared.limits.TheConstants.{MAX_INSTANCES}
 use Rattle.layout.proofs.LayoutLemmas.{length_layout}

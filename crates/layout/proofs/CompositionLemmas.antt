@@ -1,9 +1,9 @@
 -- What types are made of that bear a name.
 use Rattle.std.proofs.Common.{◌≡◌, ap, ◌∙◌, Option, Some, None}
-use Rattle.st_trees.specs.declared.data_type.VariableType.{VariableType}
-use Rattle.st_trees.specs.Declarations.{TypeDefinition}
-use Rattle.st_types.specs.NameTypes.{Declared, kind_among, definition_of}
-use Rattle.st_layouts.specs.Types.{of_kind, composition_of, defined_composition}
+use Rattle.st_types.specs.declared.data_type.VariableType.{VariableType}
+use Rattle.st_types.specs.Declarations.{TypeDefinition}
+use Rattle.st_meaning.specs.NameTypes.{Declared, kind_among, definition_of}
+use Rattle.layout.specs.Types.{of_kind, composition_of, defined_composition}
 
 -- one that is not enumerated
 pub composed_by : (text : Declared) (t : VariableType) (d : Option TypeDefinition) → kind_among text.types t ≡ None

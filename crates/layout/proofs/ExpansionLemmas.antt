@@ -4,25 +4,25 @@ use Rattle.std.proofs.Common.{◌++◌, map, Bool, true, false, not, ◌&&◌, O
 use Rattle.std.specs.Prelude.{bytes_eq, if◌then◌else◌, option_and_then, ◌||◌}
 use Rattle.std.proofs.lemmas.Int.{ints}
 use Rattle.std.proofs.lemmas.Slice.Eq.{bytes_eq-Decides}
-use Rattle.st_words.specs.declared.path.Step.{Step}
-use Rattle.st_words.specs.declared.path.Step.TheVariants.{Member, Element}
-use Rattle.st_words.specs.declared.kind.Kind.{Kind}
-use Rattle.st_words.specs.Paths.{Path}
-use Rattle.st_trees.specs.declared.data_type.ArrayType.{ArrayType}
-use Rattle.st_trees.specs.declared.data_type.VariableType.{VariableType}
-use Rattle.st_types.specs.NameTypes.{Declared}
-use Rattle.st_types.specs.Scopes.{Name}
-use Rattle.st_plans.specs.Plans.{initial_value, is_retained_by}
-use Rattle.st_layouts.specs.Shapes.{Shape, Leaf, below, leaves_of, leaves_of_parts, leaves_of_elements, in_bounds}
-use Rattle.st_layouts.specs.Shapes.{distance, has_name, is_sound, are_sound, size, sizes, instance_count}
-use Rattle.st_layouts.specs.Shapes.{instance_counts}
-use Rattle.st_layouts.specs.Shapes.{Whole}
-use Rattle.st_layouts.specs.Types.{Site, NamedSite, site_named, Composition, of_kind, of_elements, of_parts}
-use Rattle.st_layouts.specs.Types.{composition_of}
-use Rattle.st_layouts.specs.Types.{shape_within, composed_shape, parts_of, lower_of, count_of, element_of}
-use Rattle.st_layouts.specs.Sites.{site_at, site_behind, element_site, member_site, constant_of, default_of}
-use Rattle.st_layouts.specs.TextLayouts.{further}
-use Rattle.layout.specs.Sites.{kept, element_parts, member_part, parts_behind}
+use Rattle.st_types.specs.declared.path.Step.{Step}
+use Rattle.st_types.specs.declared.path.Step.TheVariants.{Member, Element}
+use Rattle.st_types.specs.declared.kind.Kind.{Kind}
+use Rattle.st_types.specs.Paths.{Path}
+use Rattle.st_types.specs.declared.data_type.ArrayType.{ArrayType}
+use Rattle.st_types.specs.declared.data_type.VariableType.{VariableType}
+use Rattle.st_meaning.specs.NameTypes.{Declared}
+use Rattle.st_meaning.specs.Scopes.{Name}
+use Rattle.st_meaning.specs.Plans.{initial_value, is_retained_by}
+use Rattle.layout.specs.Shapes.{Shape, Leaf, below, leaves_of, leaves_of_parts, leaves_of_elements, in_bounds}
+use Rattle.layout.specs.Shapes.{distance, has_name, is_sound, are_sound, size, sizes, instance_count}
+use Rattle.layout.specs.Shapes.{instance_counts}
+use Rattle.layout.specs.Shapes.{Whole}
+use Rattle.layout.specs.Types.{Site, NamedSite, site_named, Composition, of_kind, of_elements, of_parts}
+use Rattle.layout.specs.Types.{composition_of}
+use Rattle.layout.specs.Types.{shape_within, composed_shape, parts_of, lower_of, count_of, element_of}
+use Rattle.layout.specs.Sites.{site_at, site_behind, element_site, member_site, constant_of, default_of}
+use Rattle.layout.specs.TextLayouts.{further}
+use Rattle.layout.specs.KeptSites.{kept, element_parts, member_part, parts_behind}
 use Rattle.layout.specs.Slots.{slot_at, slots_within, slots_of_parts, size_of_parts, instances_of_parts}
 use Rattle.layout.specs.Slots.{own_slots, own_size, own_instances}
 use Rattle.layout.specs.declared.slots.LayoutSlot.{LayoutSlot}

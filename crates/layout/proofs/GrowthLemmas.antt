@@ -5,16 +5,16 @@ use Rattle.std.proofs.Common.{false, option_map, length-append, ◌-◌, take}
 use Rattle.std.proofs.Math.Seq.{take-append_seam}
 use Rattle.std.specs.Prelude.{nat_lt, ◌||◌}
 use Rattle.std.proofs.lemmas.List.{append_assoc, map-append, append-nil}
-use Rattle.st_words.specs.declared.limits.TheConstants.{MAX_PATHS}
-use Rattle.st_words.specs.declared.path.Step.{Step}
-use Rattle.st_words.specs.Paths.{Path}
-use Rattle.st_types.specs.NameTypes.{Declared}
-use Rattle.st_layouts.specs.Shapes.{Shape, leaves_of, size, instance_count, is_sound}
-use Rattle.st_layouts.specs.Types as made
-use Rattle.st_layouts.specs.Types.{composition_of, shape_within}
-use Rattle.st_layouts.specs.TextLayouts.{further}
+use Rattle.st_types.specs.declared.limits.TheConstants.{MAX_PATHS}
+use Rattle.st_types.specs.declared.path.Step.{Step}
+use Rattle.st_types.specs.Paths.{Path}
+use Rattle.st_meaning.specs.NameTypes.{Declared}
+use Rattle.layout.specs.Shapes.{Shape, leaves_of, size, instance_count, is_sound}
+use Rattle.layout.specs.Types as made
+use Rattle.layout.specs.Types.{composition_of, shape_within}
+use Rattle.layout.specs.TextLayouts.{further}
 use Rattle.layout.specs.Growth.{Exceeds, Grows}
-use Rattle.layout.specs.Sites.{KeptSite, kept, site_view, step_view, kept_part, part_view, parts_behind}
+use Rattle.layout.specs.KeptSites.{KeptSite, kept, site_view, step_view, kept_part, part_view, parts_behind}
 use Rattle.layout.specs.Slots.{owner_view, path_at, slot_at, slots_within, slots_of_parts, instances_of_parts}
 use Rattle.layout.specs.Slots.{own_slots, own_size, own_instances}
 use Rattle.layout.specs.declared.growing.Growing.{Growing}

@@ -6,10 +6,10 @@ use Rattle.std.proofs.Math.Numerals.{suc-eq-add-one}
 use Rattle.std.specs.Prelude.{◌+◌, slice_get, option_map, position}
 use Rattle.std.specs.Map.{keys_of, values_of}
 use Rattle.indexmap.specs.IndexMap.{insert_entry, insert_all}
-use Rattle.st_words.specs.Paths.{Path, same_path}
-use Rattle.st_types.specs.Slots.{Slot, IsLayout, slot_of}
+use Rattle.st_types.specs.Paths.{Path, same_path}
+use Rattle.st_meaning.specs.Slots.{Slot, IsLayout, slot_of}
 use Rattle.layout.specs.Indexed.{entry_of, facts_of, slot_number, slot_of_entry}
-use Rattle.layout.specs.TextLayouts.{slot_view, variable_of, input_of, variables_among, inputs_among}
+use Rattle.layout.specs.KeptLayouts.{slot_view, variable_of, input_of, variables_among, inputs_among}
 use Rattle.layout.proofs.Positions.{position_step}
 use Rattle.layout.specs.declared.slots.LayoutSlot.{LayoutSlot}
 use Rattle.layout.specs.declared.slots.SlotFacts.{SlotFacts}

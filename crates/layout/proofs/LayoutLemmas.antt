@@ -4,15 +4,15 @@ use Rattle.std.proofs.Common.{true, false}
 use Rattle.std.proofs.Common.{length-append, map, Some}
 use Rattle.std.specs.Prelude.{◌&&◌}
 use Rattle.std.proofs.lemmas.List.{append_assoc, append-nil}
-use Rattle.st_trees.specs.declared.configuration.Instance.{Instance}
-use Rattle.st_trees.specs.Configurations.{Resource}
-use Rattle.st_types.specs.NameTypes.{Declared, unit_named}
-use Rattle.st_types.specs.Scopes.{Name}
-use Rattle.st_statics.specs.declared.limits.TheConstants.{MAX_TYPE_DEPTH}
-use Rattle.st_layouts.specs.Shapes.{Shape, leaves_of, size, is_sound}
-use Rattle.st_layouts.specs.LayoutVariables.{Owned, owned_variable, owner_in, program_sites}
-use Rattle.st_layouts.specs.LayoutVariables.{variables_of_instances, variables_of_resources}
-use Rattle.st_layouts.specs.TextLayouts.{instances_of, variable_path, variable_shape}
+use Rattle.st_types.specs.declared.configuration.Instance.{Instance}
+use Rattle.st_types.specs.Configurations.{Resource}
+use Rattle.st_meaning.specs.NameTypes.{Declared, unit_named}
+use Rattle.st_meaning.specs.Scopes.{Name}
+use Rattle.st_rules.specs.declared.limits.TheConstants.{MAX_TYPE_DEPTH}
+use Rattle.layout.specs.Shapes.{Shape, leaves_of, size, is_sound}
+use Rattle.layout.specs.LayoutVariables.{Owned, owned_variable, owner_in, program_sites}
+use Rattle.layout.specs.LayoutVariables.{variables_of_instances, variables_of_resources}
+use Rattle.layout.specs.TextLayouts.{instances_of, variable_path, variable_shape}
 use Rattle.layout.specs.Growth.{Exceeds, Grows}
 use Rattle.layout.specs.Instances.{OwnedProgram, instance_on, instances_in, variables_of_programs}
 use Rattle.layout.specs.Layouts.{GrowsBy, are_expandable, layout_size, layout_slots}

@@ -1,3 +1,15 @@
+pub mod ListLemmas
+pub mod LeafLemmas
+pub mod VariableLemmas
+pub mod SiteLemmas
+pub mod OwnPaths
+pub mod NameLemmas
+pub mod StoreLemmas
+pub mod ValueLemmas
+pub mod LibraryLemmas
+pub mod DepthLemmas
+pub mod ResolvedLemmas
+pub mod ResolvedDepths
 pub mod CallLemmas
 pub mod CompositionLemmas
 pub mod ExpansionLemmas
@@ -9,6 +21,5 @@ pub mod NameLaws
 pub mod PlanLemmas
 pub mod Positions
 pub mod PushLemmas
-pub mod SiteLemmas
+pub mod KeptSiteLemmas
 pub mod SizeLemmas
-pub mod TypeTextLemmas

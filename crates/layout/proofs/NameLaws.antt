@@ -6,42 +6,42 @@ use Rattle.std.specs.List.{list_any, list_all, flat_map}
 use Rattle.std.proofs.lemmas.List.{map-append}
 use Rattle.std.proofs.lemmas.List.Folds.{list_all-append, list_any-append}
 use Rattle.std.proofs.lemmas.Grind.{flat_map-append}
-use Rattle.st_words.specs.declared.identifier.Identifier.{Identifier}
-use Rattle.st_trees.specs.declared.declaration.Retention.{Retention}
-use Rattle.st_trees.specs.declared.unit.UnitSort.{UnitSort}
-use Rattle.st_trees.specs.declared.unit.UnitSort.TheVariants.{Function, FunctionBlock, Program}
-use Rattle.st_trees.specs.Declarations.{Field, TypeDefinition, array, structure, enumeration, TypeDeclaration}
-use Rattle.st_trees.specs.Declarations.{Declaration, VariableBlock}
-use Rattle.st_trees.specs.Units.{OrganisationUnit}
-use Rattle.st_trees.specs.Configurations.{GlobalNames, located, listed, GlobalDeclaration, GlobalBlock, Resource}
-use Rattle.st_trees.specs.Configurations.{Configuration}
-use Rattle.st_trees.specs.Sources.{LibraryElement, types, unit, configuration, Source}
-use Rattle.st_types.specs.Bodies.{is_external, names_of}
-use Rattle.st_types.specs.NameTypes.{Declared, declared_in, types_in, units_in, is_named}
-use Rattle.st_types.specs.ResolvedUnits.{resolved_declaration, resolved_block, resolved, resolved_field}
-use Rattle.st_types.specs.ResolvedUnits.{resolved_definition, resolved_type_declaration, resolved_global}
-use Rattle.st_types.specs.ResolvedUnits.{resolved_globals, resolved_element_of_text, resolved_source}
-use Rattle.st_types.specs.Scopes.{Name, contains_name}
-use Rattle.st_statics.specs.declared.rule.Rule.TheVariants.{DeclaredTwice}
-use Rattle.st_statics.specs.Faults.{breaking}
-use Rattle.st_statics.specs.NameScopes.{names_of_element, names_of_text, variables_of_block, variables_of}
-use Rattle.st_statics.specs.NameScopes.{variables_of_text, scopes_of_type, scopes_in_variables}
-use Rattle.st_statics.specs.NameScopes.{scopes_in_globals, listed_names, globals_of_block, globals_of, names_in}
-use Rattle.st_statics.specs.NameScopes.{scopes_of_element, scopes_of}
-use Rattle.st_statics.specs.Places.{places_where, repeats}
-use Rattle.st_statics.specs.Rules.{wrong_declarations, wrong_types, wrong_starts, wrong_bodies, IsWellTyped}
-use Rattle.st_statics.specs.TwiceDeclared.{is_standard, is_taken, twice_declared}
-use Rattle.st_layouts.specs.Types.{Site, with_site, site_of_declaration, sites_of_declarations, retention_of}
-use Rattle.st_layouts.specs.Types.{sites_of_blocks, site_of_field}
-use Rattle.st_layouts.specs.LayoutVariables.{global_variable, site_of_global, variables_of_names}
-use Rattle.st_layouts.specs.LayoutVariables.{variables_of_declarations, retention_of_globals, variables_of_globals}
-use Rattle.st_layouts.specs.LayoutVariables.{configurations_in, only_configuration, declared_of, configuration_of}
-use Rattle.st_layouts.specs.Names.{are_different, names_of_sites, has_different_fields, variable_names}
-use Rattle.st_layouts.specs.Names.{has_different_variables, are_types_and_units_different, has_different_instances}
-use Rattle.st_layouts.specs.Names.{is_configuration_different, has_different_names}
-use Rattle.st_layouts.proofs.ListLemmas.{both, both_are, turned, turned_back, neither, or_here, or_later}
-use Rattle.st_layouts.proofs.ListLemmas.{same_name, name_itself}
-use Rattle.st_layouts.proofs.ResolvedLemmas.{map_map}
+use Rattle.st_types.specs.declared.identifier.Identifier.{Identifier}
+use Rattle.st_types.specs.declared.declaration.Retention.{Retention}
+use Rattle.st_types.specs.declared.unit.UnitSort.{UnitSort}
+use Rattle.st_types.specs.declared.unit.UnitSort.TheVariants.{Function, FunctionBlock, Program}
+use Rattle.st_types.specs.Declarations.{Field, TypeDefinition, array, structure, enumeration, TypeDeclaration}
+use Rattle.st_types.specs.Declarations.{Declaration, VariableBlock}
+use Rattle.st_types.specs.Units.{OrganisationUnit}
+use Rattle.st_types.specs.Configurations.{GlobalNames, located, listed, GlobalDeclaration, GlobalBlock, Resource}
+use Rattle.st_types.specs.Configurations.{Configuration}
+use Rattle.st_types.specs.Sources.{LibraryElement, types, unit, configuration, Source}
+use Rattle.st_meaning.specs.Bodies.{is_external, names_of}
+use Rattle.st_meaning.specs.NameTypes.{Declared, declared_in, types_in, units_in, is_named}
+use Rattle.st_meaning.specs.ResolvedUnits.{resolved_declaration, resolved_block, resolved, resolved_field}
+use Rattle.st_meaning.specs.ResolvedUnits.{resolved_definition, resolved_type_declaration, resolved_global}
+use Rattle.st_meaning.specs.ResolvedUnits.{resolved_globals, resolved_element_of_text, resolved_source}
+use Rattle.st_meaning.specs.Scopes.{Name, contains_name}
+use Rattle.st_rules.specs.declared.rule.Rule.TheVariants.{DeclaredTwice}
+use Rattle.st_rules.specs.Faults.{breaking}
+use Rattle.st_rules.specs.NameScopes.{names_of_element, names_of_text, variables_of_block, variables_of}
+use Rattle.st_rules.specs.NameScopes.{variables_of_text, scopes_of_type, scopes_in_variables}
+use Rattle.st_rules.specs.NameScopes.{scopes_in_globals, listed_names, globals_of_block, globals_of, names_in}
+use Rattle.st_rules.specs.NameScopes.{scopes_of_element, scopes_of}
+use Rattle.st_rules.specs.Places.{places_where, repeats}
+use Rattle.st_rules.specs.Rules.{wrong_declarations, wrong_types, wrong_starts, wrong_bodies, IsWellTyped}
+use Rattle.st_rules.specs.TwiceDeclared.{is_standard, is_taken, twice_declared}
+use Rattle.layout.specs.Types.{Site, with_site, site_of_declaration, sites_of_declarations, retention_of}
+use Rattle.layout.specs.Types.{sites_of_blocks, site_of_field}
+use Rattle.layout.specs.LayoutVariables.{global_variable, site_of_global, variables_of_names}
+use Rattle.layout.specs.LayoutVariables.{variables_of_declarations, retention_of_globals, variables_of_globals}
+use Rattle.layout.specs.LayoutVariables.{configurations_in, only_configuration, declared_of, configuration_of}
+use Rattle.layout.specs.Names.{are_different, names_of_sites, has_different_fields, variable_names}
+use Rattle.layout.specs.Names.{has_different_variables, are_types_and_units_different, has_different_instances}
+use Rattle.layout.specs.Names.{is_configuration_different, has_different_names}
+use Rattle.layout.proofs.ListLemmas.{both, both_are, turned, turned_back, neither, or_here, or_later}
+use Rattle.layout.proofs.ListLemmas.{same_name, name_itself}
+use Rattle.layout.proofs.ResolvedLemmas.{map_map}
 
 -- lists of which nothing is left
 joined_nothing : {A : Type 0} (xs ys : List A) → xs ++ ys ≡ [] → (xs ≡ []) × (ys ≡ [])

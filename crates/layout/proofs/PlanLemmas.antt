@@ -3,29 +3,29 @@ use Rattle.std.proofs.Common.{◌≡◌, refl, sym, ap, ap₂, ◌∙◌, arith,
 use Rattle.std.proofs.Common.{false, not, ◌&&◌, if◌then◌else◌, Option, Some, None, Result, Ok, Err, filter}
 use Rattle.std.specs.Prelude.{option_and_then}
 use Rattle.std.specs.List.{list_all}
-use Rattle.st_words.specs.declared.kind.Kind.{Kind}
-use Rattle.st_words.specs.Kinds.{holds, same_kind}
-use Rattle.st_words.specs.Values.{Datum}
-use Rattle.st_words.proofs.KindLemmas.{same_kind_is}
-use Rattle.st_trees.specs.Initials.{Initial, constant, list, structure}
-use Rattle.st_types.specs.Failures.{Failure}
-use Rattle.st_types.specs.NameTypes.{Declared}
-use Rattle.st_types.specs.Operators.{value_of_literal}
-use Rattle.st_types.specs.Stores.{may_replace}
-use Rattle.st_plans.specs.Plans.{initial_value}
-use Rattle.st_statics.specs.declared.limits.TheConstants.{MAX_TYPE_DEPTH}
-use Rattle.st_layouts.specs.Shapes.{Shape, Leaf, leaves_of, size, is_sound}
-use Rattle.st_layouts.specs.Types.{Site}
-use Rattle.st_layouts.specs.Sites.{constant_of, default_of, fitting, initial_at, retained_at, site_at}
-use Rattle.st_layouts.specs.LayoutVariables.{Owned}
-use Rattle.st_layouts.specs.TextLayouts.{variable_path, variable_shape, slot_of_leaf, slots_of}
-use Rattle.st_layouts.specs.TextLayouts.{variable_of_leaf, plan_variables_of, input_of_leaf, plan_inputs_of}
-use Rattle.st_layouts.specs.TextLayouts.{leaves_of_variable, initial_image}
-use Rattle.st_layouts.specs.Standing.{are_declared_once, has_variable}
+use Rattle.st_types.specs.declared.kind.Kind.{Kind}
+use Rattle.st_types.specs.Kinds.{holds, same_kind}
+use Rattle.st_types.specs.Values.{Datum}
+use Rattle.st_types.proofs.KindLemmas.{same_kind_is}
+use Rattle.st_types.specs.Initials.{Initial, constant, list, structure}
+use Rattle.st_meaning.specs.Failures.{Failure}
+use Rattle.st_meaning.specs.NameTypes.{Declared}
+use Rattle.st_meaning.specs.Operators.{value_of_literal}
+use Rattle.st_meaning.specs.Stores.{may_replace}
+use Rattle.st_meaning.specs.Plans.{initial_value}
+use Rattle.st_rules.specs.declared.limits.TheConstants.{MAX_TYPE_DEPTH}
+use Rattle.layout.specs.Shapes.{Shape, Leaf, leaves_of, size, is_sound}
+use Rattle.layout.specs.Types.{Site}
+use Rattle.layout.specs.Sites.{constant_of, default_of, fitting, initial_at, retained_at, site_at}
+use Rattle.layout.specs.LayoutVariables.{Owned}
+use Rattle.layout.specs.TextLayouts.{variable_path, variable_shape, slot_of_leaf, slots_of}
+use Rattle.layout.specs.TextLayouts.{variable_of_leaf, plan_variables_of, input_of_leaf, plan_inputs_of}
+use Rattle.layout.specs.TextLayouts.{leaves_of_variable, initial_image}
+use Rattle.layout.specs.Standing.{are_declared_once, has_variable}
 use Rattle.layout.specs.Layouts.{are_expandable, layout_size, layout_slots}
 use Rattle.layout.specs.Slots.{slot_at, slots_within}
-use Rattle.layout.specs.TextLayouts.{slot_view, variable_of, input_of, variables_among, inputs_among, image_among}
-use Rattle.layout.specs.TextLayouts.{retains_no_input}
+use Rattle.layout.specs.KeptLayouts.{slot_view, variable_of, input_of, variables_among, inputs_among, image_among}
+use Rattle.layout.specs.KeptLayouts.{retains_no_input}
 use Rattle.layout.specs.declared.slots.LayoutSlot.{LayoutSlot}
 use Rattle.layout.proofs.LayoutLemmas.{both_sound, length_layout}
 

@@ -7,27 +7,27 @@ use denote.Bor.{Bor}
 use Rattle.std.specs.List.{list_all}
 use Rattle.std.proofs.lemmas.List.{append_assoc, append-nil}
 use Rattle.std.proofs.lemmas.Slice.Eq.{bytes_eq-Decides}
-use Rattle.st_words.specs.declared.limits.TheConstants.{MAX_PATHS}
-use Rattle.st_words.specs.declared.path.Step.{Step}
-use Rattle.st_trees.specs.declared.data_type.ArrayType.{ArrayType}
-use Rattle.st_words.specs.declared.identifier.Identifier.{Identifier}
-use Rattle.st_trees.specs.declared.data_type.SimpleType.TheVariants.{Elementary, Named}
-use Rattle.st_trees.specs.declared.data_type.VariableType.{VariableType}
-use Rattle.st_trees.specs.declared.data_type.VariableType.TheVariants.{Simple, Array}
-use Rattle.st_types.specs.NameTypes.{Declared}
-use Rattle.st_types.specs.Scopes.{Name}
-use Rattle.st_names.specs.Found.{found, or_found}
-use Rattle.st_names.specs.declared.index.Index.{Index}
-use Rattle.st_layouts.specs.Shapes.{size, sizes}
-use Rattle.st_layouts.specs.Types.{Site, NamedSite, Composition, of_kind, of_elements, of_parts, composition_of}
-use Rattle.st_layouts.specs.Types.{composed_shape, parts_of, parts_within, count_of, element_of, shape_within}
-use Rattle.st_layouts.specs.Types.{is_within_depth}
-use Rattle.st_layouts.proofs.DepthLemmas.{expanded_whole}
+use Rattle.st_types.specs.declared.limits.TheConstants.{MAX_PATHS}
+use Rattle.st_types.specs.declared.path.Step.{Step}
+use Rattle.st_types.specs.declared.data_type.ArrayType.{ArrayType}
+use Rattle.st_types.specs.declared.identifier.Identifier.{Identifier}
+use Rattle.st_types.specs.declared.data_type.SimpleType.TheVariants.{Elementary, Named}
+use Rattle.st_types.specs.declared.data_type.VariableType.{VariableType}
+use Rattle.st_types.specs.declared.data_type.VariableType.TheVariants.{Simple, Array}
+use Rattle.st_meaning.specs.NameTypes.{Declared}
+use Rattle.st_meaning.specs.Scopes.{Name}
+use Rattle.symbols.specs.Found.{found, or_found}
+use Rattle.symbols.specs.declared.index.Index.{Index}
+use Rattle.layout.specs.Shapes.{size, sizes}
+use Rattle.layout.specs.Types.{Site, NamedSite, Composition, of_kind, of_elements, of_parts, composition_of}
+use Rattle.layout.specs.Types.{composed_shape, parts_of, parts_within, count_of, element_of, shape_within}
+use Rattle.layout.specs.Types.{is_within_depth}
+use Rattle.layout.proofs.DepthLemmas.{expanded_whole}
 use Rattle.layout.specs.Compositions.{composition_view, named_type}
 use Rattle.layout.specs.declared.compositions.Composition as code
 use Rattle.layout.specs.declared.compositions.Composition.TheVariants.{Kind, Elements, Fields, Block, Standard, Nothing}
-use Rattle.st_names.specs.PlaceTypes.{place_type_view}
-use Rattle.layout.specs.Sites.{kept_part, member_part, part_view, parts_behind}
+use Rattle.symbols.specs.PlaceTypes.{place_type_view}
+use Rattle.layout.specs.KeptSites.{kept_part, member_part, part_view, parts_behind}
 use Rattle.layout.specs.Sizes.{IsSized, KnowsSizes, cut, name_in}
 use Rattle.layout.specs.Slots.{own_size}
 use Rattle.layout.specs.declared.sites.Part.{Part}

@@ -1,20 +1,20 @@
 -- What declared types are made of, as the definitions see it.
 use Rattle.std.specs.Prelude.{ℕ, map}
-use Rattle.st_trees.specs.declared.data_type.SimpleType.TheVariants.{Named}
-use Rattle.st_trees.specs.declared.data_type.VariableType.{VariableType}
-use Rattle.st_trees.specs.declared.data_type.VariableType.TheVariants.{Simple}
-use Rattle.st_trees.specs.DeclarationViews.{field_view, variable_block_view}
-use Rattle.st_types.specs.Enumerations.{enumerations_of}
-use Rattle.st_types.specs.NameTypes.{Declared}
-use Rattle.st_types.specs.Scopes.{Name}
-use Rattle.st_types.specs.StandardBlocks.{members_of}
-use Rattle.st_names.specs.Enumerated.{HasEnumerations}
-use Rattle.st_names.specs.Standard.{block_view}
-use Rattle.st_names.specs.Texts.{ServesText}
-use Rattle.st_layouts.specs.Shapes.{of_structure, of_instance}
-use Rattle.st_layouts.specs.Types as made
-use Rattle.st_layouts.specs.Types.{of_kind, of_elements, of_parts, nothing, site_of_field, site_of_member}
-use Rattle.st_layouts.specs.Types.{sites_of_blocks}
+use Rattle.st_types.specs.declared.data_type.SimpleType.TheVariants.{Named}
+use Rattle.st_types.specs.declared.data_type.VariableType.{VariableType}
+use Rattle.st_types.specs.declared.data_type.VariableType.TheVariants.{Simple}
+use Rattle.st_types.specs.DeclarationViews.{field_view, variable_block_view}
+use Rattle.st_meaning.specs.Enumerations.{enumerations_of}
+use Rattle.st_meaning.specs.NameTypes.{Declared}
+use Rattle.st_meaning.specs.Scopes.{Name}
+use Rattle.st_meaning.specs.StandardBlocks.{members_of}
+use Rattle.symbols.specs.Enumerated.{HasEnumerations}
+use Rattle.symbols.specs.Standard.{block_view}
+use Rattle.symbols.specs.Texts.{ServesText}
+use Rattle.layout.specs.Shapes.{of_structure, of_instance}
+use Rattle.layout.specs.Types as made
+use Rattle.layout.specs.Types.{of_kind, of_elements, of_parts, nothing, site_of_field, site_of_member}
+use Rattle.layout.specs.Types.{sites_of_blocks}
 use Rattle.layout.specs.declared.compositions.Composition.{Composition}
 use Rattle.layout.specs.declared.compositions.Composition.TheVariants.{Kind, Elements, Fields, Block, Standard, Nothing}
 use Rattle.layout.specs.declared.compositions.Types.{Types}

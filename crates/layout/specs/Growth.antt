@@ -1,12 +1,12 @@
 -- What a part of a variable adds to a layout, and when there is no room for it.
 use Rattle.std.specs.Prelude.{◌≡◌, ℕ, ◌+◌, nat_lt, List, ◌++◌, Bool, ◌||◌, true}
-use Rattle.st_words.specs.declared.limits.TheConstants.{MAX_PATHS}
-use Rattle.st_types.specs.NameTypes.{Declared}
-use Rattle.st_layouts.specs.Shapes.{instance_count}
-use Rattle.st_layouts.specs.Types as made
-use Rattle.st_layouts.specs.Types.{shape_within}
-use Rattle.st_layouts.specs.LayoutVariables.{Owned}
-use Rattle.st_layouts.specs.TextLayouts.{instances_of}
+use Rattle.st_types.specs.declared.limits.TheConstants.{MAX_PATHS}
+use Rattle.st_meaning.specs.NameTypes.{Declared}
+use Rattle.layout.specs.Shapes.{instance_count}
+use Rattle.layout.specs.Types as made
+use Rattle.layout.specs.Types.{shape_within}
+use Rattle.layout.specs.LayoutVariables.{Owned}
+use Rattle.layout.specs.TextLayouts.{instances_of}
 use Rattle.layout.specs.Layouts.{layout_size}
 use Rattle.layout.specs.Slots.{path_at, slots_within}
 use Rattle.layout.specs.declared.growing.Growing.{Growing}

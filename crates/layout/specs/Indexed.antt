@@ -1,8 +1,8 @@
 -- What a layout shows: its slots by their numbers, and the layout text of a record.
 use Rattle.std.specs.Prelude.{ℕ, List, map, Bool, false, Option, Some, None, slice_get, option_map}
-use Rattle.st_words.specs.Paths.{Path}
-use Rattle.st_types.specs.Slots.{slot_of}
-use Rattle.layout.specs.TextLayouts.{slot_view}
+use Rattle.st_types.specs.Paths.{Path}
+use Rattle.st_meaning.specs.Slots.{slot_of}
+use Rattle.layout.specs.KeptLayouts.{slot_view}
 use Rattle.layout.specs.declared.slots.LayoutSlot.{LayoutSlot}
 use Rattle.layout.specs.declared.slots.SlotFacts.{SlotFacts}
 

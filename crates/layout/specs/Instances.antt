@@ -1,11 +1,11 @@
 -- The instances of programs as one list.
 use Rattle.std.specs.Prelude.{List, [], ◌∷◌, ◌++◌, map, Some}
-use Rattle.st_words.specs.declared.path.Owner.{Owner}
-use Rattle.st_trees.specs.declared.configuration.Instance.{Instance}
-use Rattle.st_trees.specs.Configurations.{Resource}
-use Rattle.st_types.specs.NameTypes.{Declared, unit_named}
-use Rattle.st_types.specs.Scopes.{Name}
-use Rattle.st_layouts.specs.LayoutVariables.{Owned, owned_variable, owner_in, program_sites}
+use Rattle.st_types.specs.declared.path.Owner.{Owner}
+use Rattle.st_types.specs.declared.configuration.Instance.{Instance}
+use Rattle.st_types.specs.Configurations.{Resource}
+use Rattle.st_meaning.specs.NameTypes.{Declared, unit_named}
+use Rattle.st_meaning.specs.Scopes.{Name}
+use Rattle.layout.specs.LayoutVariables.{Owned, owned_variable, owner_in, program_sites}
 use Rattle.layout.specs.Slots.{owner_view}
 use Rattle.layout.specs.declared.configurations.ProgramInstance as code
 

@@ -1,11 +1,11 @@
 -- The slots of a whole layout, and what variables add to it.
 use Rattle.std.specs.Prelude.{◌≡◌, ℕ, ◌+◌, List, [], ◌∷◌, ◌++◌, Bool, true, ◌&&◌}
-use Rattle.st_trees.specs.Sources.{Source}
-use Rattle.st_types.specs.NameTypes.{Declared, declared_in}
-use Rattle.st_statics.specs.declared.limits.TheConstants.{MAX_TYPE_DEPTH}
-use Rattle.st_layouts.specs.Shapes.{is_sound, size}
-use Rattle.st_layouts.specs.LayoutVariables.{Owned, configurations_in, only_configuration, variables_of_configuration}
-use Rattle.st_layouts.specs.TextLayouts.{instances_of, variable_path, variable_shape}
+use Rattle.st_types.specs.Sources.{Source}
+use Rattle.st_meaning.specs.NameTypes.{Declared, declared_in}
+use Rattle.st_rules.specs.declared.limits.TheConstants.{MAX_TYPE_DEPTH}
+use Rattle.layout.specs.Shapes.{is_sound, size}
+use Rattle.layout.specs.LayoutVariables.{Owned, configurations_in, only_configuration, variables_of_configuration}
+use Rattle.layout.specs.TextLayouts.{instances_of, variable_path, variable_shape}
 use Rattle.layout.specs.Slots.{slots_within}
 use Rattle.layout.specs.declared.growing.Growing.{Growing}
 use Rattle.layout.specs.declared.slots.LayoutSlot.{LayoutSlot}

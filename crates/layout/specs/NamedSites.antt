@@ -1,9 +1,9 @@
 -- Variables as their declarations have them, as the definitions see them.
 use Rattle.std.specs.Prelude.{[], ◌∷◌}
-use Rattle.st_words.specs.declared.identifier.Identifier.{Identifier}
-use Rattle.st_names.specs.PlaceTypes.{place_type_view}
-use Rattle.st_layouts.specs.Types as made
-use Rattle.layout.specs.Sites.{given_view}
+use Rattle.st_types.specs.declared.identifier.Identifier.{Identifier}
+use Rattle.symbols.specs.PlaceTypes.{place_type_view}
+use Rattle.layout.specs.Types as made
+use Rattle.layout.specs.KeptSites.{given_view}
 use Rattle.layout.specs.declared.named_sites.NamedSite.{NamedSite}
 
 abbrev pub named_site_view : NamedSite → made.NamedSite

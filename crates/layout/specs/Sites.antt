@@ -1,76 +1,99 @@
--- What the declarations say of a variable and of its parts, as code keeps it.
-use Rattle.std.specs.Prelude.{◌≡◌, ℕ, zero, suc, ◌+◌, pos, ◌+ℤ◌, List, [], ◌∷◌, map, Bool, Option, option_map}
-use denote.Bor.{Bor}
-use Rattle.st_words.specs.declared.path.Step as path
-use Rattle.st_words.specs.declared.path.Step.TheVariants as steps
-use Rattle.st_trees.specs.declared.data_type.ArrayType.{ArrayType}
-use Rattle.st_trees.specs.declared.data_type.VariableType.{VariableType}
-use Rattle.st_trees.specs.declared.initial.Initial as code
-use Rattle.st_trees.specs.Initials.{Initial}
-use Rattle.st_trees.specs.InitialViews.{initial_view}
-use Rattle.st_trees.specs.declared.declaration.Retention.{Retention}
-use Rattle.st_plans.specs.Plans.{is_retained_by, retained_so_far}
-use Rattle.st_names.specs.PlaceTypes.{place_type_view}
-use Rattle.st_layouts.specs.Types as made
-use Rattle.st_layouts.specs.Types.{NamedSite, of_kind, of_elements, of_parts, lower_of, count_of}
-use Rattle.st_layouts.specs.Sites.{element_site, member_site}
-use Rattle.layout.specs.declared.sites.Part.{Part}
-use Rattle.layout.specs.declared.sites.PartStep.{PartStep}
-use Rattle.layout.specs.declared.sites.PartStep.TheVariants.{Member, Element}
-use Rattle.layout.specs.declared.sites.Site.{Site}
+-- What the declarations say of a part of a variable: its type, its initial value, and whether it is retained.
+use Rattle.std.specs.Prelude.{ℕ, List, [], ◌∷◌, ◌++◌, replicate, slice_get, Bool, false, if◌then◌else◌, pos, Option}
+use Rattle.std.specs.Prelude.{Some, None, option_map, option_and_then, Result, Ok, Err}
+use Rattle.st_types.specs.declared.kind.Kind.{Kind}
+use Rattle.st_types.specs.declared.path.Step.{Step}
+use Rattle.st_types.specs.declared.path.Step.TheVariants.{Member, Element}
+use Rattle.st_types.specs.Values.{Datum}
+use Rattle.st_types.specs.declared.data_type.ArrayType.{ArrayType}
+use Rattle.st_types.specs.Initials.{Initial, constant, list, structure, single, repeated, defaults, Elements}
+use Rattle.st_types.specs.Initials.{no_elements, element_then, Members, no_members, member_then}
+use Rattle.st_meaning.specs.Failures.{Failure}
+use Rattle.st_meaning.specs.NameTypes.{Declared, is_named}
+use Rattle.st_meaning.specs.Operators.{number_of, natural, value_of_literal}
+use Rattle.st_meaning.specs.Scopes.{Name}
+use Rattle.st_meaning.specs.Stores.{may_replace}
+use Rattle.st_meaning.specs.Plans.{initial_value, is_retained_by}
+use Rattle.layout.specs.Shapes.{in_bounds, distance}
+use Rattle.layout.specs.Types.{Site, site_named, Composition, of_elements, of_parts, composition_of}
+use Rattle.layout.specs.Types.{lower_of, count_of, element_of}
 
--- its type, the initial value that is written for it, and whether it is retained so far
-pub record KeptSite : Type 0 where
-  pub declared : VariableType
-  pub initial : Option Initial
-  pub retained : Bool
+-- the elements that a list stands for, each with its initial value, or with none where it has the default of its type
+abbrev pub listed_elements : Elements → List (Option Initial)
+listed_elements no_elements = []
+listed_elements (element_then (single i) xs) = Some i ∷ listed_elements xs
+listed_elements (element_then (repeated n i) xs) = replicate (natural (number_of n)) (Some i) ++ listed_elements xs
+listed_elements (element_then (defaults n) xs) = replicate (natural (number_of n)) None ++ listed_elements xs
 
--- what a declaration or a whole gives, or nothing
-abbrev pub given_view : Option (Bor code.Initial) → Option Initial
-given_view = option_map (λ i. initial_view i.now)
+-- the initial value that stands at a place of a list, from 0; what a list leaves out has none
+abbrev pub given : Option (Option Initial) → Option Initial
+given None = None
+given (Some i) = i
 
-abbrev pub site_view : Site → KeptSite
-site_view s = record {
-  declared = place_type_view s.declared;
-  initial = given_view s.initial;
-  retained = s.retained;
+-- the initial value that a structure gives a field; none where it leaves the field out
+abbrev pub field_initial : Members → Name → Option Initial
+field_initial no_members x = None
+field_initial (member_then y i rest) x = if is_named x y then Some i else field_initial rest x
+
+abbrev pub element_initial : Option Initial → ℕ → Option Initial
+element_initial (Some (list at xs)) n = given (slice_get (listed_elements xs) n)
+element_initial _ n = None
+
+abbrev pub member_initial : Option Initial → Name → Option Initial
+member_initial (Some (structure at xs)) x = field_initial xs x
+member_initial _ x = None
+
+abbrev pub or_initial : Option Initial → Option Initial → Option Initial
+or_initial (Some i) other = Some i
+or_initial None other = other
+
+-- an element: it has what the array's list gives it, and else the default of its type
+abbrev pub element_site : Site → ArrayType → ℕ → Site
+element_site s a n = record {
+  declared = element_of a;
+  initial = element_initial s.initial n;
+  retentions = s.retentions;
 }
 
-abbrev pub kept : made.Site → KeptSite
-kept s = record { declared = s.declared; initial = s.initial; retained = is_retained_by s.retentions }
+-- a field or a member: it has what the structure round it gives it, whole, and else what its own declaration says
+abbrev pub member_site : Site → Name → Site → Site
+member_site s x own = record {
+  declared = own.declared;
+  initial = or_initial (member_initial s.initial x) own.initial;
+  retentions = s.retentions ++ own.retentions;
+}
 
--- a part by its step from the whole
-abbrev pub KeptPart : Type 0
-KeptPart = path.Step × KeptSite
+-- one step further in
+abbrev pub site_behind : Site → Composition → Step → Option Site
+site_behind s (of_elements a) (Element z) = if in_bounds (lower_of a) (count_of a) z
+    then Some (element_site s a (distance (lower_of a) z)) else None
+site_behind s (of_parts w ds) (Member x) = option_map (member_site s x) (site_named ds x)
+site_behind s _ _ = None
 
-abbrev pub step_view : PartStep → path.Step
-step_view (Member x) = steps.Member x.now
-step_view (Element z) = steps.Element z
+-- what the declarations say of the part that steps lead to
+abbrev pub site_at : Declared → Site → List Step → Option Site
+site_at text s [] = Some s
+site_at text s (x ∷ xs) =
+    option_and_then (λ u. site_at text u xs) (site_behind s (composition_of text s.declared) x)
 
-abbrev pub part_view : Part → KeptPart
-part_view p = (step_view p.step, site_view p.site)
+-- 0, FALSE, T#0s, or the first name
+abbrev pub default_of : Kind → Datum
+default_of k = record { kind = k; number = pos 0 }
 
-abbrev pub kept_part : path.Step × made.Site → KeptPart
-kept_part p = (p.0, kept p.1)
+-- the value of a constant, where it is one of this type
+abbrev pub fitting : Kind → Result Datum Failure → Option Datum
+fitting k (Ok v) = if may_replace (default_of k) v then Some v else None
+fitting k (Err e) = None
 
-abbrev pub member_part : made.Site → NamedSite → path.Step × made.Site
-member_part s d = (steps.Member d.name, member_site s d.name d.site)
+abbrev pub constant_of : Kind → Option Initial → Option Datum
+constant_of k (Some (constant l)) = fitting k (value_of_literal l)
+constant_of k _ = None
 
--- A declaration says this of retention, or nothing.
-abbrev pub IsSaid : List (Option Retention) → Option Retention → Type 0
-IsSaid rs said = (so : Bool) → retained_so_far so rs ≡ retained_so_far so (said ∷ [])
+-- the value that a part of a type starts with: the declared one, else the default of its type
+abbrev pub initial_at : Declared → Site → List Step → Kind → Datum
+initial_at text s xs k =
+    initial_value k (option_and_then (λ u. constant_of k u.initial) (site_at text s xs))
 
--- the element of this number, from 0
-abbrev pub element_part : made.Site → ArrayType → ℕ → path.Step × made.Site
-element_part s a i = (steps.Element (lower_of a +ℤ pos i), element_site s a i)
-
--- so many elements from this number on
-abbrev pub element_parts : made.Site → ArrayType → ℕ → ℕ → List (path.Step × made.Site)
-element_parts s a i zero = []
-element_parts s a i (suc n) = element_part s a i ∷ element_parts s a (i + 1) n
-
--- the parts of what is made so, one level down, in the order of the layout
-abbrev pub parts_behind : made.Site → made.Composition → List (path.Step × made.Site)
-parts_behind s (of_kind k) = []
-parts_behind s (of_elements a) = element_parts s a 0 (count_of a)
-parts_behind s (of_parts w ds) = map (member_part s) ds
+-- the innermost declaration on the way that says something of retention says RETAIN
+abbrev pub retained_at : Declared → Site → List Step → Bool
+retained_at text s xs = elim (site_at text s xs) [ Some u ↦ is_retained_by u.retentions | None ↦ false ]

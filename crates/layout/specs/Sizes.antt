@@ -1,16 +1,16 @@
 -- Sizes of types, cut off, and what is known of them.
 use Rattle.std.specs.Prelude.{◌≡◌, ℕ, ◌+◌, ◌≤◌, min, Option, Some, None, true}
-use Rattle.st_words.specs.declared.limits.TheConstants.{MAX_PATHS}
-use Rattle.st_words.specs.declared.identifier.Identifier.{Identifier}
-use Rattle.st_trees.specs.declared.data_type.SimpleType.TheVariants.{Elementary, Named}
-use Rattle.st_trees.specs.declared.data_type.VariableType.{VariableType}
-use Rattle.st_trees.specs.declared.data_type.VariableType.TheVariants.{Simple, Array}
-use Rattle.st_types.specs.NameTypes.{Declared}
-use Rattle.st_types.specs.Scopes.{Name}
-use Rattle.st_names.specs.Found.{found}
-use Rattle.st_names.specs.declared.index.Index.{Index}
-use Rattle.st_layouts.specs.Shapes.{size}
-use Rattle.st_layouts.specs.Types.{shape_within, is_within_depth}
+use Rattle.st_types.specs.declared.limits.TheConstants.{MAX_PATHS}
+use Rattle.st_types.specs.declared.identifier.Identifier.{Identifier}
+use Rattle.st_types.specs.declared.data_type.SimpleType.TheVariants.{Elementary, Named}
+use Rattle.st_types.specs.declared.data_type.VariableType.{VariableType}
+use Rattle.st_types.specs.declared.data_type.VariableType.TheVariants.{Simple, Array}
+use Rattle.st_meaning.specs.NameTypes.{Declared}
+use Rattle.st_meaning.specs.Scopes.{Name}
+use Rattle.symbols.specs.Found.{found}
+use Rattle.symbols.specs.declared.index.Index.{Index}
+use Rattle.layout.specs.Shapes.{size}
+use Rattle.layout.specs.Types.{shape_within, is_within_depth}
 use Rattle.layout.specs.Compositions.{ServesTypes, named_type}
 use Rattle.layout.specs.declared.sizes.Sizes.{Sizes}
 

@@ -1,16 +1,16 @@
 -- The slots of a layout with what they start with, and those of the parts of a variable.
 use Rattle.std.specs.Prelude.{ℕ, ◌+◌, List, [], ◌∷◌, ◌++◌, map, Bool, false, if◌then◌else◌, option_map}
-use Rattle.st_words.specs.declared.path.Owner.{Owner}
-use Rattle.st_words.specs.declared.path.Step.{Step}
-use Rattle.st_words.specs.Paths.{Path}
-use Rattle.st_plans.specs.Plans.{initial_value}
-use Rattle.st_types.specs.NameTypes.{Declared}
-use Rattle.st_layouts.specs.Shapes.{Leaf, leaves_of, size, instance_count, instances_of_whole}
-use Rattle.st_layouts.specs.Types as made
-use Rattle.st_layouts.specs.Types.{of_kind, of_elements, of_parts, shape_within}
-use Rattle.st_layouts.specs.Sites.{initial_at, retained_at, constant_of, default_of}
-use Rattle.st_layouts.specs.TextLayouts.{further}
-use Rattle.layout.specs.Sites.{KeptSite, step_view}
+use Rattle.st_types.specs.declared.path.Owner.{Owner}
+use Rattle.st_types.specs.declared.path.Step.{Step}
+use Rattle.st_types.specs.Paths.{Path}
+use Rattle.st_meaning.specs.Plans.{initial_value}
+use Rattle.st_meaning.specs.NameTypes.{Declared}
+use Rattle.layout.specs.Shapes.{Leaf, leaves_of, size, instance_count, instances_of_whole}
+use Rattle.layout.specs.Types as made
+use Rattle.layout.specs.Types.{of_kind, of_elements, of_parts, shape_within}
+use Rattle.layout.specs.Sites.{initial_at, retained_at, constant_of, default_of}
+use Rattle.layout.specs.TextLayouts.{further}
+use Rattle.layout.specs.KeptSites.{KeptSite, step_view}
 use Rattle.layout.specs.declared.sites.PartStep.{PartStep}
 use Rattle.layout.specs.declared.slots.LayoutSlot.{LayoutSlot}
 use Rattle.layout.specs.declared.slots.OwnerNames.{OwnerNames}

@@ -1,9 +1,9 @@
 -- The names of enumerated types.
 use Rattle.std.specs.Prelude.{List, [], ◌∷◌, map}
 use Rattle.std.specs.List.{flat_map}
-use Rattle.st_trees.specs.Declarations.{TypeDeclaration, TypeDefinition, array, structure, enumeration}
-use Rattle.st_trees.specs.Sources.{LibraryElement, types, unit, configuration, Source}
-use Rattle.st_types.specs.Scopes.{Name}
+use Rattle.st_types.specs.Declarations.{TypeDeclaration, TypeDefinition, array, structure, enumeration}
+use Rattle.st_types.specs.Sources.{LibraryElement, types, unit, configuration, Source}
+use Rattle.st_meaning.specs.Scopes.{Name}
 
 -- those of an enumerated type; another type has none
 abbrev pub names_of_type : TypeDefinition → List (List Name)

@@ -1,7 +1,7 @@
 -- Variables of a layout, as the definitions see them.
 use Rattle.std.specs.Prelude.{Option, option_map}
-use Rattle.st_layouts.specs.Types as made
-use Rattle.st_layouts.specs.LayoutVariables.{Owned}
+use Rattle.layout.specs.Types as made
+use Rattle.layout.specs.LayoutVariables.{Owned}
 use Rattle.layout.specs.NamedSites.{named_site_view}
 use Rattle.layout.specs.Slots.{owner_view}
 use Rattle.layout.specs.declared.named_sites.NamedSite.{NamedSite}

@@ -1,16 +1,16 @@
 //! The members of a function block's instance.
 
 ghost use Rattle.std.specs.Prelude.{◌≡◌, ◌++◌, map, OnOk};
-ghost use Rattle.st_trees.specs.DeclarationViews.{variable_block_view};
-ghost use Rattle.st_layouts.specs.Types as made;
-ghost use Rattle.st_layouts.specs.Types.{sites_of_blocks};
+ghost use Rattle.st_types.specs.DeclarationViews.{variable_block_view};
+ghost use Rattle.layout.specs.Types as made;
+ghost use Rattle.layout.specs.Types.{sites_of_blocks};
 ghost use Rattle.layout.specs.NamedSites.{named_site_view};
-ghost use Rattle.layout.specs.Sites.{kept, kept_part, member_part, part_view, site_view};
+ghost use Rattle.layout.specs.KeptSites.{kept, kept_part, member_part, part_view, site_view};
 
 use crate::members::member_of;
 use crate::named_sites::{NamedSite, sites_of_blocks};
 use crate::sites::{Part, Site};
-use st_trees::VariableBlock;
+use st_types::VariableBlock;
 use std::alloc::{AllocError, Global};
 
 /// A member, with what its block's instance retains.

@@ -1,20 +1,21 @@
 //! The values with which a call of a function begins.
 
 ghost use Rattle.std.specs.Prelude.{◌≡◌, ◌≤◌, ◌+◌, ◌∷◌, [], length, map, IfErr, IfOk, OnOk, None, true, false};
-ghost use Rattle.st_words.specs.declared.limits.TheConstants.{MAX_PATHS};
-ghost use Rattle.st_trees.specs.DeclarationViews.{variable_block_view};
-ghost use Rattle.st_types.specs.NameTypes.{Declared};
-ghost use Rattle.st_layouts.specs.LayoutVariables.{owned_variable};
-ghost use Rattle.st_layouts.specs.Libraries.{fresh_values, result_site};
-ghost use Rattle.st_layouts.specs.TextLayouts.{instances_of};
-ghost use Rattle.st_layouts.specs.Types.{sites_of_blocks};
+ghost use Rattle.st_types.specs.declared.limits.TheConstants.{MAX_PATHS};
+ghost use Rattle.st_types.specs.DeclarationViews.{variable_block_view};
+ghost use Rattle.st_meaning.specs.NameTypes.{Declared};
+ghost use Rattle.layout.specs.LayoutVariables.{owned_variable};
+ghost use Rattle.layout.specs.Libraries.{fresh_values, result_site};
+ghost use Rattle.layout.specs.TextLayouts.{instances_of};
+ghost use Rattle.layout.specs.Types.{sites_of_blocks};
 ghost use Rattle.layout.specs.Compositions.{ServesTypes};
 ghost use Rattle.layout.specs.Growth.{Exceeds, is_too_large};
 ghost use Rattle.layout.specs.Layouts.{GrowsBy, are_expandable, layout_size};
-ghost use Rattle.layout.specs.TextLayouts.{variables_among};
+ghost use Rattle.layout.specs.KeptLayouts.{variables_among};
 ghost use Rattle.layout.specs.declared.limits.TheConstants.{MAX_INSTANCES};
 
 use crate::compositions::Types;
+use crate::definition_laws::leaves_of_shapes;
 use crate::growing::{Growing, push_site};
 use crate::layout_error::LayoutError;
 use crate::layout_slots::push_variables;
@@ -22,12 +23,10 @@ use crate::named_sites::sites_of_blocks;
 use crate::sites::Site;
 use crate::slots::{LayoutSlot, Root};
 use crate::variables::own_variables;
-use st_layouts::leaves_of_shapes;
-use st_names::PlaceType;
-use st_statics::limits::MAX_TYPE_DEPTH;
-use st_trees::{SimpleType, VariableBlock};
-use st_words::{Name, Value};
+use st_rules::limits::MAX_TYPE_DEPTH;
+use st_types::{Name, SimpleType, Value, VariableBlock};
 use std::alloc::{AllocError, Global};
+use symbols::PlaceType;
 
 /// Appends the slots of a function's result.
 fn push_result<'a>(

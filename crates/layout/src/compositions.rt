@@ -1,24 +1,23 @@
 //! What declared types are made of.
 
 ghost use Rattle.std.specs.Prelude.{◌≡◌, ℕ, Some, IfOk, option_map};
-ghost use Rattle.st_trees.specs.DeclarationViews.{type_definition_view};
-ghost use Rattle.st_trees.specs.SourceViews.{source_view};
-ghost use Rattle.st_trees.specs.UnitViews.{unit_view};
-ghost use Rattle.st_trees.specs.declared.data_type.VariableType.{VariableType};
-ghost use Rattle.st_trees.specs.declared.data_type.VariableType.TheVariants.{Simple};
-ghost use Rattle.st_types.specs.NameTypes.{Declared, declared_in, unit_named};
-ghost use Rattle.st_layouts.specs.Types.{composition_of, defined_composition, instance_parts, own_block_type};
-ghost use Rattle.st_layouts.specs.Types.{block_type_named};
-ghost use Rattle.st_names.specs.PlaceTypes.{place_type_view};
+ghost use Rattle.st_types.specs.DeclarationViews.{type_definition_view};
+ghost use Rattle.st_types.specs.SourceViews.{source_view};
+ghost use Rattle.st_types.specs.UnitViews.{unit_view};
+ghost use Rattle.st_types.specs.declared.data_type.VariableType.{VariableType};
+ghost use Rattle.st_types.specs.declared.data_type.VariableType.TheVariants.{Simple};
+ghost use Rattle.st_meaning.specs.NameTypes.{Declared, declared_in, unit_named};
+ghost use Rattle.layout.specs.Types.{composition_of, defined_composition, instance_parts, own_block_type};
+ghost use Rattle.layout.specs.Types.{block_type_named};
+ghost use Rattle.symbols.specs.PlaceTypes.{place_type_view};
 ghost use Rattle.layout.specs.Compositions.{ServesTypes, composition_view, named_type};
 
 use st_decl::types_in;
-use st_names::{EnumeratedNames, PlaceType, StandardBlock, TextNames, standard_block};
-use st_trees::{
-    ArrayType, Field, SimpleType, Source, TypeDefinition, Unit, UnitSort, VariableBlock,
+use st_types::{
+    ArrayType, Field, Kind, Name, SimpleType, Source, TypeDefinition, Unit, UnitSort, VariableBlock,
 };
-use st_words::{Kind, Name};
 use std::alloc::{AllocError, Global};
+use symbols::{EnumeratedNames, PlaceType, StandardBlock, TextNames, standard_block};
 
 /// The types and the units of a text by their names.
 pub struct Types<'a> {

@@ -1,14 +1,13 @@
 //! The configuration of a text, and the instances of its programs.
 
 ghost use Rattle.std.specs.Prelude.{◌≡◌, ◌++◌, ◌∷◌, [], map, option_map, IfOk};
-ghost use Rattle.st_trees.specs.ConfigurationViews.{configuration_view, resource_view};
-ghost use Rattle.st_trees.specs.SourceViews.{source_view};
-ghost use Rattle.st_layouts.specs.LayoutVariables.{configurations_in, only_configuration};
+ghost use Rattle.st_types.specs.ConfigurationViews.{configuration_view, resource_view};
+ghost use Rattle.st_types.specs.SourceViews.{source_view};
+ghost use Rattle.layout.specs.LayoutVariables.{configurations_in, only_configuration};
 ghost use Rattle.layout.specs.Instances.{instances_in, instance_on, instance_view};
 
 use crate::slots::OwnerNames;
-use st_trees::{Configuration, Instance, LibraryElement, Resource, Source};
-use st_words::Name;
+use st_types::{Configuration, Instance, LibraryElement, Name, Resource, Source};
 use std::alloc::{AllocError, Global};
 
 /// The configuration of a text; none where it has none or more than one.

@@ -1,20 +1,19 @@
 //! The elements of an array, with what its initial value gives each.
 
 ghost use Rattle.std.specs.Prelude.{◌≡◌, ◌++◌, ◌≤ℤ◌, ◌^◌, neg_ℤ, pos, ℕ, map, option_map, replicate, slice_get, IfOk};
-ghost use Rattle.st_trees.specs.Initials.{Elements, element_then, elements_of};
-ghost use Rattle.st_trees.specs.InitialViews.{element_view};
-ghost use Rattle.st_types.specs.Operators.{natural, number_of};
-ghost use Rattle.st_layouts.specs.Types as made;
-ghost use Rattle.st_layouts.specs.Types.{count_of};
-ghost use Rattle.st_layouts.specs.Sites.{element_initial, given, listed_elements};
-ghost use Rattle.layout.specs.Sites.{element_part, element_parts, given_view, kept, kept_part, part_view, site_view};
+ghost use Rattle.st_types.specs.Initials.{Elements, element_then, elements_of};
+ghost use Rattle.st_types.specs.InitialViews.{element_view};
+ghost use Rattle.st_meaning.specs.Operators.{natural, number_of};
+ghost use Rattle.layout.specs.Types as made;
+ghost use Rattle.layout.specs.Types.{count_of};
+ghost use Rattle.layout.specs.Sites.{element_initial, given, listed_elements};
+ghost use Rattle.layout.specs.KeptSites.{element_part, element_parts, given_view, kept, kept_part, part_view, site_view};
 
 use crate::sites::{Part, PartStep, Site};
-use st_names::PlaceType;
-use st_trees::{ArrayType, Initial, InitialElement};
-use st_types::number_of;
-use st_words::Number;
+use st_meaning::number_of;
+use st_types::{ArrayType, Initial, InitialElement, Number};
 use std::alloc::{AllocError, Global};
+use symbols::PlaceType;
 
 /// How many elements a count stands for.
 fn times_of(count: &Number) -> u64

@@ -2,12 +2,11 @@
 
 ghost use Rattle.std.specs.Prelude.{◌≡◌, ◌++◌, IfOk, map};
 ghost use Rattle.std.specs.Vec.{vec_items};
-ghost use Rattle.st_trees.specs.DeclarationViews.{type_declaration_view};
-ghost use Rattle.st_trees.specs.SourceViews.{source_view};
+ghost use Rattle.st_types.specs.DeclarationViews.{type_declaration_view};
+ghost use Rattle.st_types.specs.SourceViews.{source_view};
 ghost use Rattle.layout.specs.TypeNames.{names_in_text, names_of_types};
 
-use st_trees::{LibraryElement, Source, TypeDeclaration, TypeDefinition};
-use st_words::{Identifier, Name};
+use st_types::{Identifier, LibraryElement, Name, Source, TypeDeclaration, TypeDefinition};
 use std::alloc::{AllocError, Global};
 
 fn names_of(alloc: Global, identifiers: &[Identifier]) -> Result<Vec<Name>, AllocError>

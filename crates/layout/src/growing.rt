@@ -1,29 +1,29 @@
 //! The expansion of a variable into its elementary parts, which stops where a layout has no room for more.
 
 ghost use Rattle.std.specs.Prelude.{◌≡◌, ◌≤◌, ◌+◌, ◌++◌, length, IfErr, OnOk, true};
-ghost use Rattle.st_types.specs.NameTypes.{Declared};
-ghost use Rattle.st_layouts.specs.Shapes.{instance_count, is_sound, size};
-ghost use Rattle.st_layouts.specs.Types as made;
-ghost use Rattle.st_layouts.specs.Types.{shape_within};
-ghost use Rattle.st_words.specs.declared.limits.TheConstants.{MAX_PATHS};
+ghost use Rattle.st_meaning.specs.NameTypes.{Declared};
+ghost use Rattle.layout.specs.Shapes.{instance_count, is_sound, size};
+ghost use Rattle.layout.specs.Types as made;
+ghost use Rattle.layout.specs.Types.{shape_within};
+ghost use Rattle.st_types.specs.declared.limits.TheConstants.{MAX_PATHS};
 ghost use Rattle.layout.specs.Compositions.{ServesTypes, composition_view};
 ghost use Rattle.layout.specs.Growth.{Exceeds, Grows};
-ghost use Rattle.layout.specs.Sites.{kept, site_view};
+ghost use Rattle.layout.specs.KeptSites.{kept, site_view};
 ghost use Rattle.layout.specs.Slots.{own_instances, own_size, own_slots, path_at};
 ghost use Rattle.layout.specs.declared.limits.TheConstants.{MAX_INSTANCES};
 
 use crate::compositions::{Composition, Types};
+use crate::definition_laws::leaves_of_shapes;
 use crate::initials::started;
 use crate::layout_error::LayoutError;
 use crate::limits::MAX_INSTANCES;
 use crate::parts::parts_of;
 use crate::sites::{PartStep, Site};
 use crate::slots::{LayoutSlot, Root, path_to};
-use st_layouts::leaves_of_shapes;
-use st_names::StandardBlock;
-use st_words::Kind;
-use st_words::limits::MAX_PATHS;
+use st_types::Kind;
+use st_types::limits::MAX_PATHS;
 use std::alloc::Global;
+use symbols::StandardBlock;
 
 /// The slots so far, and where the next ones stand.
 #[derive(Drop)]

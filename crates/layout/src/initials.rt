@@ -1,14 +1,13 @@
 //! The values that elementary parts start with.
 
 ghost use Rattle.std.specs.Prelude.{◌≡◌, Ok, if◌then◌else◌};
-ghost use Rattle.st_types.specs.Operators.{value_of_literal};
-ghost use Rattle.st_plans.specs.Plans.{initial_value};
-ghost use Rattle.st_layouts.specs.Sites.{constant_of, default_of, fitting};
-ghost use Rattle.layout.specs.Sites.{given_view};
+ghost use Rattle.st_meaning.specs.Operators.{value_of_literal};
+ghost use Rattle.st_meaning.specs.Plans.{initial_value};
+ghost use Rattle.layout.specs.Sites.{constant_of, default_of, fitting};
+ghost use Rattle.layout.specs.KeptSites.{given_view};
 
-use st_trees::Initial;
-use st_types::value_of_number;
-use st_words::{Kind, Literal, Value};
+use st_meaning::value_of_number;
+use st_types::{Initial, Kind, Literal, Value};
 
 /// The value, where it is of the type.
 fn fitted(kind: Kind, value: Value) -> Option<Value>

@@ -1,17 +1,17 @@
 //! Laws of the texts that break no rule of the language.
 
 ghost use Rattle.std.specs.Prelude.{◌≡◌, true};
-ghost use Rattle.st_trees.specs.Sources.{Source};
-ghost use Rattle.st_types.specs.Slots.{IsLayout};
-ghost use Rattle.st_statics.specs.Rules.{IsWellTyped};
-ghost use Rattle.st_layouts.specs.LayoutVariables.{declared_of, layout_variables};
-ghost use Rattle.st_layouts.specs.Names.{has_different_names};
-ghost use Rattle.st_layouts.specs.Standing.{are_declared_once};
-ghost use Rattle.st_layouts.specs.TextLayouts.{slots_of_text};
+ghost use Rattle.st_types.specs.Sources.{Source};
+ghost use Rattle.st_meaning.specs.Slots.{IsLayout};
+ghost use Rattle.st_rules.specs.Rules.{IsWellTyped};
+ghost use Rattle.layout.specs.LayoutVariables.{declared_of, layout_variables};
+ghost use Rattle.layout.specs.Names.{has_different_names};
+ghost use Rattle.layout.specs.Standing.{are_declared_once};
+ghost use Rattle.layout.specs.TextLayouts.{slots_of_text};
 ghost use Rattle.layout.specs.Growth.{Exceeds};
 ghost use Rattle.layout.specs.declared.layout_error.LayoutError.TheVariants.{TooLarge};
 
-use st_layouts::layouts_of_texts;
+use crate::definition_laws::layouts_of_texts;
 
 /// In a text that breaks no rule each scope of variables declares each name once, so each path of its layout stands
 /// once.

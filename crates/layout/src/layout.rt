@@ -1,18 +1,19 @@
 //! Layouts of texts.
 
 ghost use Rattle.std.specs.Prelude.{◌≡◌, ◌≤◌, IfErr, IfOk, length, map, option_map, slice_get};
-ghost use Rattle.st_words.specs.declared.limits.TheConstants.{MAX_PATHS};
-ghost use Rattle.st_trees.specs.SourceViews.{source_view};
-ghost use Rattle.st_trees.specs.Sources as trees;
-ghost use Rattle.st_types.specs.ResolvedUnits.{resolved_source};
-ghost use Rattle.st_statics.specs.Rules.{IsWellTyped};
-ghost use Rattle.st_plans.specs.Layouts.{layout_text};
-ghost use Rattle.st_layouts.specs.TextLayouts.{instances_of_text, slots_of_text};
+ghost use Rattle.st_types.specs.declared.limits.TheConstants.{MAX_PATHS};
+ghost use Rattle.st_types.specs.SourceViews.{source_view};
+ghost use Rattle.st_types.specs.Sources as trees;
+ghost use Rattle.st_meaning.specs.ResolvedUnits.{resolved_source};
+ghost use Rattle.st_rules.specs.Rules.{IsWellTyped};
+ghost use Rattle.st_meaning.specs.Layouts.{layout_text};
+ghost use Rattle.layout.specs.TextLayouts.{instances_of_text, slots_of_text};
 ghost use Rattle.layout.specs.Growth.{Exceeds};
 ghost use Rattle.layout.specs.Indexed.{facts_of, is_retained, path_numbered, slot_number};
-ghost use Rattle.layout.specs.TextLayouts.{IsLayoutOf, inputs_among, variables_among};
+ghost use Rattle.layout.specs.KeptLayouts.{IsLayoutOf, inputs_among, variables_among};
 ghost use Rattle.layout.specs.TypeNames.{names_in_text};
 
+use crate::definition_laws::leaves_of_shapes;
 use crate::enumerations::enumerations_in;
 use crate::laws::accepted_texts_declare_names_once;
 use crate::layout_error::LayoutError;
@@ -21,10 +22,8 @@ use crate::slot_index::{indexed, plan_inputs, plan_variables};
 use crate::slots::SlotFacts;
 use crate::text_lines::layout_text;
 use indexmap::IndexMap;
-use st_layouts::leaves_of_shapes;
-use st_plans::{PlanInput, PlanVariable};
-use st_trees::Source;
-use st_words::Path;
+use st_meaning::{PlanInput, PlanVariable};
+use st_types::{Path, Source};
 use std::alloc::{AllocError, Global};
 use std::marker::Model;
 
@@ -53,7 +52,7 @@ impl Model for Layout {
 
     ghost use Rattle.std.specs.Prelude.{◌≤◌, map};
     ghost use Rattle.indexmap.specs.IndexMap.{index_map_len};
-    ghost use Rattle.st_words.specs.declared.limits.TheConstants.{MAX_PATHS};
+    ghost use Rattle.st_types.specs.declared.limits.TheConstants.{MAX_PATHS};
     ghost use Rattle.layout.specs.Indexed.{slot_of_entry};
 
     ghost view = { λ l. record { slots = map slot_of_entry l.slots.entries; text = l.text.items } };

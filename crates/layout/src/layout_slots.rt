@@ -1,12 +1,12 @@
 //! The slots of a whole text.
 
 ghost use Rattle.std.specs.Prelude.{◌≡◌, ◌≤◌, ◌+◌, ◌∷◌, [], length, map, Some, IfErr, IfOk, OnOk, true};
-ghost use Rattle.st_trees.specs.ConfigurationViews.{configuration_view};
-ghost use Rattle.st_trees.specs.SourceViews.{source_view};
-ghost use Rattle.st_words.specs.declared.limits.TheConstants.{MAX_PATHS};
-ghost use Rattle.st_types.specs.NameTypes.{Declared, declared_in};
-ghost use Rattle.st_layouts.specs.LayoutVariables.{variables_of_configuration};
-ghost use Rattle.st_layouts.specs.TextLayouts.{instances_of};
+ghost use Rattle.st_types.specs.ConfigurationViews.{configuration_view};
+ghost use Rattle.st_types.specs.SourceViews.{source_view};
+ghost use Rattle.st_types.specs.declared.limits.TheConstants.{MAX_PATHS};
+ghost use Rattle.st_meaning.specs.NameTypes.{Declared, declared_in};
+ghost use Rattle.layout.specs.LayoutVariables.{variables_of_configuration};
+ghost use Rattle.layout.specs.TextLayouts.{instances_of};
 ghost use Rattle.layout.specs.Compositions.{ServesTypes};
 ghost use Rattle.layout.specs.Growth.{Exceeds};
 ghost use Rattle.layout.specs.Instances.{instance_view, variables_of_programs};
@@ -16,15 +16,15 @@ ghost use Rattle.layout.specs.declared.limits.TheConstants.{MAX_INSTANCES};
 
 use crate::compositions::Types;
 use crate::configurations::{ProgramInstance, instances_in, only_configuration};
+use crate::definition_laws::leaves_of_shapes;
 use crate::growing::{Growing, push_site};
 use crate::layout_error::LayoutError;
 use crate::members::is_retained_within;
 use crate::sites::Site;
 use crate::slots::{LayoutSlot, OwnerNames, Root};
 use crate::variables::{Variable, globals_of, program_variables};
-use st_layouts::leaves_of_shapes;
-use st_statics::limits::MAX_TYPE_DEPTH;
-use st_trees::{Configuration, Source};
+use st_rules::limits::MAX_TYPE_DEPTH;
+use st_types::{Configuration, Source};
 use std::alloc::Global;
 
 /// Appends the slots of a variable.

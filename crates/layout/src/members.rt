@@ -1,21 +1,21 @@
 //! The parts of a whole, one level down, with what their declarations say.
 
 ghost use Rattle.std.specs.Prelude.{◌≡◌, ◌++◌, ◌∷◌, [], map, OnOk};
-ghost use Rattle.st_trees.specs.DeclarationViews.{field_view};
-ghost use Rattle.st_trees.specs.Initials.{members_of};
-ghost use Rattle.st_trees.specs.InitialViews.{member_view};
-ghost use Rattle.st_plans.specs.Plans.{retained_so_far};
-ghost use Rattle.st_layouts.specs.Types as made;
-ghost use Rattle.st_layouts.specs.Types.{NamedSite};
-ghost use Rattle.st_layouts.specs.Types.{site_of_field};
-ghost use Rattle.st_layouts.specs.Sites.{field_initial, member_initial};
-ghost use Rattle.st_names.specs.PlaceTypes.{place_type_view};
-ghost use Rattle.layout.specs.Sites.{IsSaid, given_view, kept, kept_part, member_part, part_view, site_view};
+ghost use Rattle.st_types.specs.DeclarationViews.{field_view};
+ghost use Rattle.st_types.specs.Initials.{members_of};
+ghost use Rattle.st_types.specs.InitialViews.{member_view};
+ghost use Rattle.st_meaning.specs.Plans.{retained_so_far};
+ghost use Rattle.layout.specs.Types as made;
+ghost use Rattle.layout.specs.Types.{NamedSite};
+ghost use Rattle.layout.specs.Types.{site_of_field};
+ghost use Rattle.layout.specs.Sites.{field_initial, member_initial};
+ghost use Rattle.symbols.specs.PlaceTypes.{place_type_view};
+ghost use Rattle.layout.specs.KeptSites.{IsSaid, given_view, kept, kept_part, member_part, part_view, site_view};
 
 use crate::sites::{Part, PartStep, Site};
-use st_names::{PlaceType, place_type};
-use st_trees::{Field, Initial, InitialMember, Retention};
+use st_types::{Field, Initial, InitialMember, Retention};
 use std::alloc::AllocError;
+use symbols::{PlaceType, place_type};
 
 /// What a list of a structure's fields gives a field.
 fn field_initial<'a>(members: &'a [InitialMember], name: &[u8]) -> Option<&'a Initial>
@@ -53,7 +53,7 @@ pub fn is_retained_within(retained: bool, said: Option<Retention>) -> bool
 }
 
 /// A field or a member by its name, with what the whole gives it, and else with what its own declaration says.
-#[tactic(auto, using(crate::proofs::SiteLemmas::retained_appended))]
+#[tactic(auto, using(crate::proofs::KeptSiteLemmas::retained_appended))]
 pub fn member_of<'a>(
     whole: Site<'a>,
     name: &'a [u8],

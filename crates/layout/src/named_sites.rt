@@ -1,15 +1,14 @@
 //! The variables of a unit, as its declarations have them.
 
 ghost use Rattle.std.specs.Prelude.{◌≡◌, ◌++◌, ◌∷◌, [], map, IfOk};
-ghost use Rattle.st_trees.specs.DeclarationViews.{declaration_view, variable_block_view};
-ghost use Rattle.st_types.specs.Bodies.{is_external};
-ghost use Rattle.st_layouts.specs.Types.{retention_of, sites_of_blocks, sites_of_declarations};
+ghost use Rattle.st_types.specs.DeclarationViews.{declaration_view, variable_block_view};
+ghost use Rattle.st_meaning.specs.Bodies.{is_external};
+ghost use Rattle.layout.specs.Types.{retention_of, sites_of_blocks, sites_of_declarations};
 ghost use Rattle.layout.specs.NamedSites.{named_as, named_site_view};
 
-use st_names::{PlaceType, place_type};
-use st_trees::{Declaration, Initial, Retention, Section, VariableBlock};
-use st_words::Identifier;
+use st_types::{Declaration, Identifier, Initial, Retention, Section, VariableBlock};
 use std::alloc::{AllocError, Global};
+use symbols::{PlaceType, place_type};
 
 /// A variable as its declaration has it.
 #[derive(Clone, Copy)]

@@ -1,9 +1,9 @@
 //! The parts of what is declared, one level down.
 
 ghost use Rattle.std.specs.Prelude.{◌≡◌, map, IfOk};
-ghost use Rattle.st_layouts.specs.Types as made;
+ghost use Rattle.layout.specs.Types as made;
 ghost use Rattle.layout.specs.Compositions.{composition_view};
-ghost use Rattle.layout.specs.Sites.{kept, kept_part, part_view, parts_behind, site_view};
+ghost use Rattle.layout.specs.KeptSites.{kept, kept_part, part_view, parts_behind, site_view};
 
 use crate::block_members::push_variables;
 use crate::compositions::Composition;

@@ -1,7 +1,7 @@
 //! What the declarations say of a variable or of a part of one.
 
-use st_names::PlaceType;
-use st_trees::Initial;
+use st_types::Initial;
+use symbols::PlaceType;
 
 /// A variable or a part of one, as it is declared.
 #[derive(Clone, Copy)]

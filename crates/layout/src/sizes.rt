@@ -1,12 +1,12 @@
 //! Sizes of types: how many slots a variable of a type takes, cut off where a layout has no room for them.
 
 ghost use Rattle.std.specs.Prelude.{◌≡◌, ◌+◌, ◌*◌, ℕ, IfNone, IfOk, IfSome, OnOk, Some, false, option_map, true};
-ghost use Rattle.st_statics.specs.declared.limits.TheConstants.{MAX_TYPE_DEPTH};
-ghost use Rattle.st_trees.specs.declared.data_type.VariableType.TheVariants.{Simple};
-ghost use Rattle.st_types.specs.NameTypes.{Declared};
-ghost use Rattle.st_names.specs.PlaceTypes.{place_type_view};
-ghost use Rattle.st_layouts.specs.Shapes.{size};
-ghost use Rattle.st_layouts.specs.Types.{is_within_depth, shape_of_type};
+ghost use Rattle.st_rules.specs.declared.limits.TheConstants.{MAX_TYPE_DEPTH};
+ghost use Rattle.st_types.specs.declared.data_type.VariableType.TheVariants.{Simple};
+ghost use Rattle.st_meaning.specs.NameTypes.{Declared};
+ghost use Rattle.symbols.specs.PlaceTypes.{place_type_view};
+ghost use Rattle.layout.specs.Shapes.{size};
+ghost use Rattle.layout.specs.Types.{is_within_depth, shape_of_type};
 ghost use Rattle.layout.specs.Compositions.{ServesTypes, composition_view};
 ghost use Rattle.layout.specs.Sizes.{IsSized, KnowsSizes, ServesSizes, cut, name_in};
 ghost use Rattle.layout.specs.Slots.{own_size};
@@ -15,12 +15,11 @@ use crate::compositions::{Composition, Types};
 use crate::elements::count_of;
 use crate::parts::parts_of;
 use crate::sites::Site;
-use st_names::{Index, PlaceType};
-use st_statics::limits::MAX_TYPE_DEPTH;
-use st_trees::SimpleType;
-use st_words::Identifier;
-use st_words::limits::MAX_PATHS;
+use st_rules::limits::MAX_TYPE_DEPTH;
+use st_types::limits::MAX_PATHS;
+use st_types::{Identifier, SimpleType};
 use std::alloc::{AllocError, Global};
+use symbols::{Index, PlaceType};
 
 /// The sum of two sizes, cut off.
 pub fn sum(a: usize, b: usize) -> usize

@@ -2,14 +2,14 @@
 
 ghost use Rattle.std.specs.Prelude.{◌≡◌, ◌≤◌, ◌++◌, ◌∷◌, [], IfOk, OnOk, length, map};
 ghost use Rattle.indexmap.specs.IndexMap.{insert_all, index_map_len};
-ghost use Rattle.st_words.specs.Paths.{same_path};
+ghost use Rattle.st_types.specs.Paths.{same_path};
 ghost use Rattle.layout.specs.Indexed.{entry_of, facts_of, slot_of_entry};
-ghost use Rattle.layout.specs.TextLayouts.{inputs_among, variables_among};
+ghost use Rattle.layout.specs.KeptLayouts.{inputs_among, variables_among};
 
 use crate::slots::{LayoutSlot, SlotFacts};
 use indexmap::IndexMap;
-use st_plans::{PlanInput, PlanVariable};
-use st_words::Path;
+use st_meaning::{PlanInput, PlanVariable};
+use st_types::Path;
 use std::alloc::{AllocError, Global};
 
 /// What stands in a slot.

@@ -1,11 +1,11 @@
 //! Slots, and the paths that lead to them.
 
 ghost use Rattle.std.specs.Prelude.{◌≡◌, ◌++◌, ◌∷◌, [], map, IfOk, OnOk};
-ghost use Rattle.layout.specs.Sites.{step_view};
+ghost use Rattle.layout.specs.KeptSites.{step_view};
 ghost use Rattle.layout.specs.Slots.{owner_view, path_at};
 
 use crate::sites::PartStep;
-use st_words::{Name, Owner, Path, Step, Value};
+use st_types::{Name, Owner, Path, Step, Value};
 use std::alloc::{AllocError, Global};
 
 /// An elementary part of a variable, as the layout has it.

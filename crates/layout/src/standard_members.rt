@@ -3,19 +3,19 @@
 //! IEC 61131-3:2003, tables 34 to 37; behind inputs and outputs stand the members that texts can't reach.
 
 ghost use Rattle.std.specs.Prelude.{◌≡◌, ◌++◌, map, OnOk};
-ghost use Rattle.st_words.specs.declared.kind.Kind.TheVariants.{Bool, Int, Time};
-ghost use Rattle.st_types.specs.StandardBlocks.{hidden_of, inputs_of, members_of, outputs_of};
-ghost use Rattle.st_names.specs.Standard.{block_view};
-ghost use Rattle.st_layouts.specs.Types as made;
-ghost use Rattle.st_layouts.specs.Types.{site_of_member};
-ghost use Rattle.layout.specs.Sites.{kept, kept_part, member_part, part_view, site_view};
+ghost use Rattle.st_types.specs.declared.kind.Kind.TheVariants.{Bool, Int, Time};
+ghost use Rattle.st_meaning.specs.StandardBlocks.{hidden_of, inputs_of, members_of, outputs_of};
+ghost use Rattle.symbols.specs.Standard.{block_view};
+ghost use Rattle.layout.specs.Types as made;
+ghost use Rattle.layout.specs.Types.{site_of_member};
+ghost use Rattle.layout.specs.KeptSites.{kept, kept_part, member_part, part_view, site_view};
 ghost use Rattle.layout.specs.StandardMembers.{standard_member_view};
 
 use crate::members::member_of;
 use crate::sites::{Part, Site};
-use st_names::{PlaceType, StandardBlock};
-use st_words::Kind;
+use st_types::Kind;
 use std::alloc::AllocError;
+use symbols::{PlaceType, StandardBlock};
 
 /// A member of a standard block, by the bytes of its name.
 #[derive(Clone, Copy)]

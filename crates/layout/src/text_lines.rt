@@ -1,60 +1,40 @@
 //! The layout text of a record.
 
-ghost use Rattle.std.specs.Prelude.{◌≡◌, ◌++◌, IfOk, map};
+ghost use Rattle.std.specs.Prelude.{◌≡◌, ◌++◌, IfOk, OnOk, map};
 ghost use Rattle.std.specs.Vec.{vec_items};
-ghost use Rattle.st_words.specs.UpperNames.{joined};
-ghost use Rattle.st_plans.specs.Layouts.{line_of, layout_text, type_text};
+ghost use Rattle.std.specs.Io.KnownBytes.{Appends};
+ghost use Rattle.st_meaning.specs.Layouts.{line_of, layout_text};
 
-use crate::path_text::push_path;
-use st_plans::PlanVariable;
-use st_words::{Kind, Name};
+use st_meaning::PlanVariable;
+use st_print::{write_path, write_type};
+use st_types::Name;
 use std::alloc::{AllocError, Global};
+use std::io;
+use std::io::Write;
 
-/// Appends names with commas between them.
-fn push_names(text: &mut Vec<u8>, names: &[Name]) -> Result<(), AllocError>
-    ensures { IfOk result (λ _. text.new.items ≡ text.old.items ++ joined names.now) }
+/// Writes a line `PATH TYPE` with LF.
+fn write_line<W: Write>(out: &mut W, types: &[Vec<Name>], variable: &PlanVariable) -> io::Result<()>
+    ensures { OnOk result (Appends (W.contents out.old) (W.contents out.new)
+        (line_of (map vec_items types.now) variable.now)) }
 {
-    match names {
-        [] => Ok(()),
-        [last] => text.extend_from_slice(last.as_slice()),
-        [first, others @ ..] => {
-            text.extend_from_slice(first.as_slice())?;
-            text.push(b',')?;
-            push_names(text, others)
-        }
-    }
+    write_path(out, &variable.path)?;
+    out.write_all(b" ")?;
+    write_type(out, types, variable.initial.kind())?;
+    out.write_all(b"\n")
 }
 
-/// Appends a type: its keyword, or the names of an enumerated one between parentheses.
-fn push_type(text: &mut Vec<u8>, types: &[Vec<Name>], kind: Kind) -> Result<(), AllocError>
-    ensures { IfOk result (λ _. text.new.items ≡ text.old.items ++ type_text (map vec_items types.now) kind) }
-{
-    let Kind::Enumerated { number, .. } = kind else {
-        return text.extend_from_slice(kind.row().keyword.as_bytes());
-    };
-    let Some(names) = types.get(number as usize) else {
-        return Ok(());
-    };
-    text.push(b'(')?;
-    push_names(text, names)?;
-    text.push(b')')?;
-    Ok(())
-}
-
-/// Appends a line `PATH TYPE` with LF.
+/// Appends a line.
 fn push_line(
-    alloc: Global,
     text: &mut Vec<u8>,
     types: &[Vec<Name>],
     variable: &PlanVariable,
 ) -> Result<(), AllocError>
     ensures { IfOk result (λ _. text.new.items ≡ text.old.items ++ line_of (map vec_items types.now) variable.now) }
 {
-    push_path(alloc, text, &variable.path)?;
-    text.push(b' ')?;
-    push_type(text, types, variable.initial.kind())?;
-    text.push(b'\n')?;
-    Ok(())
+    match write_line(text, types, variable) {
+        Ok(()) => Ok(()),
+        Err(_) => Err(AllocError),
+    }
 }
 
 /// The layout text of a record of these variables: a line `PATH TYPE` with LF for each retained one, in order. The
@@ -69,7 +49,7 @@ pub fn layout_text(
     let mut text = Vec::new(alloc);
     for variable in variables {
         if variable.retained {
-            push_line(alloc, &mut text, types, variable)?;
+            push_line(&mut text, types, variable)?;
         }
     }
     Ok(text)

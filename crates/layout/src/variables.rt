@@ -1,25 +1,24 @@
 //! The variables of a whole layout as they are declared: globals, and those of programs' instances.
 
 ghost use Rattle.std.specs.Prelude.{◌≡◌, ◌++◌, map, Option, option_map, IfOk, None};
-ghost use Rattle.st_trees.specs.ConfigurationViews.{global_block_view, global_declaration_view, global_names_view};
-ghost use Rattle.st_trees.specs.UnitViews.{unit_view};
-ghost use Rattle.st_layouts.specs.LayoutVariables.{is_input_address, owned_variable, program_sites};
-ghost use Rattle.st_layouts.specs.LayoutVariables.{retention_of_globals};
-ghost use Rattle.st_layouts.specs.LayoutVariables.{site_of_global, variables_of_declarations, variables_of_globals};
-ghost use Rattle.st_layouts.specs.LayoutVariables.{variables_of_names};
+ghost use Rattle.st_types.specs.ConfigurationViews.{global_block_view, global_declaration_view, global_names_view};
+ghost use Rattle.st_types.specs.UnitViews.{unit_view};
+ghost use Rattle.layout.specs.LayoutVariables.{is_input_address, owned_variable, program_sites};
+ghost use Rattle.layout.specs.LayoutVariables.{retention_of_globals};
+ghost use Rattle.layout.specs.LayoutVariables.{site_of_global, variables_of_declarations, variables_of_globals};
+ghost use Rattle.layout.specs.LayoutVariables.{variables_of_names};
 ghost use Rattle.layout.specs.NamedSites.{named_as, named_site_view};
 ghost use Rattle.layout.specs.Slots.{owner_view};
 ghost use Rattle.layout.specs.Variables.{global_site_view, variable_view};
 ghost use Rattle.layout.specs.declared.slots.OwnerNames.{OwnerNames};
 
 use crate::named_sites::{NamedSite, renamed, sites_of_blocks};
-use st_names::place_type;
-use st_trees::{
-    Direction, GlobalBlock, GlobalDeclaration, GlobalNames, GlobalQualifier, Retention, Unit,
-    UnitSort,
+use st_types::{
+    Direction, GlobalBlock, GlobalDeclaration, GlobalNames, GlobalQualifier, Identifier, Retention,
+    Unit, UnitSort,
 };
-use st_words::Identifier;
 use std::alloc::{AllocError, Global};
+use symbols::place_type;
 
 /// A variable of a layout, without the program's instance to which it belongs.
 #[derive(Clone, Copy)]

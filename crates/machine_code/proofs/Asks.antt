@@ -6,13 +6,13 @@ use Rattle.std.specs.Prelude.{slice_get, slice_set, option_map}
 use Rattle.std.proofs.lemmas.Option.{slice_get_past}
 use Rattle.std.specs.List.{list_any}
 use Rattle.std.proofs.lemmas.Bool.Decides.{nat_tests}
-use Rattle.st_words.specs.Values.{Datum}
-use Rattle.st_words.specs.declared.fault.Fault.{Fault}
-use Rattle.st_types.specs.Failures.{Failure, valueless, ill_typed, StandIns, or_failure}
-use Rattle.st_types.specs.Evaluation.{known}
-use Rattle.st_types.specs.Stores.{may_replace}
-use Rattle.st_types.specs.StandardBlocks.{BlockMember, members_of}
-use Rattle.st_names.specs.Standard.{block_view}
+use Rattle.st_types.specs.Values.{Datum}
+use Rattle.st_types.specs.declared.fault.Fault.{Fault}
+use Rattle.st_meaning.specs.Failures.{Failure, valueless, ill_typed, StandIns, or_failure}
+use Rattle.st_meaning.specs.Evaluation.{known}
+use Rattle.st_meaning.specs.Stores.{may_replace}
+use Rattle.st_meaning.specs.StandardBlocks.{BlockMember, members_of}
+use Rattle.symbols.specs.Standard.{block_view}
 use Rattle.machine_code.specs.declared.mark.Mark.{Mark}
 use Rattle.machine_code.specs.declared.instr.Instr.{Instr}
 use Rattle.machine_code.specs.declared.instr.Instr.TheVariants.{Fetch}

@@ -3,10 +3,10 @@ use Rattle.std.proofs.Common.{◌≡◌, ℕ, suc, ◌==◌, ◌<◌, Bool, true
 use Rattle.std.proofs.Common.{Option, Some, None, refl, sym, ap, ◌∙◌, subst, arith}
 use Rattle.std.specs.Prelude.{slice_get, slice_set}
 use Rattle.std.proofs.lemmas.Bool.Decides.{nat_tests}
-use Rattle.st_words.specs.Values.{Datum}
-use Rattle.st_words.specs.declared.fault.Fault.{Fault}
-use Rattle.st_types.specs.Failures.{Failure, ill_typed, StandIns, fault_for, or_failure}
-use Rattle.st_types.specs.Stores.{may_replace}
+use Rattle.st_types.specs.Values.{Datum}
+use Rattle.st_types.specs.declared.fault.Fault.{Fault}
+use Rattle.st_meaning.specs.Failures.{Failure, ill_typed, StandIns, fault_for, or_failure}
+use Rattle.st_meaning.specs.Stores.{may_replace}
 use Rattle.machine_code.specs.declared.instr.Instr.{Instr}
 use Rattle.machine_code.specs.Memories.{plain}
 use Rattle.machine_code.specs.Memories as plainly

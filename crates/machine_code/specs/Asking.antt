@@ -1,9 +1,9 @@
 -- Slots that a run asks for, and how it ends where their value is not there.
 use Rattle.std.specs.Prelude.{◌≡◌, ℕ, ◌+◌, ◌==◌, nat_le, nat_lt, List, length, Bool, false, ◌&&◌}
 use Rattle.std.specs.List.{list_any}
-use Rattle.st_words.specs.declared.fault.Fault.{Fault}
-use Rattle.st_types.specs.StandardBlocks.{members_of}
-use Rattle.st_names.specs.Standard.{block_view}
+use Rattle.st_types.specs.declared.fault.Fault.{Fault}
+use Rattle.st_meaning.specs.StandardBlocks.{members_of}
+use Rattle.symbols.specs.Standard.{block_view}
 use Rattle.machine_code.specs.declared.instr.Instr.{Instr}
 use Rattle.machine_code.specs.declared.instr.Instr.TheVariants.{Fetch, Step, ForTest, ForStep}
 use Rattle.machine_code.specs.Machine.{Ending, finished, failed}

@@ -1,8 +1,8 @@
 -- What the end of a program's code tells.
 use Rattle.std.specs.Prelude.{List, length, take}
-use Rattle.st_words.specs.Values.{Datum}
-use Rattle.st_types.specs.declared.outcome.Outcome.{Outcome}
-use Rattle.st_types.specs.declared.outcome.Outcome.TheVariants.{Done, Faulted}
+use Rattle.st_types.specs.Values.{Datum}
+use Rattle.st_meaning.specs.declared.outcome.Outcome.{Outcome}
+use Rattle.st_meaning.specs.declared.outcome.Outcome.TheVariants.{Done, Faulted}
 use Rattle.machine_code.specs.Machine.{Ending, finished, failed}
 
 -- how a run of the machine ends

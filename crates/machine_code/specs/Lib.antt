@@ -4,3 +4,14 @@ pub mod Simulation
 pub mod Tracking
 pub mod Endings
 pub mod Asking
+pub mod Sites
+pub mod Codes
+pub mod Growing
+pub mod Calls
+pub mod Fitting
+pub mod Programs
+pub mod MarkedEvaluation
+pub mod MarkedExecution
+pub mod MarkedRuns
+pub mod MarkedPrograms
+pub mod MarkExamples

@@ -3,8 +3,8 @@
 ghost use Rattle.std.specs.Prelude.{◌≡◌, ◌↔◌, IsTrue};
 
 use crate::instr::Instr;
-use st_names::{Standard, StandardBlock};
-use st_words::{BinaryOperator, Kind, UnaryOperator};
+use st_types::{BinaryOperator, Kind, UnaryOperator};
+use symbols::{Standard, StandardBlock};
 
 /// Whether the two are one operator.
 fn same_unary(this: UnaryOperator, that: UnaryOperator) -> bool

@@ -1,7 +1,7 @@
 //! Instructions.
 
-use st_names::{Standard, StandardBlock};
-use st_words::{BinaryOperator, UnaryOperator, Value};
+use st_types::{BinaryOperator, UnaryOperator, Value};
+use symbols::{Standard, StandardBlock};
 
 /// An instruction of a machine with a stack. A place in the code is the number of instructions from there to the end.
 /// So the code ends at 0, and an instruction is followed by the place one below its own.

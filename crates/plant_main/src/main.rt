@@ -1,9 +1,28 @@
-//! The program `plant`: its words, the real files and the standard outputs.
+//! The program `plant`: its command line, read by clap, the real files and the standard outputs.
+//!
+//! It owns every job and the order of work. A report is printed after a run that ended well, and none beside a refusal,
+//! but where the standard output fails half way.
 #![tactic(auto)]
 
-use fault_codes::write_fault;
-use plant_program::plant;
-use source_run::{Fault, RealFiles};
+mod built_in;
+mod command;
+mod ending;
+mod explaining;
+mod first_run;
+mod meaning;
+mod number;
+mod open_gate;
+mod plotting;
+mod program;
+mod reading;
+mod replaying;
+mod showing;
+mod sizes;
+mod source_faults;
+mod telling;
+
+use program::plant;
+use source_run::{Fault, RealFiles, write_fault};
 use std::alloc::{AllocError, Global};
 use std::io::Write;
 use std::process::ExitCode;

@@ -9,75 +9,75 @@ use denote.Struct.Tuple.{type_at, TupleAt}
 use denote.Hole.FixSend.{Crosses, both_send, both_sync}
 use Rattle.std.proofs.Crossing.{crosses, Vec-send, Vec-sync, Box-send, Box-sync, Arc-send, Arc-sync, Deque-send}
 use Rattle.std.specs.contracts.option.Option as Option
-use Rattle.st_words.specs.contracts.kind.Kind as Kind
-use Rattle.st_words.specs.contracts.name.Name as Name
-use Rattle.st_words.specs.contracts.identifier.Identifier as Identifier
-use Rattle.st_words.specs.contracts.literal.Number as Number
-use Rattle.st_words.specs.contracts.literal.EnumeratedValue as EnumeratedValue
-use Rattle.st_words.specs.contracts.literal.Literal as Literal
-use Rattle.st_trees.specs.contracts.expression.Expr.TheKnot as ExprKnot
-use Rattle.st_trees.specs.declared.expression.Expr.TheBlock.{the_members as expr_members, member-Expr}
-use Rattle.st_trees.specs.declared.expression.Expr.TheBlock.{member-Selector, member-Variable}
-use Rattle.st_trees.specs.contracts.expression.Variable as Variable
-use Rattle.st_trees.specs.contracts.expression.Expr as Expr
-use Rattle.st_trees.specs.contracts.initial.Initial.TheKnot as InitialKnot
-use Rattle.st_trees.specs.declared.initial.Initial.TheBlock.{the_members as initial_members, member-Initial}
-use Rattle.st_trees.specs.declared.initial.Initial.TheBlock.{member-InitialElement, member-InitialMember}
-use Rattle.st_trees.specs.contracts.initial.Initial as Initial
-use Rattle.st_trees.specs.contracts.data_type.SimpleType as SimpleType
-use Rattle.st_trees.specs.contracts.data_type.ArrayType as ArrayType
-use Rattle.st_trees.specs.contracts.data_type.VariableType as VariableType
-use Rattle.st_trees.specs.contracts.declaration.Declaration as Declaration
-use Rattle.st_trees.specs.contracts.declaration.VariableBlock as VariableBlock
-use Rattle.st_trees.specs.contracts.statement.Label as Label
-use Rattle.st_trees.specs.contracts.statement.Argument as Argument
-use Rattle.st_trees.specs.contracts.statement.Stmt.TheKnot as StmtKnot
-use Rattle.st_trees.specs.declared.statement.Stmt.TheBlock.{the_members as stmt_members, member-Stmt}
-use Rattle.st_trees.specs.declared.statement.Stmt.TheBlock.{member-Arm, member-CaseArm}
-use Rattle.st_trees.specs.contracts.statement.Stmt as Stmt
-use Rattle.st_trees.specs.contracts.unit.UnitSort as UnitSort
-use Rattle.st_trees.specs.contracts.unit.Unit as Unit
-use Rattle.st_trees.specs.contracts.data_type.Field as Field
-use Rattle.st_trees.specs.contracts.data_type.TypeDefinition as TypeDefinition
-use Rattle.st_trees.specs.contracts.data_type.TypeDeclaration as TypeDeclaration
-use Rattle.st_trees.specs.contracts.configuration.Address as Address
-use Rattle.st_trees.specs.contracts.configuration.GlobalNames as GlobalNames
-use Rattle.st_trees.specs.contracts.configuration.GlobalDeclaration as GlobalDeclaration
-use Rattle.st_trees.specs.contracts.configuration.GlobalQualifier as GlobalQualifier
-use Rattle.st_trees.specs.contracts.configuration.GlobalBlock as GlobalBlock
-use Rattle.st_trees.specs.contracts.configuration.Task as TextTask
-use Rattle.st_trees.specs.contracts.configuration.Instance as TextInstance
-use Rattle.st_trees.specs.contracts.configuration.Resource as Resource
-use Rattle.st_trees.specs.contracts.configuration.Configuration as Configuration
-use Rattle.st_trees.specs.contracts.source.LibraryElement as LibraryElement
-use Rattle.st_trees.specs.contracts.source.Source as Source
-use Rattle.st_words.specs.contracts.path.Owner as Owner
-use Rattle.st_words.specs.contracts.path.Path as Path
-use Rattle.st_words.specs.contracts.value.Value.TheInside as ValueInside
-use Rattle.st_words.specs.contracts.value.Value as Value
+use Rattle.st_types.specs.contracts.kind.Kind as Kind
+use Rattle.st_types.specs.contracts.name.Name as Name
+use Rattle.st_types.specs.contracts.identifier.Identifier as Identifier
+use Rattle.st_types.specs.contracts.literal.Number as Number
+use Rattle.st_types.specs.contracts.literal.EnumeratedValue as EnumeratedValue
+use Rattle.st_types.specs.contracts.literal.Literal as Literal
+use Rattle.st_types.specs.contracts.expression.Expr.TheKnot as ExprKnot
+use Rattle.st_types.specs.declared.expression.Expr.TheBlock.{the_members as expr_members, member-Expr}
+use Rattle.st_types.specs.declared.expression.Expr.TheBlock.{member-Selector, member-Variable}
+use Rattle.st_types.specs.contracts.expression.Variable as Variable
+use Rattle.st_types.specs.contracts.expression.Expr as Expr
+use Rattle.st_types.specs.contracts.initial.Initial.TheKnot as InitialKnot
+use Rattle.st_types.specs.declared.initial.Initial.TheBlock.{the_members as initial_members, member-Initial}
+use Rattle.st_types.specs.declared.initial.Initial.TheBlock.{member-InitialElement, member-InitialMember}
+use Rattle.st_types.specs.contracts.initial.Initial as Initial
+use Rattle.st_types.specs.contracts.data_type.SimpleType as SimpleType
+use Rattle.st_types.specs.contracts.data_type.ArrayType as ArrayType
+use Rattle.st_types.specs.contracts.data_type.VariableType as VariableType
+use Rattle.st_types.specs.contracts.declaration.Declaration as Declaration
+use Rattle.st_types.specs.contracts.declaration.VariableBlock as VariableBlock
+use Rattle.st_types.specs.contracts.statement.Label as Label
+use Rattle.st_types.specs.contracts.statement.Argument as Argument
+use Rattle.st_types.specs.contracts.statement.Stmt.TheKnot as StmtKnot
+use Rattle.st_types.specs.declared.statement.Stmt.TheBlock.{the_members as stmt_members, member-Stmt}
+use Rattle.st_types.specs.declared.statement.Stmt.TheBlock.{member-Arm, member-CaseArm}
+use Rattle.st_types.specs.contracts.statement.Stmt as Stmt
+use Rattle.st_types.specs.contracts.unit.UnitSort as UnitSort
+use Rattle.st_types.specs.contracts.unit.Unit as Unit
+use Rattle.st_types.specs.contracts.data_type.Field as Field
+use Rattle.st_types.specs.contracts.data_type.TypeDefinition as TypeDefinition
+use Rattle.st_types.specs.contracts.data_type.TypeDeclaration as TypeDeclaration
+use Rattle.st_types.specs.contracts.configuration.Address as Address
+use Rattle.st_types.specs.contracts.configuration.GlobalNames as GlobalNames
+use Rattle.st_types.specs.contracts.configuration.GlobalDeclaration as GlobalDeclaration
+use Rattle.st_types.specs.contracts.configuration.GlobalQualifier as GlobalQualifier
+use Rattle.st_types.specs.contracts.configuration.GlobalBlock as GlobalBlock
+use Rattle.st_types.specs.contracts.configuration.Task as TextTask
+use Rattle.st_types.specs.contracts.configuration.Instance as TextInstance
+use Rattle.st_types.specs.contracts.configuration.Resource as Resource
+use Rattle.st_types.specs.contracts.configuration.Configuration as Configuration
+use Rattle.st_types.specs.contracts.source.LibraryElement as LibraryElement
+use Rattle.st_types.specs.contracts.source.Source as Source
+use Rattle.st_types.specs.contracts.path.Owner as Owner
+use Rattle.st_types.specs.contracts.path.Path as Path
+use Rattle.st_types.specs.contracts.value.Value.TheInside as ValueInside
+use Rattle.st_types.specs.contracts.value.Value as Value
 use Rattle.machine_code.specs.contracts.instr.Instr as Instr
-use Rattle.st_names.specs.contracts.standard_functions.Standard as Standard
-use Rattle.st_names.specs.contracts.standard_blocks.StandardBlock as StandardBlock
+use Rattle.symbols.specs.contracts.standard_functions.Standard as Standard
+use Rattle.symbols.specs.contracts.standard_blocks.StandardBlock as StandardBlock
 use Rattle.quick_code.specs.contracts.quick_code.QuickCode as QuickCode
 use Rattle.quick_code.specs.contracts.quick_code.Way as Way
 use Rattle.quick_code.specs.contracts.quick_instr.QuickInstr as QuickInstr
-use Rattle.quick_programs.specs.contracts.parts.QuickParts as QuickParts
-use Rattle.quick_programs.specs.contracts.program.QuickProgram as QuickProgram
-use Rattle.quick_programs.specs.contracts.program.QuickProgram.TheInside as QuickInside
-use Rattle.coded_programs.specs.contracts.code.Code as Code
-use Rattle.config.specs.contracts.task.ProgramInstance as ProgramInstance
-use Rattle.st_plans.specs.contracts.plan.PlanVariable as PlanVariable
-use Rattle.st_plans.specs.contracts.plan.PlanInput as PlanInput
-use Rattle.config.specs.contracts.task.Task as Task
-use Rattle.config.specs.contracts.slots.SlotPlace as SlotPlace
+use Rattle.slot_code.specs.contracts.parts.QuickParts as QuickParts
+use Rattle.slot_code.specs.contracts.program.QuickProgram as QuickProgram
+use Rattle.slot_code.specs.contracts.program.QuickProgram.TheInside as QuickInside
+use Rattle.slot_code.specs.contracts.code.Code as Code
+use Rattle.plan.specs.contracts.task.ProgramInstance as ProgramInstance
+use Rattle.st_meaning.specs.contracts.plan.PlanVariable as PlanVariable
+use Rattle.st_meaning.specs.contracts.plan.PlanInput as PlanInput
+use Rattle.plan.specs.contracts.task.Task as Task
+use Rattle.plan.specs.contracts.slots.SlotPlace as SlotPlace
 use Rattle.layout.specs.contracts.slots.SlotFacts as SlotFacts
 use Rattle.layout.specs.contracts.layout.Layout.TheInside as LayoutInside
 use Rattle.layout.specs.contracts.layout.Layout as Layout
-use Rattle.config.specs.contracts.plan.Plan as Plan
-use Rattle.st_plans.specs.contracts.entry.Row.TheInside as RowInside
-use Rattle.st_plans.specs.contracts.entry.Row as Row
-use Rattle.st_plans.specs.contracts.entry.Entry as Entry
-use Rattle.st_types.specs.contracts.outcome.Outcome as Outcome
+use Rattle.plan.specs.contracts.plan.Plan as Plan
+use Rattle.st_types.specs.contracts.entry.Row.TheInside as RowInside
+use Rattle.st_types.specs.contracts.entry.Row as Row
+use Rattle.st_types.specs.contracts.entry.Entry as Entry
+use Rattle.st_meaning.specs.contracts.outcome.Outcome as Outcome
 use Rattle.ready_list.specs.contracts.list.ReadyList as ReadyList
 use Rattle.serial_core.specs.contracts.serial.SerialCore.TheInside as SerialInside
 use Rattle.serial_core.specs.contracts.serial.SerialCore as SerialCore
@@ -86,8 +86,8 @@ use Rattle.retain_records.specs.contracts.record.Record as Record
 use Rattle.disk.specs.declared.disk.Disk as Disk
 use Rattle.retain_store.specs.contracts.store.Store as Store
 use Rattle.retain_store.specs.contracts.store.Store.TheInside as StoreInside
-use Rattle.commit_lock.specs.contracts.core_state.Core as Core
-use Rattle.commit_lock.specs.contracts.core_state.Core.TheInside as CoreInside
+use Rattle.durable_core.specs.contracts.core_state.Core as Core
+use Rattle.durable_core.specs.contracts.core_state.Core.TheInside as CoreInside
 use Rattle.std.specs.declared.sync.ledger.Ledger as Ledger
 use Rattle.std.below.core.proofs.ledger.Book.TheSendSync as BookSend
 use Rattle.atomic_table.proofs.shared.Seat.TheSendSync as SeatSend

@@ -1,8 +1,8 @@
 -- What is said of a core is so of the one that comes back with a fault, which is the same.
 use Rattle.std.proofs.Common.{◌≡◌, subst, sym}
-use Rattle.st_plans.specs.Logs.{IsLegal}
-use Rattle.config.specs.PlanViews.{plan_view}
-use Rattle.commit_lock.specs.Cores.{CoreView}
+use Rattle.st_meaning.specs.Logs.{IsLegal}
+use Rattle.plan.specs.PlanViews.{plan_view}
+use Rattle.durable_core.specs.Cores.{CoreView}
 use Rattle.run_lock.specs.declared.phase.RunFault.{RunFault}
 use Rattle.run_lock.specs.Lives.{IsGrownFrom}
 use Rattle.run_lock.specs.Phases.{IsSo}

@@ -1,9 +1,9 @@
 //! What a caller may do between the steps of a worker.
 
 use crate::shared::Extent;
-use coded_runs::Machine;
-use commit_lock::Answer;
-use st_plans::Activation;
+use durable_core::Answer;
+use slot_run::Machine;
+use st_types::Activation;
 
 /// Called by the workers of a run, outside the lock. Tests hold a worker by it.
 pub trait Gate {

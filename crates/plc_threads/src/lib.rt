@@ -11,9 +11,10 @@ mod report;
 mod shared;
 mod worker;
 
-pub use coded_runs::Machine;
 pub use driver::Pace;
 pub use gate::Gate;
 pub use plant_run::run_plant;
 pub use report::{Report, RunError, Told};
+pub use run_lock::{Mark, Pass, RaisePass};
 pub use shared::Extent;
+pub use slot_run::Machine;

@@ -1,11 +1,11 @@
 //! The run of a core in threads.
 
 ghost use Rattle.std.specs.Prelude.{◌≡◌, ◌+◌, ◌++◌, Some, IfOk, IfErr, MatchResult, length};
-ghost use Rattle.st_plans.specs.Logs.{done_count};
+ghost use Rattle.st_meaning.specs.Logs.{done_count};
 ghost use Rattle.serial_core.specs.Steps.{made};
-ghost use Rattle.commit_lock.specs.Flushing.{IsAcknowledged};
-ghost use Rattle.config.specs.PlanViews.{plan_view};
-ghost use Rattle.st_plans.specs.Logs.{IsLegal};
+ghost use Rattle.durable_core.specs.Flushing.{IsAcknowledged};
+ghost use Rattle.plan.specs.PlanViews.{plan_view};
+ghost use Rattle.st_meaning.specs.Logs.{IsLegal};
 ghost use Rattle.run_lock.specs.Lives.{IsGrownFrom, NothingIsDue};
 ghost use Rattle.run_lock.specs.Phases.{IsSo};
 ghost use Rattle.plc_threads.specs.Reports.{committed_in};
@@ -15,11 +15,11 @@ use crate::driver::Pace;
 use crate::gate::Gate;
 use crate::report::{Report, RunError};
 use crate::shared::Shared;
-use commit_lock::Core;
 use crossbeam_utils::CachePadded;
 use disk::Disk;
+use durable_core::Core;
 use run_lock::{Locked, Mark, Pass, Phase, RaisePass, Run, RunFault, is_settled};
-use st_plans::Row;
+use st_types::Row;
 use std::alloc::Global;
 use std::collections::VecDeque;
 use std::marker::Brand;

@@ -1,7 +1,7 @@
 //! What a run gives.
 
-use commit_lock::Core;
 use disk::Disk;
+use durable_core::Core;
 use run_lock::RunFault;
 
 /// How often the worker of a resource was told Committed and Stale.

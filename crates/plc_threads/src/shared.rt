@@ -4,11 +4,11 @@ ghost use Rattle.std.specs.Prelude.{◌≡◌, ◌+◌, Ok, IfSome, IfNone};
 ghost use Rattle.run_lock.specs.Answers.{committed_by, committed_here, stale_after};
 ghost use Rattle.run_lock.specs.Phases.{MayEnd};
 
-use coded_runs::Taken;
-use commit_lock::{Answer, Core, Refusal};
 use disk::Disk;
+use durable_core::{Answer, Core, Refusal};
 use run_lock::{Locked, OwnExecution, OwnTaken, Phase, Run, Tally};
-use st_plans::{Activation, Entry};
+use slot_run::Taken;
+use st_types::{Activation, Entry};
 use std::alloc::Global;
 use std::sync::{Condvar, Mutex, Wait};
 

@@ -1,11 +1,11 @@
 -- What a word stands for in a plan.
 use Rattle.std.specs.Prelude.{◌≡◌, ℕ, Bool, true, false, List, Some, slice_get}
 use Rattle.std.specs.Str.{str_eq_ignore_ascii_case}
-use Rattle.st_words.specs.Paths.{Path}
-use Rattle.st_plans.specs.declared.plan.PlanVariable.{PlanVariable}
-use Rattle.st_plans.specs.declared.plan.PlanInput.{PlanInput}
-use Rattle.st_plans.specs.Layouts.{path_text}
-use Rattle.config.specs.declared.plan.Plan.{Plan}
+use Rattle.st_types.specs.Paths.{Path}
+use Rattle.st_meaning.specs.declared.plan.PlanVariable.{PlanVariable}
+use Rattle.st_meaning.specs.declared.plan.PlanInput.{PlanInput}
+use Rattle.st_meaning.specs.Layouts.{path_text}
+use Rattle.plan.specs.declared.plan.Plan.{Plan}
 use Rattle.plots.specs.declared.shown.Shown.{Shown}
 use Rattle.plots.specs.declared.shown.Shown.TheVariants.{Variable, Input}
 

@@ -1,7 +1,7 @@
 //! Texts of a plot.
 
 use st_print::{write_path, write_value};
-use st_words::{Name, Path, Value};
+use st_types::{Name, Path, Value};
 use std::alloc::{AllocError, Global};
 
 /// A path as reports print it.

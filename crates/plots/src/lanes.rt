@@ -1,10 +1,10 @@
 //! The strips of executions.
 
+use crate::chart::{Lane, Lanes, Mark, Sign};
 use crate::labels::name_label;
 use crate::notes::{Event, Happening, History};
-use charts::{Lane, Lanes, Mark, Sign};
-use config::{Plan, ProgramInstance};
-use st_words::Fault;
+use plan::{Plan, ProgramInstance};
+use st_types::Fault;
 use std::alloc::{AllocError, Global};
 
 fn fault_word(fault: Fault) -> &'static str {

@@ -1,11 +1,12 @@
 //! The strips of values.
 
+use crate::chart::{Level, Line, Point, Shape};
+use crate::frame::MOST_LEVELS;
 use crate::labels::{path_label, value_label};
 use crate::notes::{Change, Course};
 use crate::shown::Shown;
-use charts::{Level, Line, MOST_LEVELS, Point, Shape};
-use config::Plan;
-use st_words::{Kind, Name, Path, Value};
+use plan::Plan;
+use st_types::{Kind, Name, Path, Value};
 use std::alloc::{AllocError, Global};
 
 /// What is shown: its path and its type.

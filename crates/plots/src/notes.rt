@@ -3,13 +3,12 @@
 ghost use Rattle.std.specs.Prelude.{⊤};
 
 use crate::shown::Shown;
-use config::Plan;
+use commit_lock::Watcher;
+use plan::Plan;
 use serial_core::SerialCore;
-use st_plans::{Entry, Row};
-use st_types::Outcome;
-use st_words::{Fault, Value};
+use st_meaning::Outcome;
+use st_types::{Entry, Fault, Row, Value};
 use std::alloc::{AllocError, Global};
-use traces::Watcher;
 
 /// A value that something took at a moment in milliseconds; no moment where it was so before the first row.
 #[derive(Clone, Copy)]

@@ -1,24 +1,25 @@
 //! From a trace to a picture.
 
 ghost use Rattle.std.specs.Prelude.{◌≢◌, IfOk, IfErr};
-ghost use Rattle.st_plans.specs.Restarts.{Start};
-ghost use Rattle.st_plans.specs.Logs.{Log};
-ghost use Rattle.commit_lock.specs.declared.starting.StartMode.{StartMode};
-ghost use Rattle.trace_lines.specs.declared.trace_error.ReplayError.{ReplayError};
-ghost use Rattle.traces.specs.Replays.{AreFindings, IsTrace};
+ghost use Rattle.st_meaning.specs.Restarts.{Start};
+ghost use Rattle.st_meaning.specs.Logs.{Log};
+ghost use Rattle.durable_core.specs.declared.starting.StartMode.{StartMode};
+ghost use Rattle.trace.specs.declared.trace_error.ReplayError.{ReplayError};
+ghost use Rattle.commit_lock.specs.Replays.{AreFindings, IsTrace};
 
+use crate::chart::{Chart, Strip};
 use crate::lanes::lanes;
 use crate::lines::line;
 use crate::notes::{Course, Notes};
+use crate::picture::write_chart;
 use crate::shown::Shown;
-use charts::{Chart, Strip, write_chart};
-use config::Plan;
-use st_plans::Row;
+use commit_lock::{ReplayError, Replayed, replay_watched};
+use plan::Plan;
+use st_types::Row;
 use std::alloc::{AllocError, Global};
 use std::io;
 use std::io::Write;
 use std::sync::Arc;
-use traces::{ReplayError, Replayed, replay_watched};
 
 /// What a plot shows: a life that was run again, the values of what is shown, and what happened to each program.
 pub struct Plot {

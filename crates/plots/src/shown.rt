@@ -4,10 +4,10 @@ ghost use Rattle.std.specs.Prelude.{◌≡◌, IfOk, IfSome, IfNone, length, min
 ghost use Rattle.plots.specs.Calls.{is_written, IsVariableCalled, IsInputCalled, NoVariableCalled, NoInputCalled};
 ghost use Rattle.plots.specs.Calls.{IsCalled, IsUncalled};
 
-use config::Plan;
-use st_plans::{PlanInput, PlanVariable};
+use plan::Plan;
+use st_meaning::{PlanInput, PlanVariable};
 use st_print::write_path;
-use st_words::Path;
+use st_types::Path;
 use std::alloc::{AllocError, Global};
 
 /// A variable or an input that is shown.

@@ -2,17 +2,17 @@
 use Rattle.std.proofs.Common.{◌≡◌, ◌∙◌, ℕ, ℤ, suc, List, [], ◌∷◌, length, map, refl, sym}
 use Rattle.std.proofs.Common.{ap, subst, arith, rules, ◌<◌, ◌≤◌, ◌+◌}
 use Rattle.std.specs.Prelude.{Some, slice_get}
-use Rattle.st_words.specs.declared.kind.Kind.{Kind}
+use Rattle.st_types.specs.declared.kind.Kind.{Kind}
 use Rattle.quick_code.specs.declared.quick_instr.QuickInstr.{QuickInstr}
 use Rattle.quick_code.specs.declared.quick_instr.QuickInstr.TheVariants.{Locate, LocateBehind}
-use Rattle.slot_bodies.specs.declared.expression.Place as code_place
-use Rattle.slot_bodies.specs.declared.expression.Subscript as code_subscript
-use Rattle.slot_bodies.specs.Chains.{Subscript, subscripts_of}
-use Rattle.slot_bodies.specs.ExpressionViews.{anchor_view, place_view, slot_expr_view, subscript_view}
+use Rattle.slot_trees.specs.declared.expression.Place as code_place
+use Rattle.slot_trees.specs.declared.expression.Subscript as code_subscript
+use Rattle.slot_trees.specs.Chains.{Subscript, subscripts_of}
+use Rattle.slot_trees.specs.ExpressionViews.{anchor_view, place_view, slot_expr_view, subscript_view}
 use Rattle.slot_trees.specs.SlotTrees.{Anchor, Place, SlotExpr, assign, load, no_subscripts, place}
 use Rattle.slot_trees.specs.SlotTrees.{subscript_then}
-use Rattle.code_drafts.proofs.Elements.{subscript_seen}
-use Rattle.code_drafts.proofs.Sizes.{expr_size, subscripts_size}
+use Rattle.st_compile.proofs.Elements.{subscript_seen}
+use Rattle.st_compile.proofs.Sizes.{expr_size, subscripts_size}
 use Rattle.quick_trees.specs.Pieces.{AreBoth, IsIndexed, IsLed, IsSubscript, IsTemporary, IsWithin}
 use Rattle.quick_trees.specs.Points.{Point, next}
 use Rattle.quick_trees.specs.QuickMemory.{Frame}

@@ -2,10 +2,10 @@
 use Rattle.std.proofs.Common.{◌≡◌, ℕ, zero, suc, List, [], ◌∷◌, ◌++◌, length, get_or, drop, map, refl, ap}
 use Rattle.std.proofs.Common.{subst, arith, ◌<◌, ◌≤◌, ◌+◌, add-one}
 use Rattle.std.specs.Prelude.{Some, slice_get}
-use Rattle.st_words.specs.declared.kind.Kind.{Kind}
-use Rattle.slot_bodies.specs.declared.expression.SlotExpr as code_expr
-use Rattle.slot_bodies.specs.Chains.{exprs_of}
-use Rattle.slot_bodies.specs.ExpressionViews.{slot_expr_view}
+use Rattle.st_types.specs.declared.kind.Kind.{Kind}
+use Rattle.slot_trees.specs.declared.expression.SlotExpr as code_expr
+use Rattle.slot_trees.specs.Chains.{exprs_of}
+use Rattle.slot_trees.specs.ExpressionViews.{slot_expr_view}
 use Rattle.slot_trees.specs.SlotTrees.{SlotFunction, SlotLibrary}
 use Rattle.quick_trees.specs.Calls.{AreBegun, IsBegun, IsFunction, quick_units}
 use Rattle.quick_trees.specs.Points.{Point}

@@ -1,11 +1,11 @@
 -- Chains of one part.
 use Rattle.std.proofs.Common.{◌≡◌, List, [], ◌∷◌, length, get_or, map, ap, sym, ◌∙◌, arith}
-use Rattle.slot_bodies.specs.declared.expression.SlotExpr as code_expr
-use Rattle.slot_bodies.specs.declared.expression.Subscript as code_subscript
-use Rattle.slot_bodies.specs.Chains.{Subscript, exprs_of, subscripts_of}
-use Rattle.slot_bodies.specs.ExpressionViews.{slot_expr_view, subscript_view}
+use Rattle.slot_trees.specs.declared.expression.SlotExpr as code_expr
+use Rattle.slot_trees.specs.declared.expression.Subscript as code_subscript
+use Rattle.slot_trees.specs.Chains.{Subscript, exprs_of, subscripts_of}
+use Rattle.slot_trees.specs.ExpressionViews.{slot_expr_view, subscript_view}
 use Rattle.slot_trees.specs.SlotTrees.{Subscripts, expr_then, no_exprs, no_subscripts, subscript_then}
-use Rattle.code_drafts.proofs.Elements.{subscript_seen}
+use Rattle.st_compile.proofs.Elements.{subscript_seen}
 
 pub one_expr : (es : List code_expr.SlotExpr) (e : code_expr.SlotExpr) → length es ≡ 1 → e ≡ get_or es 0 e
     → exprs_of (map slot_expr_view es) ≡ expr_then (slot_expr_view e) no_exprs

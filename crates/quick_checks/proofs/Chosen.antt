@@ -1,7 +1,7 @@
 -- The code of an IF that assigns one of two values.
 use Rattle.std.proofs.Common.{◌≡◌, ◌∙◌, ℕ, suc, Some, refl, sym, ap, subst, inl, inr}
 use Rattle.std.specs.Prelude.{slice_get}
-use Rattle.st_words.specs.declared.kind.Kind.{Kind}
+use Rattle.st_types.specs.declared.kind.Kind.{Kind}
 use Rattle.quick_code.specs.declared.quick_instr.QuickInstr.TheVariants.{Select}
 use Rattle.slot_trees.specs.SlotTrees.{Anchor, SlotArms, SlotExpr, SlotStmts, arm_then, assign, IF, no_arms, no_stmts}
 use Rattle.slot_trees.specs.SlotTrees.{no_subscripts, place, stmt_then}

@@ -5,10 +5,10 @@ use Rattle.std.specs.Prelude.{Bool, Some, slice_get, if◌then◌else◌, ◌⊎
 use Rattle.std.specs.List.{list_any}
 use Rattle.std.proofs.lemmas.Bool.{cases_lt}
 use Rattle.std.proofs.lemmas.Grind.{common_steps}
-use Rattle.st_types.specs.Execution.{label_holds}
-use Rattle.slot_bodies.specs.declared.statement.SlotCaseArm as code_case_arm
-use Rattle.slot_bodies.specs.Chains.{CaseArm, case_arms_of}
-use Rattle.slot_bodies.specs.StatementViews.{slot_case_arm_view, slot_stmts_view}
+use Rattle.st_meaning.specs.Execution.{label_holds}
+use Rattle.slot_trees.specs.declared.statement.SlotCaseArm as code_case_arm
+use Rattle.slot_trees.specs.Chains.{CaseArm, case_arms_of}
+use Rattle.slot_trees.specs.StatementViews.{slot_case_arm_view, slot_stmts_view}
 use Rattle.quick_code.specs.declared.quick_code.Way.{Way}
 use Rattle.quick_code.specs.Words.{case_of}
 use Rattle.quick_trees.specs.Pieces.{AreBoth}

@@ -1,7 +1,7 @@
 -- What stands for a standard function, whichever it is.
 use Rattle.std.proofs.Common.{inr, ℕ}
-use Rattle.st_words.specs.declared.kind.Kind.{Kind}
-use Rattle.st_types.specs.StandardFunctions.{ABS, CONVERT, LIMIT, MAX, MIN, ROL, ROR, SEL, SHL, SHR, Standard}
+use Rattle.st_types.specs.declared.kind.Kind.{Kind}
+use Rattle.st_meaning.specs.StandardFunctions.{ABS, CONVERT, LIMIT, MAX, MIN, ROL, ROR, SEL, SHL, SHR, Standard}
 use Rattle.slot_trees.specs.SlotTrees.{SlotExprs, compute, expr_then, no_exprs}
 use Rattle.quick_trees.specs.Functions.{IsEvaluated}
 use Rattle.quick_trees.specs.Pieces.{IsTemporary}

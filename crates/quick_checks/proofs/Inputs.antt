@@ -2,7 +2,7 @@
 use Rattle.std.proofs.Common.{◌≡◌, ◌∙◌, ℕ, List, map, ap}
 use Rattle.std.specs.Prelude.{Some, slice_get, option_map}
 use Rattle.std.proofs.lemmas.Option.{slice_get-map}
-use Rattle.st_words.specs.Values.{Datum}
+use Rattle.st_types.specs.Values.{Datum}
 use Rattle.quick_checks.specs.declared.constants.Reading.{Reading}
 use Rattle.quick_checks.specs.Checking.{kinds_read, words_read}
 

@@ -2,10 +2,10 @@
 use Rattle.std.proofs.Common.{◌≡◌, ◌∙◌, ℕ, zero, suc, List, [], ◌∷◌, ◌++◌, length, get_or, drop, map, refl, ap, sym}
 use Rattle.std.proofs.Common.{subst, arith, ◌+◌, ◌<◌, ◌≤◌}
 use Rattle.std.specs.Prelude.{Option, Some, slice_get}
-use Rattle.st_words.specs.declared.kind.Kind.{Kind}
-use Rattle.st_types.specs.StandardBlocks.{BlockMember}
-use Rattle.slot_bodies.specs.declared.statement.SlotArgument as code_argument
-use Rattle.slot_bodies.specs.StatementViews.{slot_argument_view}
+use Rattle.st_types.specs.declared.kind.Kind.{Kind}
+use Rattle.st_meaning.specs.StandardBlocks.{BlockMember}
+use Rattle.slot_trees.specs.declared.statement.SlotArgument as code_argument
+use Rattle.slot_trees.specs.StatementViews.{slot_argument_view}
 use Rattle.slot_trees.specs.SlotTrees.{Anchor, BlockCode, Place, SlotArgument, SlotExpr, SlotLibrary}
 use Rattle.slot_trees.specs.SlotTrees.{copied, given, no_subscripts, place}
 use Rattle.slot_trees.specs.SlotEvaluation.{slot_at}

@@ -1,9 +1,9 @@
 -- Where subscripts may lead.
 use Rattle.std.proofs.Common.{◌≡◌, ℕ, List, [], ◌∷◌, length, map, subst, arith, ◌<◌, ◌+◌, ◌*◌}
-use Rattle.slot_bodies.specs.declared.expression.Subscript as code_subscript
-use Rattle.slot_bodies.specs.Chains.{Subscript, subscripts_of}
-use Rattle.slot_bodies.specs.ExpressionViews.{subscript_view}
-use Rattle.code_drafts.proofs.Elements.{subscript_seen}
+use Rattle.slot_trees.specs.declared.expression.Subscript as code_subscript
+use Rattle.slot_trees.specs.Chains.{Subscript, subscripts_of}
+use Rattle.slot_trees.specs.ExpressionViews.{subscript_view}
+use Rattle.st_compile.proofs.Elements.{subscript_seen}
 use Rattle.quick_trees.specs.Pieces.{LeadsBehind}
 
 -- no subscript leads on

@@ -1,10 +1,10 @@
 -- Code of statements one after another, and of the arms of an IF.
 use Rattle.std.proofs.Common.{◌≡◌, ◌∙◌, ℕ, zero, suc, List, [], ◌∷◌, length, get_or, drop, map, true, false, refl, ap, subst, arith, ◌<◌, ◌≤◌, ◌+◌}
-use Rattle.slot_bodies.specs.declared.statement.SlotStmt as code_stmt
-use Rattle.slot_bodies.specs.declared.statement.SlotArm as code_arm
-use Rattle.slot_bodies.specs.Chains.{arms_of, stmts_of}
-use Rattle.slot_bodies.specs.ExpressionViews.{slot_expr_view}
-use Rattle.slot_bodies.specs.StatementViews.{slot_arm_view, slot_stmt_view, slot_stmts_view}
+use Rattle.slot_trees.specs.declared.statement.SlotStmt as code_stmt
+use Rattle.slot_trees.specs.declared.statement.SlotArm as code_arm
+use Rattle.slot_trees.specs.Chains.{arms_of, stmts_of}
+use Rattle.slot_trees.specs.ExpressionViews.{slot_expr_view}
+use Rattle.slot_trees.specs.StatementViews.{slot_arm_view, slot_stmt_view, slot_stmts_view}
 use Rattle.slot_trees.specs.SlotTrees.{SlotStmts, no_stmts, stmt_then}
 use Rattle.quick_trees.specs.declared.noting.Noting.{Noting}
 use Rattle.quick_trees.specs.declared.noting.Noting.TheVariants.{Exact, LookAhead, AssignmentAhead, BothAhead}

@@ -1,10 +1,10 @@
 -- Sums of an expression and a constant.
 use Rattle.std.proofs.Common.{◌≡◌, ℕ, ℤ, pos, true, ◌<◌, ◌≤ℤ◌, ◌+ℤ◌, arith, ap, subst, inl, inr}
 use Rattle.std.proofs.lemmas.Grind.{common_steps}
-use Rattle.st_words.specs.declared.kind.Kind.{Kind}
-use Rattle.st_words.specs.Kinds.{least, greatest, holds}
+use Rattle.st_types.specs.declared.kind.Kind.{Kind}
+use Rattle.st_types.specs.Kinds.{least, greatest, holds}
 use Rattle.slot_trees.specs.SlotTrees.{SlotExpr, binary, call, compute, constant, load, unary}
-use Rattle.code_drafts.proofs.Sizes.{expr_size}
+use Rattle.st_compile.proofs.Sizes.{expr_size}
 use Rattle.quick_trees.specs.Pieces.{HasNumbers}
 use Rattle.quick_trees.specs.Points.{Point}
 use Rattle.quick_trees.specs.QuickMemory.{Frame}

@@ -1,8 +1,8 @@
 -- Code of minus and NOT.
 use Rattle.std.proofs.Common.{ℕ}
-use Rattle.st_words.specs.declared.kind.Kind.{Kind}
-use Rattle.st_words.specs.declared.operator.UnaryOperator.{UnaryOperator}
-use Rattle.st_words.specs.declared.operator.UnaryOperator.TheVariants.{Negate, Not}
+use Rattle.st_types.specs.declared.kind.Kind.{Kind}
+use Rattle.st_types.specs.declared.operator.UnaryOperator.{UnaryOperator}
+use Rattle.st_types.specs.declared.operator.UnaryOperator.TheVariants.{Negate, Not}
 use Rattle.slot_trees.specs.SlotTrees.{SlotExpr, unary}
 use Rattle.quick_trees.specs.Pieces.{IsTemporary}
 use Rattle.quick_trees.specs.Points.{Point}

@@ -2,9 +2,9 @@
 use Rattle.std.proofs.Common.{◌≡◌, ℤ, true, false, ◌≤ℤ◌, arith}
 use Rattle.std.specs.Prelude.{int_le, ◌&&◌}
 use Rattle.std.proofs.lemmas.Grind.{common_steps}
-use Rattle.st_words.specs.declared.kind.Kind.{Kind}
-use Rattle.st_words.specs.Kinds.{least, greatest}
-use Rattle.st_words.specs.Words.{is_wide}
+use Rattle.st_types.specs.declared.kind.Kind.{Kind}
+use Rattle.st_types.specs.Kinds.{least, greatest}
+use Rattle.st_types.specs.Words.{is_wide}
 use Rattle.quick_trees.specs.Pieces.{IsWider}
 
 between : (a b c d n : ℤ) → c ≤ℤ a → b ≤ℤ d → (int_le a n && int_le n b) ≡ true → (int_le c n && int_le n d) ≡ true

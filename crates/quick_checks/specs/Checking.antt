@@ -1,7 +1,7 @@
 -- What a check sees, in the words of the definitions.
 use Rattle.std.specs.Prelude.{ℕ, List, map}
-use Rattle.slot_bodies.specs.declared.library.SlotLibrary as code_library
-use Rattle.slot_bodies.specs.LibraryViews.{slot_library_view, IsKeptOf}
+use Rattle.slot_trees.specs.declared.library.SlotLibrary as code_library
+use Rattle.slot_trees.specs.LibraryViews.{slot_library_view, IsKeptOf}
 use Rattle.slot_trees.specs.SlotTrees.{SlotLibrary}
 use Rattle.quick_trees.specs.QuickMemory.{Frame}
 use Rattle.quick_trees.specs.Points.{Point}
@@ -15,7 +15,7 @@ use Rattle.quick_checks.specs.declared.draft.QuickDraft.{QuickDraft}
 use Rattle.quick_checks.specs.declared.draft.Landing.{Landing}
 use Rattle.quick_checks.specs.declared.programs.DraftedProgram.{DraftedProgram}
 use Rattle.quick_checks.specs.declared.draft.Exits.{Exits}
-use Rattle.st_words.specs.declared.kind.Kind.{Kind}
+use Rattle.st_types.specs.declared.kind.Kind.{Kind}
 use Rattle.quick_checks.specs.declared.constants.Reading.{Reading}
 use Rattle.quick_checks.specs.declared.cursor.Cursor.{Cursor}
 use Rattle.quick_checks.specs.declared.members.Taken.{Taken}

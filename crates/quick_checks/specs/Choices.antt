@@ -1,8 +1,8 @@
 -- Which arm of a CASE is chosen.
 use Rattle.std.specs.Prelude.{ℕ, ℤ, zero, suc, List, [], ◌∷◌, if◌then◌else◌}
 use Rattle.std.specs.List.{list_any}
-use Rattle.st_types.specs.Execution.{label_holds}
-use Rattle.slot_bodies.specs.Chains.{CaseArm}
+use Rattle.st_meaning.specs.Execution.{label_holds}
+use Rattle.slot_trees.specs.Chains.{CaseArm}
 use Rattle.slot_trees.specs.SlotTrees.{SlotStmts, no_stmts}
 
 -- the first arm with a label that holds the number; behind the last one where there is none

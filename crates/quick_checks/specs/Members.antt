@@ -1,6 +1,6 @@
 -- Members of instances.
 use Rattle.std.specs.Prelude.{◌≡◌, ℕ, Some, slice_get}
-use Rattle.st_words.specs.declared.kind.Kind.{Kind}
+use Rattle.st_types.specs.declared.kind.Kind.{Kind}
 use Rattle.quick_trees.specs.QuickMemory.{Frame}
 
 -- A slot is of a type, and has a word.

@@ -1,7 +1,7 @@
 -- Sums of an expression and a constant.
 use Rattle.std.specs.Prelude.{◌≡◌, ◌⊎◌, ℤ}
-use Rattle.st_words.specs.declared.kind.Kind.{Kind}
-use Rattle.st_words.specs.declared.operator.BinaryOperator.TheVariants.{Add}
+use Rattle.st_types.specs.declared.kind.Kind.{Kind}
+use Rattle.st_types.specs.declared.operator.BinaryOperator.TheVariants.{Add}
 use Rattle.slot_trees.specs.SlotTrees.{SlotExpr, binary}
 use Rattle.quick_trees.specs.Pieces.{Adds, IsNumber}
 

@@ -1,6 +1,6 @@
 -- Values of arrays in arrays.
 use Rattle.std.specs.Prelude.{◌≡◌, ℕ, ℤ, List, Some, slice_get}
-use Rattle.st_words.specs.declared.kind.Kind.{Kind}
+use Rattle.st_types.specs.declared.kind.Kind.{Kind}
 use Rattle.quick_code.specs.declared.quick_instr.QuickInstr.{QuickInstr}
 use Rattle.quick_code.specs.declared.quick_instr.QuickInstr.TheVariants.{LoadBehind, StoreBehind}
 use Rattle.slot_trees.specs.SlotTrees.{Place, SlotExpr, Subscripts, no_subscripts, place, subscript_then}

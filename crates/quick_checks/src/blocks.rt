@@ -2,8 +2,8 @@
 
 ghost use Rattle.std.specs.Prelude.{◌≡◌, ◌∷◌, ◌++◌, List, IfOk, OnOk, map};
 ghost use Rattle.slot_trees.specs.SlotTrees as tree;
-ghost use Rattle.slot_bodies.specs.ExpressionViews.{anchor_view, slot_expr_view};
-ghost use Rattle.slot_bodies.specs.StatementViews.{block_code_view, slot_argument_view};
+ghost use Rattle.slot_trees.specs.ExpressionViews.{anchor_view, slot_expr_view};
+ghost use Rattle.slot_trees.specs.StatementViews.{block_code_view, slot_argument_view};
 ghost use Rattle.quick_trees.specs.Pieces.{Input};
 ghost use Rattle.quick_trees.specs.Points.{Point};
 ghost use Rattle.quick_trees.specs.Sites.{IsWhole};
@@ -19,9 +19,9 @@ use crate::reading::check_read;
 use crate::refusal::Refusal;
 use crate::scope::{Scope, Values, slot_of};
 use crate::statements::check_stmts;
-use code_drafts::block_at;
 use quick_code::{QuickInstr, is_same};
-use slot_bodies::{Anchor, BlockCode, SlotArgument, SlotExpr, SlotLibrary};
+use slot_trees::{Anchor, BlockCode, SlotArgument, SlotExpr, SlotLibrary};
+use st_compile::block_at;
 
 /// Finds the code of a call of a block, but for its tick.
 #[cycle(check)]

@@ -1,9 +1,9 @@
 //! The code of functions in the place of their calls.
 
 ghost use Rattle.std.specs.Prelude.{◌≡◌, ◌≤◌, ◌+◌, ℕ, IfOk, OnOk, length, map};
-ghost use Rattle.slot_bodies.specs.Chains.{exprs_of};
-ghost use Rattle.slot_bodies.specs.ExpressionViews.{slot_expr_view};
-ghost use Rattle.slot_bodies.specs.LibraryViews.{slot_function_view};
+ghost use Rattle.slot_trees.specs.Chains.{exprs_of};
+ghost use Rattle.slot_trees.specs.ExpressionViews.{slot_expr_view};
+ghost use Rattle.slot_trees.specs.LibraryViews.{slot_function_view};
 ghost use Rattle.quick_trees.specs.Calls.{kinds_in};
 ghost use Rattle.quick_trees.specs.Standing.{AreArguments, IsCall};
 ghost use Rattle.quick_checks.specs.Checking.{Always, kinds_read, point_of, words_read};
@@ -17,10 +17,10 @@ use crate::reading::check_read;
 use crate::refusal::Refusal;
 use crate::scope::{Scope, Values, kind_at, narrow, word_of};
 use crate::statements::check_stmts;
-use code_drafts::function_at;
 use quick_code::QuickInstr;
-use slot_bodies::{SlotExpr, SlotFunction, SlotLibrary};
-use st_words::Kind;
+use slot_trees::{SlotExpr, SlotFunction, SlotLibrary};
+use st_compile::function_at;
+use st_types::Kind;
 use std::alloc::Global;
 
 /// Finds the code of a call: the type of the result, which is then in a word.

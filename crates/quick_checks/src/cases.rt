@@ -3,9 +3,9 @@
 ghost use Rattle.std.specs.Prelude.{◌≡◌, ◌+◌, ◌<◌, ℕ, ℤ, IfOk, OnOk, Some, length, map, slice_get};
 ghost use Rattle.quick_code.specs.declared.quick_code.Way.{Way};
 ghost use Rattle.quick_code.specs.declared.quick_instr.QuickInstr.TheVariants as instrs;
-ghost use Rattle.slot_bodies.specs.Chains.{case_arms_of};
-ghost use Rattle.slot_bodies.specs.ExpressionViews.{slot_expr_view};
-ghost use Rattle.slot_bodies.specs.StatementViews.{slot_case_arm_view, slot_stmts_view};
+ghost use Rattle.slot_trees.specs.Chains.{case_arms_of};
+ghost use Rattle.slot_trees.specs.ExpressionViews.{slot_expr_view};
+ghost use Rattle.slot_trees.specs.StatementViews.{slot_case_arm_view, slot_stmts_view};
 ghost use Rattle.quick_trees.specs.Pieces.{AreBoth};
 ghost use Rattle.quick_trees.specs.Points.{Joins, along};
 ghost use Rattle.quick_trees.specs.Standing.{ChosenStand, IsCase, IsRead, StmtsStand};
@@ -20,8 +20,8 @@ use crate::refusal::Refusal;
 use crate::scope::Scope;
 use crate::statements::check_stmts;
 use quick_code::QuickInstr;
-use slot_bodies::{SlotCaseArm, SlotExpr, SlotLibrary, SlotStmt};
-use st_words::is_wide;
+use slot_trees::{SlotCaseArm, SlotExpr, SlotLibrary, SlotStmt};
+use st_types::is_wide;
 
 /// The table of the switch here over a word.
 fn switch_at(draft: &QuickDraft, at: &Cursor, word: u16) -> Result<Table, Refusal>

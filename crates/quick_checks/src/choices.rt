@@ -2,8 +2,8 @@
 
 ghost use Rattle.std.specs.Prelude.{◌≡◌, ◌<◌, ◌+◌, ◌+ℤ◌, ◌≤ℤ◌, ◌<ℤ◌, ℕ, ℤ, IfNone, IfOk, IfSome, IsTrue, Some, false, length, map, pos, slice_get};
 ghost use Rattle.std.specs.List.{list_any};
-ghost use Rattle.st_types.specs.Execution.{label_holds};
-ghost use Rattle.slot_bodies.specs.StatementViews.{slot_case_arm_view};
+ghost use Rattle.st_meaning.specs.Execution.{label_holds};
+ghost use Rattle.slot_trees.specs.StatementViews.{slot_case_arm_view};
 ghost use Rattle.quick_code.specs.declared.quick_code.Way.{Way};
 ghost use Rattle.quick_code.specs.Words.{case_of};
 ghost use Rattle.quick_checks.specs.Choices.{chosen};
@@ -11,9 +11,9 @@ ghost use Rattle.quick_checks.specs.Choices.{chosen};
 use crate::draft::QuickDraft;
 use crate::refusal::Refusal;
 use quick_code::{Way, is_way};
-use slot_bodies::SlotCaseArm;
-use st_trees::Label;
-use st_types::number_of;
+use slot_trees::SlotCaseArm;
+use st_meaning::number_of;
+use st_types::Label;
 use std::alloc::Global;
 
 /// The table of a switch: what is added to the selector, the first way, and how many there are before the last one,

@@ -1,11 +1,11 @@
 //! The code of an IF that assigns one of two values.
 
 ghost use Rattle.std.specs.Prelude.{◌≡◌, ℕ, IfOk, IfSome, IsTrue, OnOk, map};
-ghost use Rattle.st_words.specs.declared.operator.BinaryOperator.TheVariants.{NotEqual};
+ghost use Rattle.st_types.specs.declared.operator.BinaryOperator.TheVariants.{NotEqual};
 ghost use Rattle.slot_trees.specs.SlotTrees as tree;
-ghost use Rattle.slot_bodies.specs.Chains.{arms_of};
-ghost use Rattle.slot_bodies.specs.ExpressionViews.{anchor_view, slot_expr_view};
-ghost use Rattle.slot_bodies.specs.StatementViews.{slot_arm_view, slot_stmts_view};
+ghost use Rattle.slot_trees.specs.Chains.{arms_of};
+ghost use Rattle.slot_trees.specs.ExpressionViews.{anchor_view, slot_expr_view};
+ghost use Rattle.slot_trees.specs.StatementViews.{slot_arm_view, slot_stmts_view};
 ghost use Rattle.quick_trees.specs.Standing.{IsAsked, IsChosen};
 ghost use Rattle.quick_trees.specs.Straight.{AssignsAt, IsStraight};
 ghost use Rattle.quick_checks.specs.Checking.{Always, frame_of, point_of};
@@ -20,8 +20,8 @@ use crate::refusal::Refusal;
 use crate::scope::{Scope, is_kind, target_of};
 use crate::subscripts::constant_of;
 use quick_code::QuickInstr;
-use slot_bodies::{Anchor, Operands, SlotArm, SlotExpr, SlotLibrary, SlotStmt};
-use st_words::{BinaryOperator, Kind};
+use slot_trees::{Anchor, Operands, SlotArm, SlotExpr, SlotLibrary, SlotStmt};
+use st_types::{BinaryOperator, Kind};
 
 /// An assignment to a variable without subscripts.
 #[derive(Clone, Copy)]

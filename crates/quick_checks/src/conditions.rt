@@ -1,9 +1,9 @@
 //! The code of conditions.
 
 ghost use Rattle.std.specs.Prelude.{◌≡◌, ℕ, IfOk, IfSome, Some, slice_get};
-ghost use Rattle.st_words.specs.declared.kind.Kind.TheVariants.{Bool as Boolean};
+ghost use Rattle.st_types.specs.declared.kind.Kind.TheVariants.{Bool as Boolean};
 ghost use Rattle.slot_trees.specs.SlotTrees as tree;
-ghost use Rattle.slot_bodies.specs.ExpressionViews.{slot_expr_view};
+ghost use Rattle.slot_trees.specs.ExpressionViews.{slot_expr_view};
 ghost use Rattle.quick_trees.specs.Instructions as instrs;
 ghost use Rattle.quick_trees.specs.Pieces.{IsNumber, IsTested, Stands};
 ghost use Rattle.quick_trees.specs.Standing.{IsRead, IsTestedFor};
@@ -18,8 +18,8 @@ use crate::reading::{check_binary, check_read};
 use crate::refusal::Refusal;
 use crate::scope::{Scope, is_kind};
 use quick_code::is_same;
-use slot_bodies::{Operands, SlotExpr, SlotLibrary};
-use st_words::{BinaryOperator, Kind, UnaryOperator};
+use slot_trees::{Operands, SlotExpr, SlotLibrary};
+use st_types::{BinaryOperator, Kind, UnaryOperator};
 
 /// Finds the code that tests a condition, up to the branch, which is taken when it holds, or unless it does: the ways of
 /// the branch.

@@ -1,17 +1,17 @@
 //! Constants.
 
 ghost use Rattle.std.specs.Prelude.{◌≡◌, ◌≤◌, ℕ, IfOk, IfSome, Ok, length};
-ghost use Rattle.st_types.specs.Operators.{value_of_literal};
-ghost use Rattle.slot_bodies.specs.ExpressionViews.{slot_expr_view};
+ghost use Rattle.st_meaning.specs.Operators.{value_of_literal};
+ghost use Rattle.slot_trees.specs.ExpressionViews.{slot_expr_view};
 ghost use Rattle.quick_trees.specs.Pieces.{IsConstant, IsLiteral, IsNumber};
 ghost use Rattle.quick_checks.specs.Checking.{frame_of};
 
 use crate::draft::QuickDraft;
 use crate::refusal::Refusal;
 use crate::scope::{is_kind, narrow};
-use slot_bodies::SlotExpr;
-use st_types::value_of_number;
-use st_words::{Fault, Kind, Literal, Value};
+use slot_trees::SlotExpr;
+use st_meaning::value_of_number;
+use st_types::{Fault, Kind, Literal, Value};
 
 /// The type of an expression's value, and the word that has it.
 #[derive(Clone, Copy)]

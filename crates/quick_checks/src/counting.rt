@@ -2,11 +2,11 @@
 
 ghost use Rattle.std.specs.Prelude.{◌≡◌, ◌<◌, ◌⊎◌, ℕ, ℤ, IfOk, IsTrue, OnOk, Some, length, map, option_map, pos};
 ghost use Rattle.std.specs.Prelude.{slice_get, suc, true};
-ghost use Rattle.st_words.specs.Values.{IsHeld};
-ghost use Rattle.st_words.specs.Words.{datum_at};
+ghost use Rattle.st_types.specs.Values.{IsHeld};
+ghost use Rattle.st_types.specs.Words.{datum_at};
 ghost use Rattle.quick_code.specs.declared.quick_instr.QuickInstr.TheVariants as instrs;
-ghost use Rattle.slot_bodies.specs.ExpressionViews.{anchor_view, slot_expr_view};
-ghost use Rattle.slot_bodies.specs.StatementViews.{slot_stmts_view};
+ghost use Rattle.slot_trees.specs.ExpressionViews.{anchor_view, slot_expr_view};
+ghost use Rattle.slot_trees.specs.StatementViews.{slot_stmts_view};
 ghost use Rattle.quick_trees.specs.Counting.{AddsStep, AreOrdered, Begins, BeginsToCount, Counts, CountsAtOnce};
 ghost use Rattle.quick_trees.specs.Counting.{CountsBy, CountsByWord, GoesOnCounting, IsLiteralStep, IsLong, IsStep};
 ghost use Rattle.quick_trees.specs.Counting as counting;
@@ -31,8 +31,8 @@ use crate::scope::{Scope, Seat, Values, is_kind, seat_at, target_of};
 use crate::statements::check_stmts;
 use quick_code::{QuickInstr, is_same};
 use quick_trees::Pace;
-use slot_bodies::{Anchor, SlotExpr, SlotLibrary, SlotStmt};
-use st_words::{BinaryOperator, Kind, is_wide};
+use slot_trees::{Anchor, SlotExpr, SlotLibrary, SlotStmt};
+use st_types::{BinaryOperator, Kind, is_wide};
 
 /// How a FOR counts by a literal: the type and the word of its control variable, and the step, which is not 0.
 #[derive(Clone, Copy)]

@@ -4,7 +4,7 @@ ghost use Rattle.std.specs.Prelude.{◌≡◌};
 
 use quick_code::QuickCode;
 use quick_trees::Noting;
-use st_words::{Kind, Value};
+use st_types::{Kind, Value};
 
 /// Quick code of a program, with the types of its slots, the slots that have words, in the order of these, the
 /// constants that stand behind them, and how many words there are.

@@ -3,8 +3,8 @@
 ghost use Rattle.std.specs.Prelude.{◌≡◌, ◌<◌, ◌+◌, ◌*◌, ◌⊎◌, ℕ, IfOk, IfSome, IsTrue, OnOk, Some, map, slice_get, suc};
 ghost use Rattle.slot_trees.specs.SlotEvaluation.{slot_at};
 ghost use Rattle.slot_trees.specs.SlotTrees as tree;
-ghost use Rattle.slot_bodies.specs.Chains.{exprs_of};
-ghost use Rattle.slot_bodies.specs.ExpressionViews.{anchor_view, place_view, slot_expr_view};
+ghost use Rattle.slot_trees.specs.Chains.{exprs_of};
+ghost use Rattle.slot_trees.specs.ExpressionViews.{anchor_view, place_view, slot_expr_view};
 ghost use Rattle.quick_trees.specs.Notes as notes;
 ghost use Rattle.quick_trees.specs.Instructions as instrs;
 ghost use Rattle.quick_trees.specs.Pieces.{AreElements, IsNumber, IsTemporary, IsWider, Loads, Stands, Stores};
@@ -21,8 +21,8 @@ use crate::scope::{Values, is_kind, kind_at, narrow, own_word_of, slot_of, word_
 use crate::subscripts::Indexed;
 use quick_code::QuickInstr;
 use quick_trees::Noting;
-use slot_bodies::{Anchor, Place, SlotExpr, Subscript};
-use st_words::{BinaryOperator, Kind, is_wide};
+use slot_trees::{Anchor, Place, SlotExpr, Subscript};
+use st_types::{BinaryOperator, Kind, is_wide};
 
 /// How many elements an array has at most that quick code goes into.
 const MAX_ELEMENTS: usize = 8192;

@@ -1,10 +1,10 @@
 //! The code of standard functions.
 
 ghost use Rattle.std.specs.Prelude.{◌≡◌, ◌≤◌, ℕ, IfOk, IfSome, OnOk, map, pos};
-ghost use Rattle.st_words.specs.Kinds.{row_of};
-ghost use Rattle.st_names.specs.Standard.{standard_view};
-ghost use Rattle.slot_bodies.specs.Chains.{exprs_of};
-ghost use Rattle.slot_bodies.specs.ExpressionViews.{slot_expr_view};
+ghost use Rattle.st_types.specs.Kinds.{row_of};
+ghost use Rattle.symbols.specs.Standard.{standard_view};
+ghost use Rattle.slot_trees.specs.Chains.{exprs_of};
+ghost use Rattle.slot_trees.specs.ExpressionViews.{slot_expr_view};
 ghost use Rattle.quick_trees.specs.Functions.{AreThree, AreTwo, IsChosen, IsConverted, IsEvaluated, IsFunctionOf};
 ghost use Rattle.quick_trees.specs.Functions.{IsGreater, IsLesser, IsLimited, IsOne, IsSelected, IsShifted};
 ghost use Rattle.quick_trees.specs.Functions.{IsWithoutSign};
@@ -23,9 +23,9 @@ use crate::refusal::Refusal;
 use crate::scope::{Scope, is_kind, narrow};
 use crate::turning::{expect_shifted_up, expect_turned};
 use quick_code::QuickInstr;
-use slot_bodies::{SlotExpr, SlotLibrary};
-use st_names::Standard;
-use st_words::{Kind, is_wide};
+use slot_trees::{SlotExpr, SlotLibrary};
+use st_types::{Kind, is_wide};
+use symbols::Standard;
 
 /// Whether a standard function converts to a type that has each number, so that the word stays where it is.
 pub fn is_widening(function: Standard) -> bool {

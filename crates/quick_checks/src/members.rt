@@ -1,10 +1,10 @@
 //! The members of an instance of a block, where it is called.
 
 ghost use Rattle.std.specs.Prelude.{◌≡◌, ◌≤◌, ◌∷◌, ◌++◌, ◌+◌, [], ℕ, List, IfOk, IsTrue, OnOk, Some, map, slice_get};
-ghost use Rattle.st_names.specs.Standard.{block_view};
-ghost use Rattle.st_types.specs.StandardBlocks.{members_of};
+ghost use Rattle.symbols.specs.Standard.{block_view};
+ghost use Rattle.st_meaning.specs.StandardBlocks.{members_of};
 ghost use Rattle.slot_trees.specs.SlotTrees as tree;
-ghost use Rattle.slot_bodies.specs.StatementViews.{slot_argument_view};
+ghost use Rattle.slot_trees.specs.StatementViews.{slot_argument_view};
 ghost use Rattle.quick_code.specs.declared.quick_instr.QuickInstr.TheVariants as instrs;
 ghost use Rattle.quick_trees.specs.Calls.{AreMembers, IsStepped};
 ghost use Rattle.quick_trees.specs.Notes as notes;
@@ -20,12 +20,11 @@ use crate::draft::QuickDraft;
 use crate::expressions::{read_slot, variable_of};
 use crate::refusal::Refusal;
 use crate::scope::{Values, is_kind, kind_at, narrow, own_word_of, slot_of, word_in};
-use code_drafts::member_count;
-use quick_code::QuickInstr;
-use slot_bodies::SlotArgument;
-use st_names::StandardBlock;
-use st_words::Kind;
+use quick_code::{QuickInstr, member_count};
+use slot_trees::SlotArgument;
+use st_types::Kind;
 use std::alloc::AllocError;
+use symbols::StandardBlock;
 
 /// An input that a call gives: its member, so many slots behind the first one of the instance, its type, and the word
 /// that has its value.
@@ -248,7 +247,23 @@ fn are_members(draft: &QuickDraft, block: StandardBlock, first: usize, word: u16
                 Kind::Time,
             ],
         ),
-        StandardBlock::Ctud => false,
+        StandardBlock::Ctud => are_kinds(
+            draft,
+            first,
+            word,
+            &[
+                Kind::Bool,
+                Kind::Bool,
+                Kind::Bool,
+                Kind::Bool,
+                Kind::Int,
+                Kind::Bool,
+                Kind::Bool,
+                Kind::Int,
+                Kind::Bool,
+                Kind::Bool,
+            ],
+        ),
     }
 }
 

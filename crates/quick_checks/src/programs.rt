@@ -1,8 +1,8 @@
 //! Whether code stands for a program.
 
 ghost use Rattle.std.specs.Prelude.{◌≡◌, ℕ, IfOk, IfSome, OnOk, Some, length, replicate, slice_get};
-ghost use Rattle.slot_bodies.specs.LibraryViews.{IsKeptOf, slot_library_view};
-ghost use Rattle.slot_bodies.specs.StatementViews.{slot_stmts_view};
+ghost use Rattle.slot_trees.specs.LibraryViews.{IsKeptOf, slot_library_view};
+ghost use Rattle.slot_trees.specs.StatementViews.{slot_stmts_view};
 ghost use Rattle.slot_trees.specs.SlotTrees as tree;
 ghost use Rattle.quick_code.specs.Soundness.{IsSound};
 ghost use Rattle.quick_trees.specs.declared.noting.Noting.TheVariants.{Exact};
@@ -21,8 +21,8 @@ use crate::statements::check_stmts;
 use crate::windows::{is_window, words_by_slot};
 use quick_code::{QuickCode, QuickInstr, Way, is_sound};
 use quick_trees::Noting;
-use slot_bodies::{SlotLibrary, SlotStmt};
-use st_words::{Kind, Value};
+use slot_trees::{SlotLibrary, SlotStmt};
+use st_types::{Kind, Value};
 use std::alloc::{AllocError, Global};
 
 /// Quick code of a program, with the slots that have words, in the order of these, and the constants that stand behind

@@ -1,11 +1,11 @@
 //! What stands before the body of a function in the place of its call.
 
 ghost use Rattle.std.specs.Prelude.{◌≡◌, ◌<◌, ◌+◌, ℕ, IfNone, IfOk, IfSome, IsTrue, OnSome, Some, length, map, slice_get};
-ghost use Rattle.st_words.specs.declared.kind.Kind.{Kind};
-ghost use Rattle.st_words.specs.Values.{Datum, IsHeld};
-ghost use Rattle.st_words.specs.Words.{datum_at};
+ghost use Rattle.st_types.specs.declared.kind.Kind.{Kind};
+ghost use Rattle.st_types.specs.Values.{Datum, IsHeld};
+ghost use Rattle.st_types.specs.Words.{datum_at};
 ghost use Rattle.quick_code.specs.declared.quick_instr.QuickInstr.TheVariants as instrs;
-ghost use Rattle.slot_bodies.specs.LibraryViews.{slot_function_view};
+ghost use Rattle.slot_trees.specs.LibraryViews.{slot_function_view};
 ghost use Rattle.quick_trees.specs.Calls.{AreBegun, AreInputs, IsBegun, IsInput, kinds_in};
 ghost use Rattle.quick_checks.specs.Checking.{frame_of, kinds_read, point_of, seat_of, words_read};
 
@@ -15,8 +15,8 @@ use crate::draft::QuickDraft;
 use crate::refusal::Refusal;
 use crate::scope::{Seat, is_kind, narrow};
 use quick_code::{QuickInstr, is_same};
-use slot_bodies::SlotFunction;
-use st_words::{Kind, Value};
+use slot_trees::SlotFunction;
+use st_types::{Kind, Value};
 
 /// The first of the inputs that is a value.
 fn input_of(function: &SlotFunction, slot: usize) -> Option<usize>

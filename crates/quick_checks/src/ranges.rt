@@ -1,8 +1,8 @@
 //! Numbers of a type, which are assigned if the type has them.
 
 ghost use Rattle.std.specs.Prelude.{◌≡◌, ◌<◌, ℕ, IfOk, IfSome, OnOk, Some, pos, slice_get, suc};
-ghost use Rattle.st_words.specs.declared.kind.Kind.TheVariants.{Lint};
-ghost use Rattle.slot_bodies.specs.ExpressionViews.{slot_expr_view};
+ghost use Rattle.st_types.specs.declared.kind.Kind.TheVariants.{Lint};
+ghost use Rattle.slot_trees.specs.ExpressionViews.{slot_expr_view};
 ghost use Rattle.quick_trees.specs.Functions.{IsMovedWithin};
 ghost use Rattle.quick_trees.specs.Instructions as instrs;
 ghost use Rattle.quick_trees.specs.Pieces.{IsNumber, IsNumberAt, Stands};
@@ -16,8 +16,8 @@ use crate::instructions::instr_by;
 use crate::refusal::Refusal;
 use crate::scope::{is_kind, narrow};
 use quick_code::QuickInstr;
-use slot_bodies::SlotExpr;
-use st_words::{BinaryOperator, Kind, is_wide};
+use slot_trees::SlotExpr;
+use st_types::{BinaryOperator, Kind, is_wide};
 
 /// The word of the constant that is a number of a type.
 pub fn constant_of(draft: &QuickDraft, kind: Kind, number: i128) -> Result<u16, Refusal>

@@ -2,8 +2,8 @@
 
 ghost use Rattle.std.specs.Prelude.{◌≡◌, ◌+◌, ℕ, IfOk, IsTrue, OnOk, Some, map, slice_get};
 ghost use Rattle.quick_code.specs.declared.quick_instr.QuickInstr.TheVariants as instrs;
-ghost use Rattle.slot_bodies.specs.Chains.{subscripts_of};
-ghost use Rattle.slot_bodies.specs.ExpressionViews.{subscript_view};
+ghost use Rattle.slot_trees.specs.Chains.{subscripts_of};
+ghost use Rattle.slot_trees.specs.ExpressionViews.{subscript_view};
 ghost use Rattle.quick_trees.specs.Pieces.{AreReached, LeadsBehind};
 ghost use Rattle.quick_trees.specs.Points.{next};
 ghost use Rattle.quick_checks.specs.Checking.{frame_of, point_of, site_of};
@@ -16,8 +16,8 @@ use crate::refusal::Refusal;
 use crate::scope::{Values, is_kind, kind_at, narrow, own_word_of};
 use crate::subscripts::Indexed;
 use quick_code::QuickInstr;
-use slot_bodies::Subscript;
-use st_words::Kind;
+use slot_trees::Subscript;
+use st_types::Kind;
 
 /// To how many values subscripts may lead that quick code follows.
 const MAX_REACHED: usize = 8192;

@@ -3,9 +3,9 @@
 ghost use Rattle.std.specs.Prelude.{◌≡◌, ◌⊎◌, ℕ, IfOk, IfSome, Some, map, slice_get};
 ghost use Rattle.slot_trees.specs.SlotTrees as tree;
 ghost use Rattle.slot_trees.specs.SlotEvaluation.{slot_at};
-ghost use Rattle.slot_bodies.specs.Chains.{exprs_of};
-ghost use Rattle.st_names.specs.Standard.{standard_view};
-ghost use Rattle.slot_bodies.specs.ExpressionViews.{anchor_view, slot_expr_view};
+ghost use Rattle.slot_trees.specs.Chains.{exprs_of};
+ghost use Rattle.symbols.specs.Standard.{standard_view};
+ghost use Rattle.slot_trees.specs.ExpressionViews.{anchor_view, slot_expr_view};
 ghost use Rattle.quick_code.specs.declared.quick_instr.QuickInstr.TheVariants as instrs;
 ghost use Rattle.quick_trees.specs.Pieces.{IsConstant, IsFetched, IsMoved, IsNumber, IsSet};
 ghost use Rattle.quick_trees.specs.Sites.{base_of};
@@ -29,9 +29,9 @@ use crate::signs::check_unary;
 use crate::subscripts::check_subscript;
 use crate::within::{check_made_within, check_read_within};
 use quick_code::{QuickInstr, is_same};
-use slot_bodies::{Anchor, Operands, SlotExpr, SlotLibrary, Subscript};
-use st_names::Standard;
-use st_words::{BinaryOperator, Kind, Literal};
+use slot_trees::{Anchor, Operands, SlotExpr, SlotLibrary, Subscript};
+use st_types::{BinaryOperator, Kind, Literal};
+use symbols::Standard;
 
 /// Finds the code that reads an expression: the type of its value, and the word that has it then. Temporaries from a
 /// depth on are free.

@@ -2,15 +2,15 @@
 
 ghost use Rattle.std.specs.Prelude.{◌≡◌, ℕ, IfOk, IsTrue, Some, map, slice_get};
 ghost use Rattle.slot_trees.specs.SlotEvaluation.{slot_at};
-ghost use Rattle.slot_bodies.specs.ExpressionViews.{anchor_view};
+ghost use Rattle.slot_trees.specs.ExpressionViews.{anchor_view};
 ghost use Rattle.quick_trees.specs.Sites.{HasOwnWord, HasWord, base_of, kinds_of};
 ghost use Rattle.quick_checks.specs.Checking.{frame_of, seat_of, site_of};
 
 use crate::constants::Reading;
 use crate::draft::QuickDraft;
 use crate::refusal::Refusal;
-use slot_bodies::Anchor;
-use st_words::Kind;
+use slot_trees::Anchor;
+use st_types::Kind;
 
 /// The word of a function's value, which the function may assign or not.
 #[derive(Clone, Copy)]

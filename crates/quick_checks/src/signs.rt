@@ -1,10 +1,10 @@
 //! The code of minus and NOT.
 
 ghost use Rattle.std.specs.Prelude.{◌≡◌, ℕ, IfOk, IfSome, IsTrue, OnOk, pos};
-ghost use Rattle.st_words.specs.declared.operator.BinaryOperator.TheVariants.{Subtract};
-ghost use Rattle.st_words.specs.Kinds.{greatest};
+ghost use Rattle.st_types.specs.declared.operator.BinaryOperator.TheVariants.{Subtract};
+ghost use Rattle.st_types.specs.Kinds.{greatest};
 ghost use Rattle.slot_trees.specs.SlotTrees as tree;
-ghost use Rattle.slot_bodies.specs.ExpressionViews.{slot_expr_view};
+ghost use Rattle.slot_trees.specs.ExpressionViews.{slot_expr_view};
 ghost use Rattle.quick_trees.specs.Instructions as instrs;
 ghost use Rattle.quick_trees.specs.Pieces.{IsNumberAt, Stands, TurnsBits};
 ghost use Rattle.quick_trees.specs.Points.{next};
@@ -18,8 +18,8 @@ use crate::instructions::{instr_by, instr_for};
 use crate::reading::check_read;
 use crate::refusal::Refusal;
 use crate::scope::{Scope, is_kind, narrow};
-use slot_bodies::{SlotExpr, SlotLibrary};
-use st_words::{BinaryOperator, Kind, UnaryOperator, Value};
+use slot_trees::{SlotExpr, SlotLibrary};
+use st_types::{BinaryOperator, Kind, UnaryOperator, Value};
 
 /// Whether a value is this number of a type.
 fn is_number(value: Value, kind: Kind, number: i128) -> bool

@@ -2,9 +2,9 @@
 
 ghost use Rattle.std.specs.Prelude.{◌≡◌, ℕ, OnOk, map};
 ghost use Rattle.slot_trees.specs.SlotTrees as tree;
-ghost use Rattle.slot_bodies.specs.Chains.{arms_of, stmts_of};
-ghost use Rattle.slot_bodies.specs.ExpressionViews.{anchor_view, slot_expr_view};
-ghost use Rattle.slot_bodies.specs.StatementViews.{slot_arm_view, slot_stmt_view, slot_stmts_view};
+ghost use Rattle.slot_trees.specs.Chains.{arms_of, stmts_of};
+ghost use Rattle.slot_trees.specs.ExpressionViews.{anchor_view, slot_expr_view};
+ghost use Rattle.slot_trees.specs.StatementViews.{slot_arm_view, slot_stmt_view, slot_stmts_view};
 ghost use Rattle.quick_trees.specs.Pieces.{IsLoop, IsUntil};
 ghost use Rattle.quick_trees.specs.Standing.{ArmsStand, IsAssignment, IsStored, IsTestedFor, StandsFor, StmtsStand};
 ghost use Rattle.quick_checks.specs.Checking.{Always, exits_of, frame_of, point_of};
@@ -26,7 +26,7 @@ use crate::refusal::Refusal;
 use crate::scope::{Scope, is_kind, target_of};
 use crate::subscripts::check_subscript;
 use crate::within::check_stored_within;
-use slot_bodies::{Anchor, SlotArm, SlotExpr, SlotLibrary, SlotStmt, Subscript};
+use slot_trees::{Anchor, SlotArm, SlotExpr, SlotLibrary, SlotStmt, Subscript};
 
 /// Finds the code of statements one after another, and what is noted before each.
 #[cycle(check)]

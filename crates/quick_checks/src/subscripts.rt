@@ -1,8 +1,8 @@
 //! Subscripts: the word that an instruction takes, and what it adds to that.
 
 ghost use Rattle.std.specs.Prelude.{◌≡◌, ◌+ℤ◌, IfOk, IfSome, IsTrue, false};
-ghost use Rattle.st_words.specs.Words as words;
-ghost use Rattle.slot_bodies.specs.ExpressionViews.{slot_expr_view};
+ghost use Rattle.st_types.specs.Words as words;
+ghost use Rattle.slot_trees.specs.ExpressionViews.{slot_expr_view};
 ghost use Rattle.quick_trees.specs.Pieces.{HasNumbers, IsNumber, IsSubscript};
 ghost use Rattle.quick_trees.specs.Standing.{IsReadApart};
 ghost use Rattle.quick_checks.specs.Checking.{Always, point_of};
@@ -14,8 +14,8 @@ use crate::draft::QuickDraft;
 use crate::reading::check_read;
 use crate::refusal::Refusal;
 use crate::scope::{Scope, is_kind};
-use slot_bodies::{SlotExpr, SlotLibrary, Subscript};
-use st_words::{BinaryOperator, Kind, is_wide};
+use slot_trees::{SlotExpr, SlotLibrary, Subscript};
+use st_types::{BinaryOperator, Kind, is_wide};
 
 /// A constant that an instruction can have.
 #[derive(Clone, Copy)]

@@ -1,7 +1,7 @@
 //! The code that moves bits up, and that turns them.
 
 ghost use Rattle.std.specs.Prelude.{◌≡◌, ◌<◌, ◌≤◌, ◌-◌, ◌^◌, ℕ, IfOk, IfSome, OnOk, if◌then◌else◌, pos};
-ghost use Rattle.st_words.specs.Kinds.{row_of};
+ghost use Rattle.st_types.specs.Kinds.{row_of};
 ghost use Rattle.quick_trees.specs.Functions.{IsMovedUp, IsShiftedUp, IsTurnedBy};
 ghost use Rattle.quick_trees.specs.Pieces.{IsNumberAt};
 ghost use Rattle.quick_checks.specs.Checking.{frame_of, kinds_read, point_of, words_read};
@@ -15,7 +15,7 @@ use crate::instructions::by_bits;
 use crate::ranges::{expect_within, natural_of};
 use crate::refusal::Refusal;
 use quick_code::QuickInstr;
-use st_words::Kind;
+use st_types::Kind;
 
 /// A power of two.
 fn power_of(places: u8) -> u64

@@ -3,8 +3,8 @@
 ghost use Rattle.std.specs.Prelude.{IfOk, OnOk, map};
 ghost use Rattle.slot_trees.specs.SlotTrees as tree;
 ghost use Rattle.slot_trees.specs.SlotEvaluation.{slot_at};
-ghost use Rattle.slot_bodies.specs.Chains.{subscripts_of};
-ghost use Rattle.slot_bodies.specs.ExpressionViews.{anchor_view, place_view, slot_expr_view, subscript_view};
+ghost use Rattle.slot_trees.specs.Chains.{subscripts_of};
+ghost use Rattle.slot_trees.specs.ExpressionViews.{anchor_view, place_view, slot_expr_view, subscript_view};
 ghost use Rattle.quick_trees.specs.Pieces.{IsWithin};
 ghost use Rattle.quick_trees.specs.Sites.{base_of};
 ghost use Rattle.quick_trees.specs.Standing.{IsLedOn, IsMade, IsRead};
@@ -20,8 +20,8 @@ use crate::reading::check_read;
 use crate::refusal::Refusal;
 use crate::scope::{Scope, is_kind, own_word_of, slot_of};
 use crate::subscripts::check_subscript;
-use slot_bodies::{Anchor, Place, SlotExpr, SlotLibrary, Subscript};
-use st_words::Kind;
+use slot_trees::{Anchor, Place, SlotExpr, SlotLibrary, Subscript};
+use st_types::Kind;
 
 /// Finds the code that reads a value of an array in an array.
 #[cycle(check)]

@@ -2,18 +2,18 @@
 
 ghost use Rattle.std.specs.Prelude.{◌≤◌, ◌+◌, ℕ, IfOk, IfSome, length};
 ghost use Rattle.slot_trees.specs.SlotTrees as tree;
-ghost use Rattle.slot_bodies.specs.LibraryViews.{IsKeptOf, slot_library_view};
-ghost use Rattle.slot_bodies.specs.StatementViews.{slot_stmts_view};
+ghost use Rattle.slot_trees.specs.LibraryViews.{IsKeptOf, slot_library_view};
+ghost use Rattle.slot_trees.specs.StatementViews.{slot_stmts_view};
 ghost use Rattle.quick_code.specs.Soundness.{IsSound};
 ghost use Rattle.quick_trees.specs.Programs.{IsProgram};
 ghost use Rattle.quick_trees.specs.Windows.{IsWindow};
-ghost use Rattle.quick_programs.specs.Quick.{frame_of};
+ghost use Rattle.slot_code.specs.Quick.{frame_of};
 
+use crate::programs::{Landing as Drafted, Program, draft_program};
 use quick_checks::{DraftedProgram, Landing, checked};
-use quick_drafts::{Landing as Drafted, Program, draft_program};
-use quick_programs::{PlacedParts, QuickParts};
-use slot_bodies::{SlotLibrary, SlotStmt};
-use st_words::Kind;
+use slot_code::{PlacedParts, QuickParts};
+use slot_trees::{SlotLibrary, SlotStmt};
+use st_types::Kind;
 use std::alloc::{AllocError, Global};
 
 /// The landings of a draft, as the check takes them.

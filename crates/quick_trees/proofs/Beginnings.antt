@@ -2,13 +2,13 @@
 use Rattle.std.proofs.Common.{◌≡◌, ◌≢◌, ℕ, zero, suc, ◌+◌, ◌<◌, ◌≤◌, ℤ, true, false, List, [], ◌∷◌, length}
 use Rattle.std.proofs.Common.{Some, Ok, Err, refl, sym, ap, ap₂, ◌∙◌, subst, arith, inl, inr}
 use Rattle.std.specs.Prelude.{◌⊎◌, ◌&&◌, if◌then◌else◌, slice_get, slice_set}
-use Rattle.st_words.specs.declared.kind.Kind.{Kind}
-use Rattle.st_words.proofs.KindLemmas.{same_kind-refl}
-use Rattle.st_words.specs.Values.{Datum, IsHeld}
-use Rattle.st_words.specs.Words.{datum_at}
-use Rattle.st_types.specs.Failures.{ill_typed}
-use Rattle.st_types.specs.Stores.{may_replace}
-use Rattle.st_types.specs.Ticks.{proceed}
+use Rattle.st_types.specs.declared.kind.Kind.{Kind}
+use Rattle.st_types.proofs.KindLemmas.{same_kind-refl}
+use Rattle.st_types.specs.Values.{Datum, IsHeld}
+use Rattle.st_types.specs.Words.{datum_at}
+use Rattle.st_meaning.specs.Failures.{ill_typed}
+use Rattle.st_meaning.specs.Stores.{may_replace}
+use Rattle.st_meaning.specs.Ticks.{proceed}
 use Rattle.machine_code.specs.declared.mark.Mark.{Mark}
 use Rattle.quick_code.specs.declared.quick_instr.QuickInstr.TheVariants.{Move, Set}
 use Rattle.quick_code.specs.QuickRuns.{Left}

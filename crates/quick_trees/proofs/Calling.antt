@@ -2,22 +2,22 @@
 use Rattle.std.proofs.Common.{◌≡◌, ℕ, zero, suc, ◌+◌, ◌<◌, ◌≤◌, true, false, List, length, Some, Ok, refl, sym, ap, ◌∙◌}
 use Rattle.std.proofs.Common.{subst, arith, inl, inr, []}
 use Rattle.std.specs.Prelude.{◌⊎◌, slice_get}
-use Rattle.st_words.specs.declared.kind.Kind.{Kind}
-use Rattle.st_words.specs.Values.{Datum, IsHeld}
-use Rattle.st_words.specs.Words.{datum_at}
-use Rattle.st_types.specs.Failures.{StandIns, ill_typed, or_failure}
-use Rattle.st_types.specs.Loops.{exits, goes_on, returns}
-use Rattle.st_types.specs.Ticks.{attempt, follow, give}
+use Rattle.st_types.specs.declared.kind.Kind.{Kind}
+use Rattle.st_types.specs.Values.{Datum, IsHeld}
+use Rattle.st_types.specs.Words.{datum_at}
+use Rattle.st_meaning.specs.Failures.{StandIns, ill_typed, or_failure}
+use Rattle.st_meaning.specs.Loops.{exits, goes_on, returns}
+use Rattle.st_meaning.specs.Ticks.{attempt, follow, give}
 use Rattle.machine_code.specs.declared.mark.Mark.{Mark}
 use Rattle.quick_code.specs.declared.quick_instr.QuickInstr.TheVariants.{Move}
 use Rattle.quick_code.specs.QuickRuns.{Left}
 use Rattle.quick_code.specs.QuickSteps.{Memory, look}
 use Rattle.slot_trees.specs.SlotTrees.{SlotFunction, SlotLibrary, SlotStmts, own_block, standard_block}
 use Rattle.slot_trees.specs.SlotRuns.{state_of}
-use Rattle.tree_code.specs.MarkedEvaluation.{MarkedUnits}
-use Rattle.tree_code.specs.MarkedExecution.{MarkedEnd, marked_exec_all}
-use Rattle.tree_code.specs.MarkedRuns.{marked_block, marked_function, marked_units_over, marked_units_within}
-use Rattle.tree_code.specs.MarkedRuns.{unmarked_values}
+use Rattle.machine_code.specs.MarkedEvaluation.{MarkedUnits}
+use Rattle.machine_code.specs.MarkedExecution.{MarkedEnd, marked_exec_all}
+use Rattle.machine_code.specs.MarkedRuns.{marked_block, marked_function, marked_units_over, marked_units_within}
+use Rattle.machine_code.specs.MarkedRuns.{unmarked_values}
 use Rattle.quick_trees.specs.Calls.{IsBlock, IsFunction, kinds_in, quick_units, quick_units_over}
 use Rattle.quick_trees.specs.Points.{Point}
 use Rattle.quick_trees.specs.QuickMemory.{Ends, Frame, first_temporary}

@@ -3,21 +3,21 @@ use Rattle.std.proofs.Common.{◌≡◌, ℕ, zero, suc, ◌+◌, ◌-◌, ◌<�
 use Rattle.std.proofs.Common.{sym, ap, subst, ◌∙◌, arith, inl, inr}
 use Rattle.std.specs.Prelude.{if◌then◌else◌, not, slice_get}
 use Rattle.std.specs.Ordering.{int_eq}
-use Rattle.st_words.specs.declared.kind.Kind.{Kind}
-use Rattle.st_words.specs.declared.kind.Kind.TheVariants.{Bool as Boolean}
-use Rattle.st_words.specs.declared.operator.BinaryOperator.TheVariants.{NotEqual}
-use Rattle.st_words.specs.Values.{IsHeld, datum_of_truth}
-use Rattle.st_words.specs.Words.{datum_at, shift_of}
-use Rattle.st_types.specs.Loops.{behind, goes_on}
-use Rattle.st_types.specs.Ticks.{Run, follow}
+use Rattle.st_types.specs.declared.kind.Kind.{Kind}
+use Rattle.st_types.specs.declared.kind.Kind.TheVariants.{Bool as Boolean}
+use Rattle.st_types.specs.declared.operator.BinaryOperator.TheVariants.{NotEqual}
+use Rattle.st_types.specs.Values.{IsHeld, datum_of_truth}
+use Rattle.st_types.specs.Words.{datum_at, shift_of}
+use Rattle.st_meaning.specs.Loops.{behind, goes_on}
+use Rattle.st_meaning.specs.Ticks.{Run, follow}
 use Rattle.machine_code.specs.Tracking.{Tracked, written}
 use Rattle.quick_code.specs.QuickSteps.{Memory, act, look, put, with_word}
 use Rattle.quick_code.specs.declared.quick_instr.QuickInstr.TheVariants.{Select}
 use Rattle.slot_trees.specs.SlotTrees.{Anchor, SlotArms, SlotExpr, SlotStmts, arm_then, assign, no_arms, no_stmts}
 use Rattle.slot_trees.specs.SlotTrees.{no_subscripts, place, stmt_then}
 use Rattle.slot_trees.specs.SlotEvaluation.{slot_at}
-use Rattle.tree_code.specs.MarkedEvaluation.{MarkedScope, marked_truth, marked_value}
-use Rattle.tree_code.specs.MarkedExecution.{MarkedEnd, marked_assigning, marked_exec_all, marked_exec_arms}
+use Rattle.machine_code.specs.MarkedEvaluation.{MarkedScope, marked_truth, marked_value}
+use Rattle.machine_code.specs.MarkedExecution.{MarkedEnd, marked_assigning, marked_exec_all, marked_exec_arms}
 use Rattle.quick_trees.specs.declared.noting.Noting.{Noting}
 use Rattle.quick_trees.specs.Points.{Point}
 use Rattle.quick_trees.specs.QuickMemory.{Ends}

@@ -5,16 +5,16 @@ use Rattle.std.proofs.Common.{inr}
 use Rattle.std.specs.Prelude.{if◌then◌else◌, int_le, not, slice_get, unsigned_abs}
 use Rattle.std.specs.Ordering.{int_eq}
 use Rattle.std.proofs.lemmas.Int.{ints}
-use Rattle.st_words.specs.declared.fault.Fault.TheVariants.{Conversion, Range}
-use Rattle.st_words.specs.declared.kind.Kind.{Kind}
-use Rattle.st_words.specs.declared.kind.Kind.TheVariants.{Bool as Boolean}
-use Rattle.st_words.proofs.KindLemmas.{same_kind-refl}
-use Rattle.st_words.specs.Kinds.{greatest, holds, least, row_of}
-use Rattle.st_words.specs.Values.{Datum, IsHeld, datum_of_truth, in_range, is_true}
-use Rattle.st_words.specs.Words.{datum_at, is_wide, number_at, shift_of}
-use Rattle.st_types.specs.Failures.{failing, ill_typed}
-use Rattle.st_types.specs.StandardFunctions.{ABS, CONVERT, LIMIT, MAX, MIN, ROL, ROR, SEL, SHL, SHR, Standard}
-use Rattle.st_types.specs.StandardFunctions.{bits_down, conversion, greater, lesser, shifted, standard_value}
+use Rattle.st_types.specs.declared.fault.Fault.TheVariants.{Conversion, Range}
+use Rattle.st_types.specs.declared.kind.Kind.{Kind}
+use Rattle.st_types.specs.declared.kind.Kind.TheVariants.{Bool as Boolean}
+use Rattle.st_types.proofs.KindLemmas.{same_kind-refl}
+use Rattle.st_types.specs.Kinds.{greatest, holds, least, row_of}
+use Rattle.st_types.specs.Values.{Datum, IsHeld, datum_of_truth, in_range, is_true}
+use Rattle.st_types.specs.Words.{datum_at, is_wide, number_at, shift_of}
+use Rattle.st_meaning.specs.Failures.{failing, ill_typed}
+use Rattle.st_meaning.specs.StandardFunctions.{ABS, CONVERT, LIMIT, MAX, MIN, ROL, ROR, SEL, SHL, SHR, Standard}
+use Rattle.st_meaning.specs.StandardFunctions.{bits_down, conversion, greater, lesser, shifted, standard_value}
 use Rattle.machine_code.specs.declared.mark.Mark.{Mark}
 use Rattle.quick_code.specs.declared.operation.Operation.TheVariants as op
 use Rattle.quick_code.specs.declared.operation.Signed.TheVariants as signed
@@ -33,8 +33,8 @@ use Rattle.std.proofs.Math.Nat.{mod-eq_of_lt}
 use Rattle.std.proofs.Common.{w64, ◌*◌, ◌*ℤ◌, ◌+ℤ◌}
 use Rattle.std.specs.Prelude.{◌%◌}
 use Rattle.std.specs.Int.{int_bit_and}
-use Rattle.st_types.specs.Operators.{natural}
-use Rattle.st_types.specs.StandardFunctions.{bits_turned, bits_up, turned_down}
+use Rattle.st_meaning.specs.Operators.{natural}
+use Rattle.st_meaning.specs.StandardFunctions.{bits_turned, bits_up, turned_down}
 use Rattle.quick_code.specs.declared.quick_instr.QuickInstr.TheVariants.{And}
 use Rattle.quick_trees.specs.Functions.{IsMovedUp, IsShiftedUp, IsTurnedBy}
 use Rattle.quick_trees.proofs.Elements.{narrow_number}

@@ -6,15 +6,15 @@ use Rattle.std.specs.Prelude.{◌⊎◌, if◌then◌else◌, int_le, int_lt, no
 use Rattle.std.specs.Ordering.{int_eq}
 use Rattle.std.proofs.lemmas.Grind.{common_steps}
 use Rattle.std.proofs.lemmas.Int.{ints}
-use Rattle.st_words.specs.declared.kind.Kind.{Kind}
-use Rattle.st_words.specs.declared.kind.Kind.TheVariants as kinds
-use Rattle.st_words.specs.declared.operator.BinaryOperator.TheVariants.{Add}
-use Rattle.st_words.specs.Values.{IsHeld, in_range}
-use Rattle.st_words.specs.Kinds.{holds}
-use Rattle.st_words.specs.Words.{datum_at, is_wide, number_at, shift_of}
-use Rattle.st_types.specs.Failures.{StandIns, ill_typed, or_failure}
-use Rattle.st_types.specs.Loops.{TurnOf, again, goes_on, nonzero, stepped_on, unless_fault}
-use Rattle.st_types.specs.Ticks.{Run, attempt, follow, give}
+use Rattle.st_types.specs.declared.kind.Kind.{Kind}
+use Rattle.st_types.specs.declared.kind.Kind.TheVariants as kinds
+use Rattle.st_types.specs.declared.operator.BinaryOperator.TheVariants.{Add}
+use Rattle.st_types.specs.Values.{IsHeld, in_range}
+use Rattle.st_types.specs.Kinds.{holds}
+use Rattle.st_types.specs.Words.{datum_at, is_wide, number_at, shift_of}
+use Rattle.st_meaning.specs.Failures.{StandIns, ill_typed, or_failure}
+use Rattle.st_meaning.specs.Loops.{TurnOf, again, goes_on, nonzero, stepped_on, unless_fault}
+use Rattle.st_meaning.specs.Ticks.{Run, attempt, follow, give}
 use Rattle.machine_code.specs.declared.mark.Mark.{Mark}
 use Rattle.machine_code.specs.Tracking.{Tracked, looked, written}
 use Rattle.quick_trees.specs.declared.noting.Noting.{Noting}
@@ -29,10 +29,10 @@ use Rattle.quick_code.specs.QuickSteps.{Memory, counted, look, with_word}
 use Rattle.quick_code.specs.Words.{kind_of, made, passes, word_of_truth}
 use Rattle.slot_trees.specs.SlotTrees.{Anchor, SlotExpr, constant}
 use Rattle.slot_trees.specs.SlotEvaluation.{slot_at}
-use Rattle.tree_code.specs.MarkedEvaluation.{MarkedScope, marked_value}
-use Rattle.tree_code.specs.MarkedExecution.{MarkedEnd, marked_counting, marked_guarded, marked_loop, marked_on}
-use Rattle.tree_code.specs.MarkedExecution.{marked_put}
-use Rattle.tree_code.specs.MarkedExecution.{marked_runs_on, marked_step, marked_step_of, marked_step_on, marked_turns}
+use Rattle.machine_code.specs.MarkedEvaluation.{MarkedScope, marked_value}
+use Rattle.machine_code.specs.MarkedExecution.{MarkedEnd, marked_counting, marked_guarded, marked_loop, marked_on}
+use Rattle.machine_code.specs.MarkedExecution.{marked_put}
+use Rattle.machine_code.specs.MarkedExecution.{marked_runs_on, marked_step, marked_step_of, marked_step_on, marked_turns}
 use Rattle.quick_trees.specs.declared.pace.Pace.{Pace}
 use Rattle.quick_trees.specs.declared.pace.Pace.TheVariants.{Literal, Words}
 use Rattle.quick_trees.specs.Counting.{AddsStep, AreOrdered, Begins, BeginsToCount, Counts, CountsAsLint, CountsAtOnce}

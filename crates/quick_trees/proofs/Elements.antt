@@ -5,16 +5,16 @@ use Rattle.std.specs.Prelude.{if◌then◌else◌, nat_lt}
 use Rattle.std.proofs.Math.IntN.{+ℤ_idr}
 use Rattle.std.proofs.lemmas.Bool.Decides.{nat_tests}
 use Rattle.std.proofs.lemmas.Int.{ints}
-use Rattle.st_words.specs.declared.kind.Kind.{Kind}
-use Rattle.st_words.specs.Words.{is_wide, number_at}
-use Rattle.st_types.specs.Operators.{natural}
-use Rattle.st_layouts.specs.Shapes.{distance, in_bounds}
+use Rattle.st_types.specs.declared.kind.Kind.{Kind}
+use Rattle.st_types.specs.Words.{is_wide, number_at}
+use Rattle.st_meaning.specs.Operators.{natural}
+use Rattle.layout.specs.Shapes.{distance, in_bounds}
 use Rattle.quick_code.specs.QuickRuns.{Left}
 use Rattle.quick_code.specs.QuickSteps.{behind, offset_put, place_behind, within, Memory, load, look, note, noted_read}
 use Rattle.quick_code.specs.QuickSteps.{noted_written, store, with_word}
 use Rattle.quick_code.specs.Words.{kept, kind_of, element_place}
 use Rattle.quick_code.specs.declared.operation.Signed.TheVariants.{Lint}
-use Rattle.st_words.specs.Kinds.{holds}
+use Rattle.st_types.specs.Kinds.{holds}
 use Rattle.quick_trees.proofs.Stepping.{has_put, Follows, stepped}
 use Rattle.quick_trees.proofs.Lists.{some_is}
 use Rattle.quick_trees.specs.QuickMemory.{Ends, Frame}

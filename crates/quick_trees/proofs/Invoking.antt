@@ -1,22 +1,22 @@
 -- Code that calls a block does what the call means.
 use Rattle.std.proofs.Common.{◌≡◌, ℕ, ℤ, suc, ◌+◌, ◌≤◌, List, [], ◌∷◌, Some, Result, Ok, refl, sym, ap, ap₂, subst, ◌∙◌}
 use Rattle.std.proofs.Common.{arith}
-use Rattle.st_words.specs.declared.fault.Fault.{Fault}
-use Rattle.st_words.specs.declared.kind.Kind.{Kind}
+use Rattle.st_types.specs.declared.fault.Fault.{Fault}
+use Rattle.st_types.specs.declared.kind.Kind.{Kind}
 use Rattle.std.specs.Prelude.{slice_get}
-use Rattle.st_words.specs.Values.{Datum, IsHeld}
-use Rattle.st_words.specs.Words.{datum_at}
-use Rattle.st_types.specs.Failures.{StandIns, ill_typed, or_failure}
-use Rattle.st_types.specs.Loops.{goes_on}
-use Rattle.st_types.specs.Ticks.{attempt, follow, give}
+use Rattle.st_types.specs.Values.{Datum, IsHeld}
+use Rattle.st_types.specs.Words.{datum_at}
+use Rattle.st_meaning.specs.Failures.{StandIns, ill_typed, or_failure}
+use Rattle.st_meaning.specs.Loops.{goes_on}
+use Rattle.st_meaning.specs.Ticks.{attempt, follow, give}
 use Rattle.machine_code.specs.Tracking.{Tracked, looked, written}
 use Rattle.quick_code.specs.declared.quick_instr.QuickInstr.TheVariants.{Move}
 use Rattle.quick_code.specs.QuickSteps.{Memory, look, with_word}
 use Rattle.slot_trees.specs.SlotTrees.{Anchor, BlockCode, SlotArgument, copied, given, no_subscripts, place}
 use Rattle.slot_trees.specs.SlotTrees.{subscript_then}
 use Rattle.slot_trees.specs.SlotEvaluation.{slot_at}
-use Rattle.tree_code.specs.MarkedEvaluation.{MarkedScope, marked_look, marked_place, marked_value}
-use Rattle.tree_code.specs.MarkedExecution.{marked_inputs, marked_invoking, marked_outputs, marked_put, marked_stored}
+use Rattle.machine_code.specs.MarkedEvaluation.{MarkedScope, marked_look, marked_place, marked_value}
+use Rattle.machine_code.specs.MarkedExecution.{marked_inputs, marked_invoking, marked_outputs, marked_put, marked_stored}
 use Rattle.quick_trees.specs.declared.noting.Noting.{Noting}
 use Rattle.quick_trees.specs.Pieces.{AreElsewhere, Input}
 use Rattle.quick_trees.specs.Points.{Point}

@@ -2,14 +2,14 @@
 use Rattle.std.proofs.Common.{◌≡◌, ℕ, zero, suc, ◌+◌, ◌-◌, ◌<◌, ◌≤◌, Bool, true, false, Ok, refl, sym, ap, subst, ◌∙◌}
 use Rattle.std.proofs.Common.{arith}
 use Rattle.std.specs.Prelude.{if◌then◌else◌, not}
-use Rattle.st_types.specs.Loops.{TurnOf, again, exits, goes_on, over, returns, turned}
-use Rattle.st_types.specs.Ticks.{Run, follow, give}
+use Rattle.st_meaning.specs.Loops.{TurnOf, again, exits, goes_on, over, returns, turned}
+use Rattle.st_meaning.specs.Ticks.{Run, follow, give}
 use Rattle.machine_code.specs.Tracking.{Tracked}
 use Rattle.quick_code.specs.QuickSteps.{Memory}
 use Rattle.slot_trees.specs.SlotTrees.{SlotExpr}
-use Rattle.tree_code.specs.MarkedEvaluation.{marked_truth}
-use Rattle.tree_code.specs.MarkedExecution.{MarkedEnd, marked_asked, marked_back, marked_guarded, marked_loop}
-use Rattle.tree_code.specs.MarkedExecution.{marked_no_step, marked_turns, marked_until}
+use Rattle.machine_code.specs.MarkedEvaluation.{marked_truth}
+use Rattle.machine_code.specs.MarkedExecution.{MarkedEnd, marked_asked, marked_back, marked_guarded, marked_loop}
+use Rattle.machine_code.specs.MarkedExecution.{marked_no_step, marked_turns, marked_until}
 use Rattle.quick_trees.specs.Pieces.{IsLoop, IsUntil}
 use Rattle.quick_trees.specs.Points.{Part, Point, along, past_branch}
 use Rattle.quick_trees.specs.QuickMemory.{Ends}

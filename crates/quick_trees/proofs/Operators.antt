@@ -10,19 +10,19 @@ use Rattle.std.proofs.Math.IntN.{+ℤ_idr, +ℤ-neg_ℤ_cancel, neg_ℤ}
 use Rattle.std.proofs.lemmas.Int.{ints, unsigned_abs-mul, int_wrap_fits, wrapping_add_is, wrapping_mul_is}
 use Rattle.std.proofs.lemmas.Int.{wrapping_sub_is, quot-rem, quot_fits, rem_below}
 use Rattle.std.proofs.lemmas.Bool.Decides.{Decides-int_eq, Decides-like, same_from_decides}
-use Rattle.st_words.specs.declared.fault.Fault.{Fault}
-use Rattle.st_words.specs.declared.fault.Fault.TheVariants.{DivisionByZero, Range}
-use Rattle.st_words.specs.declared.kind.Kind.{Kind}
-use Rattle.st_words.specs.declared.kind.Kind.TheVariants.{Sint, Int, Dint, Lint, Usint, Uint, Udint, Ulint, Byte, Word}
-use Rattle.st_words.specs.declared.kind.Kind.TheVariants.{Dword, Lword, Time, Bool as Boolean, Enumerated}
-use Rattle.st_words.specs.declared.operator.BinaryOperator.{BinaryOperator}
-use Rattle.st_words.specs.declared.operator.BinaryOperator.TheVariants.{Or, Xor, And, Equal, NotEqual, Less, Greater}
-use Rattle.st_words.specs.declared.operator.BinaryOperator.TheVariants.{LessOrEqual, GreaterOrEqual, Add, Subtract}
-use Rattle.st_words.specs.declared.operator.BinaryOperator.TheVariants.{Multiply, Divide, Modulo}
-use Rattle.st_words.specs.Kinds.{holds, greatest}
-use Rattle.st_words.specs.Values.{Datum, IsHeld, datum_of_truth, in_range}
-use Rattle.st_words.specs.Words.{datum_at, number_at, shift_of}
-use Rattle.st_types.specs.Operators.{applied, quotient, remainder, apply_unary}
+use Rattle.st_types.specs.declared.fault.Fault.{Fault}
+use Rattle.st_types.specs.declared.fault.Fault.TheVariants.{DivisionByZero, Range}
+use Rattle.st_types.specs.declared.kind.Kind.{Kind}
+use Rattle.st_types.specs.declared.kind.Kind.TheVariants.{Sint, Int, Dint, Lint, Usint, Uint, Udint, Ulint, Byte, Word}
+use Rattle.st_types.specs.declared.kind.Kind.TheVariants.{Dword, Lword, Time, Bool as Boolean, Enumerated}
+use Rattle.st_types.specs.declared.operator.BinaryOperator.{BinaryOperator}
+use Rattle.st_types.specs.declared.operator.BinaryOperator.TheVariants.{Or, Xor, And, Equal, NotEqual, Less, Greater}
+use Rattle.st_types.specs.declared.operator.BinaryOperator.TheVariants.{LessOrEqual, GreaterOrEqual, Add, Subtract}
+use Rattle.st_types.specs.declared.operator.BinaryOperator.TheVariants.{Multiply, Divide, Modulo}
+use Rattle.st_types.specs.Kinds.{holds, greatest}
+use Rattle.st_types.specs.Values.{Datum, IsHeld, datum_of_truth, in_range}
+use Rattle.st_types.specs.Words.{datum_at, number_at, shift_of}
+use Rattle.st_meaning.specs.Operators.{applied, quotient, remainder, apply_unary}
 use Rattle.quick_code.specs.declared.operation.Operation.{Operation}
 use Rattle.quick_code.specs.declared.operation.Operation.TheVariants as op
 use Rattle.quick_code.specs.declared.operation.Signed.{Signed}
@@ -39,8 +39,8 @@ use Rattle.quick_code.specs.Words.{word_of_truth, difference, divided, kept, kin
 use Rattle.quick_trees.specs.Instructions.{branch_for, branch_for_by, branch_unless_by, branch_when, branch_when_by}
 use Rattle.quick_trees.specs.Instructions.{instr_by, truth_for, branch_unless, by_dint, by_kind, instr_for}
 use Rattle.quick_trees.proofs.Bits.{and_is, bits_of, greatest_held, greatest_is, or_is, xor_is, xor_turns}
-use Rattle.st_words.specs.declared.operator.UnaryOperator.{UnaryOperator}
-use Rattle.st_words.specs.declared.operator.UnaryOperator.TheVariants.{Negate, Not}
+use Rattle.st_types.specs.declared.operator.UnaryOperator.{UnaryOperator}
+use Rattle.st_types.specs.declared.operator.UnaryOperator.TheVariants.{Negate, Not}
 use Rattle.quick_code.specs.QuickRuns.{Left}
 use Rattle.quick_code.specs.QuickSteps.{Memory, act, look, put, with_word}
 use Rattle.quick_trees.specs.QuickMemory.{Ends, Frame}

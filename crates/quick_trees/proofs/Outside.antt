@@ -1,7 +1,7 @@
 -- Slots that have no word stay as they were.
 use Rattle.std.proofs.Common.{◌≡◌, ℕ, List, Some, refl, ap, subst, ◌∙◌}
 use Rattle.std.specs.Prelude.{slice_get, slice_set}
-use Rattle.st_words.specs.Values.{Datum}
+use Rattle.st_types.specs.Values.{Datum}
 use Rattle.machine_code.specs.Tracking.{Tracked, assigned, seen, with_mark, written}
 use Rattle.quick_trees.specs.Windows.{IsOutside, StaysOutside}
 use Rattle.quick_trees.proofs.Lists.{set_elsewhere}

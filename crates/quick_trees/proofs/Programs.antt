@@ -1,13 +1,13 @@
 -- Code of a program does what its body says.
 use Rattle.std.proofs.Common.{◌≡◌, ℕ, ◌+◌, ◌-◌, ◌≤◌, Ok, ap, subst, ◌∙◌, arith, length, []}
-use Rattle.st_types.specs.Failures.{StandIns}
+use Rattle.st_meaning.specs.Failures.{StandIns}
 use Rattle.machine_code.specs.Tracking.{Tracked}
 use Rattle.quick_code.specs.declared.quick_instr.QuickInstr.TheVariants.{End, Jump}
 use Rattle.quick_code.specs.QuickRuns.{Left, left}
 use Rattle.quick_code.specs.QuickSteps.{Memory}
 use Rattle.slot_trees.specs.SlotTrees.{SlotLibrary, SlotStmts}
 use Rattle.slot_trees.specs.SlotRuns.{state_of}
-use Rattle.tree_code.specs.MarkedRuns.{marked_ran, marked_units_within}
+use Rattle.machine_code.specs.MarkedRuns.{marked_ran, marked_units_within}
 use Rattle.quick_trees.specs.declared.noting.Noting.TheVariants.{Exact}
 use Rattle.quick_trees.specs.Calls.{quick_units}
 use Rattle.quick_trees.specs.Points.{Point, along}

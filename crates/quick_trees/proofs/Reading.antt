@@ -2,24 +2,24 @@
 use Rattle.std.proofs.Common.{◌≡◌, ℕ, zero, suc, ◌<◌, ◌≤◌, ℤ, true, List, [], ◌∷◌, length, Some, None, Ok, Err, refl}
 use Rattle.std.proofs.Common.{sym, ap, ap₂, subst, ◌∙◌, arith, ◌+◌, ◌*◌, inl, inr, ◌+ℤ◌, ◌-ℤ◌, pos, false}
 use Rattle.std.specs.Prelude.{◌⊎◌, if◌then◌else◌, slice_get}
-use Rattle.st_words.specs.declared.fault.Fault.TheVariants.{Conversion, Index}
-use Rattle.st_words.specs.declared.kind.Kind.{Kind}
-use Rattle.st_words.specs.declared.literal.Literal.{Literal}
-use Rattle.st_words.specs.declared.operator.BinaryOperator.{BinaryOperator}
-use Rattle.st_words.specs.declared.operator.BinaryOperator.TheVariants.{Add, And, Divide, Equal, Greater}
-use Rattle.st_words.specs.declared.operator.BinaryOperator.TheVariants.{GreaterOrEqual, Less, LessOrEqual, Modulo}
-use Rattle.st_words.specs.declared.operator.BinaryOperator.TheVariants.{Multiply, NotEqual, Or, Subtract, Xor}
-use Rattle.st_words.proofs.KindLemmas.{same_kind-refl}
-use Rattle.st_words.specs.Kinds.{holds, greatest}
-use Rattle.st_words.specs.Values.{Datum, IsHeld, datum_of_truth}
-use Rattle.st_words.specs.Words.{datum_at, number_at, is_wide}
-use Rattle.st_types.specs.Failures.{StandIns, failing, ill_typed, or_failure, valueless}
-use Rattle.st_types.specs.Evaluation.{known}
-use Rattle.st_types.specs.Operators.{applied, apply, apply_unary}
-use Rattle.st_types.specs.StandardFunctions.{ABS, CONVERT, LIMIT, MAX, MIN, ROL, ROR, SEL, SHL, SHR, conversion}
-use Rattle.st_types.specs.StandardFunctions.{standard_value}
-use Rattle.st_types.specs.Ticks.{attempt, fault, follow, give}
-use Rattle.st_layouts.specs.Shapes.{distance, in_bounds}
+use Rattle.st_types.specs.declared.fault.Fault.TheVariants.{Conversion, Index}
+use Rattle.st_types.specs.declared.kind.Kind.{Kind}
+use Rattle.st_types.specs.declared.literal.Literal.{Literal}
+use Rattle.st_types.specs.declared.operator.BinaryOperator.{BinaryOperator}
+use Rattle.st_types.specs.declared.operator.BinaryOperator.TheVariants.{Add, And, Divide, Equal, Greater}
+use Rattle.st_types.specs.declared.operator.BinaryOperator.TheVariants.{GreaterOrEqual, Less, LessOrEqual, Modulo}
+use Rattle.st_types.specs.declared.operator.BinaryOperator.TheVariants.{Multiply, NotEqual, Or, Subtract, Xor}
+use Rattle.st_types.proofs.KindLemmas.{same_kind-refl}
+use Rattle.st_types.specs.Kinds.{holds, greatest}
+use Rattle.st_types.specs.Values.{Datum, IsHeld, datum_of_truth}
+use Rattle.st_types.specs.Words.{datum_at, number_at, is_wide}
+use Rattle.st_meaning.specs.Failures.{StandIns, failing, ill_typed, or_failure, valueless}
+use Rattle.st_meaning.specs.Evaluation.{known}
+use Rattle.st_meaning.specs.Operators.{applied, apply, apply_unary}
+use Rattle.st_meaning.specs.StandardFunctions.{ABS, CONVERT, LIMIT, MAX, MIN, ROL, ROR, SEL, SHL, SHR, conversion}
+use Rattle.st_meaning.specs.StandardFunctions.{standard_value}
+use Rattle.st_meaning.specs.Ticks.{attempt, fault, follow, give}
+use Rattle.layout.specs.Shapes.{distance, in_bounds}
 use Rattle.machine_code.specs.Tracking.{Tracked, looked}
 use Rattle.quick_code.specs.QuickSteps.{Memory, behind, look, note, noted_read, place_behind, with_word}
 use Rattle.quick_code.specs.declared.quick_instr.QuickInstr.{QuickInstr}
@@ -31,7 +31,7 @@ use Rattle.std.proofs.lemmas.Int.{ints}
 use Rattle.slot_trees.specs.SlotTrees.{Anchor, SlotExpr, SlotExprs, binary, call, compute, constant, expr_then, load}
 use Rattle.slot_trees.specs.SlotTrees.{Subscripts, no_exprs, no_subscripts, place, subscript_then, unary}
 use Rattle.slot_trees.specs.SlotEvaluation.{slot_at}
-use Rattle.tree_code.specs.MarkedEvaluation.{MarkedScope, marked_led, marked_load, marked_value, marked_values}
+use Rattle.machine_code.specs.MarkedEvaluation.{MarkedScope, marked_led, marked_load, marked_value, marked_values}
 use Rattle.quick_trees.specs.Points.{Part, Point, next}
 use Rattle.quick_trees.specs.QuickMemory.{Ends, Frame}
 use Rattle.quick_trees.specs.Sites.{HasOwnWord, base_of}
@@ -47,8 +47,8 @@ use Rattle.quick_trees.proofs.Memories.{holds_temporary, keeps_all, keeps_below,
 use Rattle.quick_trees.proofs.Memories.{marks_of, own_value, with_look, word_here}
 use Rattle.quick_trees.proofs.Elements.{IsElement, LeadsTo, element_is, has_loaded, has_located, is_behind}
 use Rattle.quick_trees.proofs.Elements.{narrow_number, of_load, place_is}
-use Rattle.st_words.specs.declared.operator.UnaryOperator.{UnaryOperator}
-use Rattle.st_words.specs.declared.operator.UnaryOperator.TheVariants.{Negate, Not}
+use Rattle.st_types.specs.declared.operator.UnaryOperator.{UnaryOperator}
+use Rattle.st_types.specs.declared.operator.UnaryOperator.TheVariants.{Negate, Not}
 use Rattle.quick_trees.proofs.Operators.{HasApplied, has_negated, has_turned, has_turned_by, has_computed}
 use Rattle.quick_trees.proofs.Operators.{has_computed_by, has_truth}
 use Rattle.quick_trees.proofs.Truths.{then_gives, truth_held, truth_word}
@@ -57,8 +57,8 @@ use Rattle.quick_trees.specs.Functions.{IsComputedByWithin, IsComputedWithin, Is
 use Rattle.quick_trees.proofs.Computing.{has_value, moved_within}
 use Rattle.quick_trees.proofs.Operators.{difference_makes, has_made_of, has_made_of_by, IsMadeOf, sum_makes}
 use Rattle.quick_trees.proofs.Memories.{IsNoted}
-use Rattle.st_types.specs.StandardFunctions.{Standard}
-use Rattle.st_words.specs.declared.kind.Kind.TheVariants.{Bool as Boolean}
+use Rattle.st_meaning.specs.StandardFunctions.{Standard}
+use Rattle.st_types.specs.declared.kind.Kind.TheVariants.{Bool as Boolean}
 
 -- the value of a slot is loaded, which is marked
 load_gives : (t : StandIns) (tr : Tracked) (k : ℕ) (v : Datum) (n : ℕ) → slice_get tr.values k ≡ Some v → IsHeld v

@@ -2,21 +2,21 @@
 use Rattle.std.proofs.Common.{◌≡◌, ℕ, suc, ◌+◌, ◌-◌, ◌*◌, ◌≤◌, Bool, true, false, List, [], ◌∷◌, Some, Ok, refl, sym}
 use Rattle.std.proofs.Common.{ap, ap₂, subst, ◌∙◌, arith, inl, inr, ℤ, ◌+ℤ◌, None, length}
 use Rattle.std.specs.Prelude.{◌&&◌, if◌then◌else◌, not, slice_get}
-use Rattle.st_words.specs.declared.kind.Kind.{Kind}
-use Rattle.st_words.proofs.KindLemmas.{same_kind-refl}
-use Rattle.st_words.specs.Values.{IsHeld}
-use Rattle.st_words.specs.Words.{datum_at}
-use Rattle.st_types.specs.Failures.{StandIns, ill_typed, or_failure}
-use Rattle.st_types.specs.Loops.{behind, exits, goes_on, returns}
-use Rattle.st_types.specs.Ticks.{Run, ◌>>◌, attempt, follow, give, tick}
+use Rattle.st_types.specs.declared.kind.Kind.{Kind}
+use Rattle.st_types.proofs.KindLemmas.{same_kind-refl}
+use Rattle.st_types.specs.Values.{IsHeld}
+use Rattle.st_types.specs.Words.{datum_at}
+use Rattle.st_meaning.specs.Failures.{StandIns, ill_typed, or_failure}
+use Rattle.st_meaning.specs.Loops.{behind, exits, goes_on, returns}
+use Rattle.st_meaning.specs.Ticks.{Run, ◌>>◌, attempt, follow, give, tick}
 use Rattle.machine_code.specs.Tracking.{Tracked, replaced, written}
 use Rattle.quick_code.specs.QuickSteps.{Memory, look, note, noted_read, noted_written, with_word, place_behind}
 use Rattle.quick_code.specs.declared.quick_instr.QuickInstr.TheVariants.{NoteRead, NoteWritten, StoreBehind}
 use Rattle.slot_trees.specs.SlotTrees.{Anchor, Place, SlotExpr, Subscripts, no_subscripts, place, subscript_then}
 use Rattle.slot_trees.specs.SlotEvaluation.{slot_at}
 use Rattle.slot_trees.specs.SlotRuns.{state_of}
-use Rattle.tree_code.specs.MarkedEvaluation.{MarkedScope, marked_place, marked_truth, marked_value}
-use Rattle.tree_code.specs.MarkedExecution.{MarkedEnd, marked_assigning, marked_put}
+use Rattle.machine_code.specs.MarkedEvaluation.{MarkedScope, marked_place, marked_truth, marked_value}
+use Rattle.machine_code.specs.MarkedExecution.{MarkedEnd, marked_assigning, marked_put}
 use Rattle.quick_trees.specs.Pieces.{AreBoth, IsArm, IsTicked}
 use Rattle.quick_trees.specs.Points.{AllNoted, AreNoted, IsNoted, Joins, Meets, Note, Part, Point, assignment_of}
 use Rattle.quick_trees.specs.Points.{look_of}

@@ -1,15 +1,15 @@
 -- Where code that stands for a unit runs, and what the code of the functions and blocks that it calls does.
 use Rattle.std.proofs.Common.{◌≡◌, ℕ, ◌+◌, ◌<◌, ◌≤◌, ℤ, List, length, Some, Ok, []}
 use Rattle.std.specs.Prelude.{slice_get}
-use Rattle.st_words.specs.declared.kind.Kind.{Kind}
-use Rattle.st_words.specs.Values.{Datum, IsHeld}
-use Rattle.st_words.specs.Words.{datum_at}
-use Rattle.st_types.specs.Failures.{StandIns}
-use Rattle.st_types.specs.Ticks.{Run}
+use Rattle.st_types.specs.declared.kind.Kind.{Kind}
+use Rattle.st_types.specs.Values.{Datum, IsHeld}
+use Rattle.st_types.specs.Words.{datum_at}
+use Rattle.st_meaning.specs.Failures.{StandIns}
+use Rattle.st_meaning.specs.Ticks.{Run}
 use Rattle.machine_code.specs.declared.mark.Mark.{Mark}
 use Rattle.quick_code.specs.QuickRuns.{Left}
 use Rattle.quick_code.specs.QuickSteps.{Memory, look, with_word}
-use Rattle.tree_code.specs.MarkedEvaluation.{MarkedScope, MarkedUnits}
+use Rattle.machine_code.specs.MarkedEvaluation.{MarkedScope, MarkedUnits}
 use Rattle.quick_trees.specs.Points.{Point}
 use Rattle.quick_trees.specs.QuickMemory.{Ends, Frame, first_temporary}
 use Rattle.quick_trees.specs.Sites.{Site, base_of, whole}

@@ -2,23 +2,23 @@
 use Rattle.std.proofs.Common.{◌≡◌, ◌≤◌, ℕ, zero, suc, ◌+◌, ℤ, Bool, true, false, List, [], ◌∷◌, ◌++◌, length, Option}
 use Rattle.std.proofs.Common.{Some, None, Ok, refl, sym, ap, append_assoc, subst, ◌∙◌, arith, drop, take}
 use Rattle.std.specs.Prelude.{if◌then◌else◌, option_and_then, option_map, slice_get}
-use Rattle.st_words.specs.declared.kind.Kind.{Kind}
-use Rattle.st_words.specs.Kinds.{holds}
-use Rattle.st_words.specs.Values.{Datum, IsHeld}
-use Rattle.st_words.specs.Words.{datum_at, is_wide, number_at}
-use Rattle.st_types.specs.Failures.{StandIns, ill_typed, or_failure}
-use Rattle.st_types.specs.StandardBlocks.{BlockMember, StandardBlock, CTD, CTU, CTUD, F_TRIG, R_TRIG, RS, SR, TOF, TON}
-use Rattle.st_types.specs.StandardBlocks.{TP, hidden_of, inputs_of, members_of, outputs_of, stepped as stepped_block}
-use Rattle.st_types.specs.Ticks.{attempt, follow, give}
+use Rattle.st_types.specs.declared.kind.Kind.{Kind}
+use Rattle.st_types.specs.Kinds.{holds}
+use Rattle.st_types.specs.Values.{Datum, IsHeld}
+use Rattle.st_types.specs.Words.{datum_at, is_wide, number_at}
+use Rattle.st_meaning.specs.Failures.{StandIns, ill_typed, or_failure}
+use Rattle.st_meaning.specs.StandardBlocks.{BlockMember, StandardBlock, CTD, CTU, CTUD, F_TRIG, R_TRIG, RS, SR, TOF, TON}
+use Rattle.st_meaning.specs.StandardBlocks.{TP, hidden_of, inputs_of, members_of, outputs_of, stepped as stepped_block}
+use Rattle.st_meaning.specs.Ticks.{attempt, follow, give}
 use Rattle.machine_code.specs.Tracking.{Tracked, looked, written}
 use Rattle.quick_code.specs.Blocks.{all_put, data_of, held_word, held_words, input_count, member_count, stepped_words}
 use Rattle.quick_code.specs.Blocks.{words_from}
 use Rattle.quick_code.specs.QuickRuns.{Left}
 use Rattle.quick_code.specs.QuickSteps.{Memory, look, put_from, stepped_at, with_word}
 use Rattle.quick_code.specs.Words.{or_zero, word_at}
-use Rattle.tree_code.specs.MarkedEvaluation.{marked_look}
-use Rattle.tree_code.specs.MarkedExecution.{marked_put}
-use Rattle.tree_code.specs.MarkedRuns.{marked_members, marked_members_stored, marked_standard}
+use Rattle.machine_code.specs.MarkedEvaluation.{marked_look}
+use Rattle.machine_code.specs.MarkedExecution.{marked_put}
+use Rattle.machine_code.specs.MarkedRuns.{marked_members, marked_members_stored, marked_standard}
 use Rattle.quick_trees.specs.declared.noting.Noting.{Noting}
 use Rattle.quick_trees.specs.Calls.{AreMembers, IsStepped}
 use Rattle.quick_trees.specs.Notes.{AllChange, at_assignment, at_look}

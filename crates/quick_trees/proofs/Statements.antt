@@ -3,10 +3,10 @@ use Rattle.std.proofs.Common.{◌≡◌, ℕ, ◌+◌, ◌-◌, ◌≤◌, ◌+�
 use Rattle.std.proofs.Common.{subst, ◌∙◌, arith, inl, inr}
 use Rattle.std.specs.Prelude.{◌⊎◌, if◌then◌else◌, slice_get}
 use Rattle.std.specs.List.{list_any}
-use Rattle.st_words.specs.Words.{datum_at, number_at}
-use Rattle.st_types.specs.Execution.{label_holds}
-use Rattle.st_types.specs.Loops.{exits, goes_on, returns}
-use Rattle.st_types.specs.Ticks.{Run, follow, give}
+use Rattle.st_types.specs.Words.{datum_at, number_at}
+use Rattle.st_meaning.specs.Execution.{label_holds}
+use Rattle.st_meaning.specs.Loops.{exits, goes_on, returns}
+use Rattle.st_meaning.specs.Ticks.{Run, follow, give}
 use Rattle.machine_code.specs.Tracking.{Tracked}
 use Rattle.quick_code.specs.declared.quick_code.Way.{Way}
 use Rattle.quick_code.specs.QuickRuns.{Left}
@@ -16,10 +16,10 @@ use Rattle.slot_trees.specs.SlotTrees.{SlotArms, SlotCaseArms, SlotExpr, SlotStm
 use Rattle.slot_trees.specs.SlotTrees.{case_arm_then, empty, EXIT, FOR, IF, invoke, no_arms, no_case_arms, no_stmts}
 use Rattle.slot_trees.specs.SlotTrees.{no_subscripts, place, REPEAT, RETURN, stmt_then, subscript_then, WHILE}
 use Rattle.slot_trees.specs.SlotEvaluation.{slot_at}
-use Rattle.tree_code.specs.MarkedEvaluation.{MarkedScope, marked_truth, marked_value}
-use Rattle.tree_code.specs.MarkedExecution.{MarkedEnd, marked_assigning, marked_counting, marked_exec, marked_exec_all}
-use Rattle.tree_code.specs.MarkedExecution.{marked_exec_arms, marked_exec_case, marked_guarded, marked_loop}
-use Rattle.tree_code.specs.MarkedExecution.{marked_no_step, marked_until, marked_invoking}
+use Rattle.machine_code.specs.MarkedEvaluation.{MarkedScope, marked_truth, marked_value}
+use Rattle.machine_code.specs.MarkedExecution.{MarkedEnd, marked_assigning, marked_counting, marked_exec, marked_exec_all}
+use Rattle.machine_code.specs.MarkedExecution.{marked_exec_arms, marked_exec_case, marked_guarded, marked_loop}
+use Rattle.machine_code.specs.MarkedExecution.{marked_no_step, marked_until, marked_invoking}
 use Rattle.quick_trees.specs.Pieces.{AreBoth, IsArm, IsLoop, IsUntil}
 use Rattle.quick_trees.specs.Points.{Joins, Meets, Part, along}
 use Rattle.quick_trees.specs.QuickMemory.{Ends, Frame}

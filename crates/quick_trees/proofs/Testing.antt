@@ -2,19 +2,19 @@
 use Rattle.std.proofs.Common.{◌≡◌, ℕ, suc, ◌+◌, ◌≤◌, pos, Bool, true, false, Ok, sym, ap, subst, ◌∙◌, arith, inl, inr}
 use Rattle.std.specs.Prelude.{◌⊎◌, not}
 use Rattle.std.specs.Ordering.{int_eq}
-use Rattle.st_words.specs.declared.kind.Kind.{Kind}
-use Rattle.st_words.specs.declared.kind.Kind.TheVariants.{Bool as Boolean}
-use Rattle.st_words.specs.declared.operator.UnaryOperator.TheVariants.{Negate, Not}
-use Rattle.st_words.specs.Values.{datum_of_truth}
-use Rattle.st_types.specs.Failures.{failing}
-use Rattle.st_types.specs.Operators.{apply_unary, truth}
-use Rattle.st_types.specs.Ticks.{attempt, follow, give}
+use Rattle.st_types.specs.declared.kind.Kind.{Kind}
+use Rattle.st_types.specs.declared.kind.Kind.TheVariants.{Bool as Boolean}
+use Rattle.st_types.specs.declared.operator.UnaryOperator.TheVariants.{Negate, Not}
+use Rattle.st_types.specs.Values.{datum_of_truth}
+use Rattle.st_meaning.specs.Failures.{failing}
+use Rattle.st_meaning.specs.Operators.{apply_unary, truth}
+use Rattle.st_meaning.specs.Ticks.{attempt, follow, give}
 use Rattle.machine_code.specs.Tracking.{Tracked}
 use Rattle.quick_code.specs.declared.quick_code.Way.{Way}
 use Rattle.quick_code.specs.QuickSteps.{Memory, act, look}
 use Rattle.slot_trees.specs.SlotTrees.{SlotExpr, binary, call, compute, constant, load, no_subscripts, place}
 use Rattle.slot_trees.specs.SlotTrees.{subscript_then, unary}
-use Rattle.tree_code.specs.MarkedEvaluation.{MarkedScope, marked_truth, marked_value}
+use Rattle.machine_code.specs.MarkedEvaluation.{MarkedScope, marked_truth, marked_value}
 use Rattle.quick_trees.specs.Instructions.{truth_branch}
 use Rattle.quick_trees.specs.Pieces.{IsMoved, IsTemporary, IsTested}
 use Rattle.quick_trees.specs.Points.{Point}

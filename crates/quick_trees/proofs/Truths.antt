@@ -3,13 +3,13 @@ use Rattle.std.proofs.Common.{◌≡◌, ℕ, zero, suc, ℤ, pos, negsuc, Bool,
 use Rattle.std.specs.Prelude.{not}
 use Rattle.std.specs.Ordering.{int_eq}
 use Rattle.std.proofs.lemmas.Int.{ints}
-use Rattle.st_words.specs.declared.fault.Fault.{Fault}
-use Rattle.st_words.specs.declared.kind.Kind.TheVariants.{Bool as Boolean}
-use Rattle.st_words.specs.declared.operator.UnaryOperator.TheVariants.{Not}
-use Rattle.st_words.specs.Values.{IsHeld, datum_of_truth}
-use Rattle.st_words.specs.Words.{datum_at}
-use Rattle.st_types.specs.Operators.{apply_unary, truth}
-use Rattle.st_types.specs.Ticks.{Run, follow}
+use Rattle.st_types.specs.declared.fault.Fault.{Fault}
+use Rattle.st_types.specs.declared.kind.Kind.TheVariants.{Bool as Boolean}
+use Rattle.st_types.specs.declared.operator.UnaryOperator.TheVariants.{Not}
+use Rattle.st_types.specs.Values.{IsHeld, datum_of_truth}
+use Rattle.st_types.specs.Words.{datum_at}
+use Rattle.st_meaning.specs.Operators.{apply_unary, truth}
+use Rattle.st_meaning.specs.Ticks.{Run, follow}
 use Rattle.quick_code.specs.Words.{word_of_truth}
 use Rattle.quick_trees.proofs.Operators.{turn_for}
 

@@ -1,6 +1,6 @@
 -- A worked example of an array with three subscripts.
 use Rattle.std.specs.Prelude.{ℕ, pos, negsuc, List, [], ◌∷◌}
-use Rattle.st_words.specs.declared.kind.Kind.TheVariants.{Int}
+use Rattle.st_types.specs.declared.kind.Kind.TheVariants.{Int}
 use Rattle.machine_code.specs.declared.mark.Mark.{Mark}
 use Rattle.machine_code.specs.Tracking.{Tracked, tracked}
 use Rattle.quick_code.specs.declared.quick_instr.QuickInstr.{QuickInstr}

@@ -1,7 +1,7 @@
 -- A worked example of calls, whose input stays where the argument is.
 use Rattle.std.specs.Prelude.{ℕ, pos, List, [], ◌∷◌}
-use Rattle.st_words.specs.declared.kind.Kind.TheVariants.{Int}
-use Rattle.st_words.specs.declared.operator.BinaryOperator.TheVariants.{Add}
+use Rattle.st_types.specs.declared.kind.Kind.TheVariants.{Int}
+use Rattle.st_types.specs.declared.operator.BinaryOperator.TheVariants.{Add}
 use Rattle.quick_code.specs.declared.quick_instr.QuickInstr.{QuickInstr}
 use Rattle.quick_code.specs.declared.quick_instr.QuickInstr.TheVariants.{AddInt, End, Jump, Move, NoteRead, NoteWritten}
 use Rattle.quick_code.specs.declared.quick_instr.QuickInstr.TheVariants.{Set}

@@ -1,14 +1,14 @@
 -- Quick code of functions and blocks in the place of their calls.
 use Rattle.std.specs.Prelude.{◌≡◌, ◌≤◌, ◌+◌, ◌⊎◌, ℕ, ℤ, zero, suc, true, false, List, [], ◌∷◌, length, map, Some}
 use Rattle.std.specs.Prelude.{slice_get}
-use Rattle.st_words.specs.declared.kind.Kind.{Kind}
-use Rattle.st_words.specs.Values.{Datum, IsHeld}
-use Rattle.st_words.specs.Words.{datum_at}
+use Rattle.st_types.specs.declared.kind.Kind.{Kind}
+use Rattle.st_types.specs.Values.{Datum, IsHeld}
+use Rattle.st_types.specs.Words.{datum_at}
 use Rattle.quick_code.specs.declared.quick_instr.QuickInstr.TheVariants.{Move, Set, Step}
 use Rattle.quick_code.specs.Blocks.{member_count}
-use Rattle.st_types.specs.StandardBlocks.{BlockMember, StandardBlock, members_of}
-use Rattle.st_names.specs.Standard.{block_view}
-use Rattle.st_names.specs.declared.standard_blocks.StandardBlock as code_block
+use Rattle.st_meaning.specs.StandardBlocks.{BlockMember, StandardBlock, members_of}
+use Rattle.symbols.specs.Standard.{block_view}
+use Rattle.symbols.specs.declared.standard_blocks.StandardBlock as code_block
 use Rattle.quick_trees.specs.declared.noting.Noting.{Noting}
 use Rattle.quick_trees.specs.Notes.{AllChange, at_assignment, at_look}
 use Rattle.slot_trees.specs.SlotTrees.{BlockCode, SlotFunction, SlotLibrary, SlotStmts, own_block, standard_block}

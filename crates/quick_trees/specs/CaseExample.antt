@@ -1,7 +1,7 @@
 -- A worked example of a CASE by a table.
 use Rattle.std.specs.Prelude.{ℕ, pos, negsuc, List, [], ◌∷◌}
-use Rattle.st_words.specs.declared.kind.Kind.TheVariants.{Int}
-use Rattle.st_trees.specs.declared.statement.Label.TheVariants.{Range, Single}
+use Rattle.st_types.specs.declared.kind.Kind.TheVariants.{Int}
+use Rattle.st_types.specs.declared.statement.Label.TheVariants.{Range, Single}
 use Rattle.quick_code.specs.declared.quick_code.Way.{Way}
 use Rattle.quick_code.specs.declared.quick_instr.QuickInstr.{QuickInstr}
 use Rattle.quick_code.specs.declared.quick_instr.QuickInstr.TheVariants.{End, Jump, Move, NoteRead, NoteWritten, Set}

@@ -1,9 +1,9 @@
 -- A worked example of an IF that assigns one of two values.
 use Rattle.std.specs.Prelude.{ℕ, pos, List, [], ◌∷◌, false, None, Some}
-use Rattle.st_words.specs.declared.kind.Kind.TheVariants.{Word}
-use Rattle.st_words.specs.declared.literal.Literal.TheVariants as literals
-use Rattle.st_words.specs.declared.operator.BinaryOperator.TheVariants.{And, NotEqual, Xor}
-use Rattle.st_words.specs.Values.{Datum}
+use Rattle.st_types.specs.declared.kind.Kind.TheVariants.{Word}
+use Rattle.st_types.specs.declared.literal.Literal.TheVariants as literals
+use Rattle.st_types.specs.declared.operator.BinaryOperator.TheVariants.{And, NotEqual, Xor}
+use Rattle.st_types.specs.Values.{Datum}
 use Rattle.machine_code.specs.declared.mark.Mark.{Mark}
 use Rattle.machine_code.specs.Tracking.{Tracked, tracked}
 use Rattle.quick_code.specs.declared.quick_instr.QuickInstr.{QuickInstr}

@@ -1,8 +1,8 @@
 -- A worked example of constants in instructions.
 use Rattle.std.specs.Prelude.{ℕ, pos, negsuc, List, [], ◌∷◌, Some}
-use Rattle.st_words.specs.declared.kind.Kind.TheVariants.{Dint, Int}
-use Rattle.st_words.specs.declared.literal.Literal.TheVariants as literals
-use Rattle.st_words.specs.declared.operator.BinaryOperator.TheVariants.{Divide, Multiply, Subtract}
+use Rattle.st_types.specs.declared.kind.Kind.TheVariants.{Dint, Int}
+use Rattle.st_types.specs.declared.literal.Literal.TheVariants as literals
+use Rattle.st_types.specs.declared.operator.BinaryOperator.TheVariants.{Divide, Multiply, Subtract}
 use Rattle.machine_code.specs.declared.mark.Mark.{Mark}
 use Rattle.machine_code.specs.Tracking.{Tracked, tracked}
 use Rattle.quick_code.specs.declared.quick_instr.QuickInstr.{QuickInstr}

@@ -1,8 +1,8 @@
 -- A worked example of a WHILE in two instructions a turn, which names one slot of many.
 use Rattle.std.specs.Prelude.{ℕ, pos, List, [], ◌∷◌}
-use Rattle.st_words.specs.declared.kind.Kind.TheVariants.{Bool as Boolean, Int}
-use Rattle.st_words.specs.Values.{Datum}
-use Rattle.st_words.specs.declared.operator.BinaryOperator.TheVariants.{Less}
+use Rattle.st_types.specs.declared.kind.Kind.TheVariants.{Bool as Boolean, Int}
+use Rattle.st_types.specs.Values.{Datum}
+use Rattle.st_types.specs.declared.operator.BinaryOperator.TheVariants.{Less}
 use Rattle.machine_code.specs.declared.mark.Mark.{Mark}
 use Rattle.machine_code.specs.Tracking.{Tracked, tracked}
 use Rattle.quick_code.specs.declared.quick_instr.QuickInstr.{QuickInstr}

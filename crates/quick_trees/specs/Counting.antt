@@ -1,10 +1,10 @@
 -- How a FOR counts.
 use Rattle.std.specs.Prelude.{◌≡◌, ◌<◌, ◌⊎◌, ℕ, ℤ, suc, pos, negsuc, Option, Some, None, slice_get}
-use Rattle.st_words.specs.declared.kind.Kind.{Kind}
-use Rattle.st_words.specs.declared.kind.Kind.TheVariants.{Dint, Int, Lint, Ulint}
-use Rattle.st_words.specs.declared.operator.BinaryOperator.TheVariants.{Add}
-use Rattle.st_words.specs.Values.{IsHeld}
-use Rattle.st_words.specs.Words.{datum_at}
+use Rattle.st_types.specs.declared.kind.Kind.{Kind}
+use Rattle.st_types.specs.declared.kind.Kind.TheVariants.{Dint, Int, Lint, Ulint}
+use Rattle.st_types.specs.declared.operator.BinaryOperator.TheVariants.{Add}
+use Rattle.st_types.specs.Values.{IsHeld}
+use Rattle.st_types.specs.Words.{datum_at}
 use Rattle.quick_code.specs.declared.quick_code.Way.{Way}
 use Rattle.quick_code.specs.declared.quick_instr.QuickInstr.TheVariants.{AddLint, AddLintBy, CountDownDint}
 use Rattle.quick_code.specs.declared.quick_instr.QuickInstr.TheVariants.{CountDownInt, CountUpDint, CountUpInt, Select}

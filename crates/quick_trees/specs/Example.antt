@@ -1,10 +1,10 @@
 -- A worked example: a program, and quick code that stands for it.
 use Rattle.std.specs.Prelude.{ℕ, ℤ, pos, List, [], ◌∷◌, Bool, false, None, Some}
-use Rattle.st_words.specs.declared.kind.Kind.TheVariants.{Int}
-use Rattle.st_words.specs.declared.literal.Literal.TheVariants as literals
-use Rattle.st_words.specs.declared.literal.Number.{Number}
-use Rattle.st_words.specs.declared.operator.BinaryOperator.TheVariants.{Add, Less}
-use Rattle.st_words.specs.Values.{Datum}
+use Rattle.st_types.specs.declared.kind.Kind.TheVariants.{Int}
+use Rattle.st_types.specs.declared.literal.Literal.TheVariants as literals
+use Rattle.st_types.specs.declared.literal.Number.{Number}
+use Rattle.st_types.specs.declared.operator.BinaryOperator.TheVariants.{Add, Less}
+use Rattle.st_types.specs.Values.{Datum}
 use Rattle.machine_code.specs.declared.mark.Mark.{Mark}
 use Rattle.machine_code.specs.Tracking.{Tracked, tracked}
 use Rattle.quick_code.specs.declared.quick_code.Way.{Way}

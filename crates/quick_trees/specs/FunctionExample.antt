@@ -1,7 +1,7 @@
 -- A worked example of standard functions, the one of which is the other's argument.
 use Rattle.std.specs.Prelude.{ℕ, pos, List, [], ◌∷◌}
-use Rattle.st_words.specs.declared.kind.Kind.TheVariants.{Int, Word}
-use Rattle.st_types.specs.StandardFunctions.{CONVERT, SHR}
+use Rattle.st_types.specs.declared.kind.Kind.TheVariants.{Int, Word}
+use Rattle.st_meaning.specs.StandardFunctions.{CONVERT, SHR}
 use Rattle.machine_code.specs.declared.mark.Mark.{Mark}
 use Rattle.machine_code.specs.Tracking.{Tracked, tracked}
 use Rattle.quick_code.specs.declared.quick_instr.QuickInstr.{QuickInstr}

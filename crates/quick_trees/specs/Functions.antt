@@ -1,11 +1,11 @@
 -- Quick code of standard functions, whose arguments are in words, and of operators on types that have no instructions.
 use Rattle.std.specs.Prelude.{◌≡◌, ◌<◌, ◌+◌, ◌-◌, ◌^◌, ℕ, ℤ, suc, pos, false, List, [], ◌∷◌, length, Some, slice_get}
-use Rattle.st_words.specs.declared.kind.Kind.{Kind}
-use Rattle.st_words.specs.declared.kind.Kind.TheVariants.{Bool as Boolean, Lint}
-use Rattle.st_words.specs.declared.operator.BinaryOperator.{BinaryOperator}
-use Rattle.st_words.specs.Kinds.{greatest, least, row_of}
-use Rattle.st_words.specs.Words.{is_wide}
-use Rattle.st_types.specs.StandardFunctions.{ABS, CONVERT, LIMIT, MAX, MIN, ROL, ROR, SEL, SHL, SHR, Standard}
+use Rattle.st_types.specs.declared.kind.Kind.{Kind}
+use Rattle.st_types.specs.declared.kind.Kind.TheVariants.{Bool as Boolean, Lint}
+use Rattle.st_types.specs.declared.operator.BinaryOperator.{BinaryOperator}
+use Rattle.st_types.specs.Kinds.{greatest, least, row_of}
+use Rattle.st_types.specs.Words.{is_wide}
+use Rattle.st_meaning.specs.StandardFunctions.{ABS, CONVERT, LIMIT, MAX, MIN, ROL, ROR, SEL, SHL, SHR, Standard}
 use Rattle.quick_code.specs.declared.quick_instr.QuickInstr.TheVariants.{AtMost, MoveWithin, Select, ShiftRight}
 use Rattle.quick_code.specs.declared.quick_instr.QuickInstr.TheVariants.{AddLint, And, MultiplyLint, SubtractLint}
 use Rattle.quick_trees.specs.Points.{Part, Point, next}

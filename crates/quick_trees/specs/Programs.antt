@@ -1,12 +1,12 @@
 -- Quick code of a program, and how the program ends that it stands for.
 use Rattle.std.specs.Prelude.{◌≡◌, ℕ, length, replicate, Some, slice_get, Result, Ok}
-use Rattle.st_words.specs.declared.fault.Fault.{Fault}
+use Rattle.st_types.specs.declared.fault.Fault.{Fault}
 use Rattle.quick_code.specs.declared.quick_code.Way.{Way}
 use Rattle.quick_code.specs.declared.quick_instr.QuickInstr.TheVariants.{End, Jump}
 use Rattle.quick_code.specs.QuickRuns.{Left}
 use Rattle.slot_trees.specs.SlotTrees.{SlotLibrary, SlotStmts}
 use Rattle.slot_trees.specs.SlotRuns.{state_of}
-use Rattle.tree_code.specs.MarkedExecution.{MarkedEnd}
+use Rattle.machine_code.specs.MarkedExecution.{MarkedEnd}
 use Rattle.quick_trees.specs.declared.noting.Noting.TheVariants.{Exact}
 use Rattle.quick_trees.specs.Points.{Point, along, Joins}
 use Rattle.quick_trees.specs.QuickMemory.{Frame, first_temporary}

@@ -1,7 +1,7 @@
 -- A worked example of a REPEAT that an EXIT may leave.
 use Rattle.std.specs.Prelude.{pos, List, [], ◌∷◌}
-use Rattle.st_words.specs.declared.kind.Kind.TheVariants.{Int}
-use Rattle.st_words.specs.declared.operator.BinaryOperator.TheVariants.{Add, Equal, Greater}
+use Rattle.st_types.specs.declared.kind.Kind.TheVariants.{Int}
+use Rattle.st_types.specs.declared.operator.BinaryOperator.TheVariants.{Add, Equal, Greater}
 use Rattle.quick_code.specs.declared.quick_instr.QuickInstr.{QuickInstr}
 use Rattle.quick_code.specs.declared.quick_instr.QuickInstr.TheVariants.{AddIntBy, End, Jump, NoteRead, NoteWritten}
 use Rattle.quick_code.specs.declared.quick_instr.QuickInstr.TheVariants.{WhenAtMost, WhenNotEqualTo}

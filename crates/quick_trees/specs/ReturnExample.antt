@@ -1,8 +1,8 @@
 -- A worked example of a function that counts down and returns from within its loop.
 use Rattle.std.specs.Prelude.{ℕ, pos, negsuc, List, [], ◌∷◌, true, Some}
-use Rattle.st_words.specs.declared.kind.Kind.TheVariants.{Int}
-use Rattle.st_words.specs.declared.literal.Literal.TheVariants as literals
-use Rattle.st_words.specs.declared.operator.BinaryOperator.TheVariants.{Less}
+use Rattle.st_types.specs.declared.kind.Kind.TheVariants.{Int}
+use Rattle.st_types.specs.declared.literal.Literal.TheVariants as literals
+use Rattle.st_types.specs.declared.operator.BinaryOperator.TheVariants.{Less}
 use Rattle.quick_code.specs.declared.quick_instr.QuickInstr.{QuickInstr}
 use Rattle.quick_code.specs.declared.quick_instr.QuickInstr.TheVariants.{CountDownInt, End, Jump, Move, NoteRead}
 use Rattle.quick_code.specs.declared.quick_instr.QuickInstr.TheVariants.{NoteWritten, Set, WhenFrom, WhenLess}

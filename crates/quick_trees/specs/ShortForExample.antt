@@ -1,8 +1,8 @@
 -- A worked example of a FOR over a type of 8 bits, whose step is another than 1.
 use Rattle.std.specs.Prelude.{ℕ, pos, List, [], ◌∷◌, Some}
-use Rattle.st_words.specs.declared.kind.Kind.TheVariants.{Usint}
-use Rattle.st_words.specs.declared.literal.Literal.TheVariants as literals
-use Rattle.st_words.specs.Values.{Datum}
+use Rattle.st_types.specs.declared.kind.Kind.TheVariants.{Usint}
+use Rattle.st_types.specs.declared.literal.Literal.TheVariants as literals
+use Rattle.st_types.specs.Values.{Datum}
 use Rattle.machine_code.specs.declared.mark.Mark.{Mark}
 use Rattle.machine_code.specs.Tracking.{Tracked, tracked}
 use Rattle.quick_code.specs.declared.quick_instr.QuickInstr.{QuickInstr}

@@ -1,8 +1,8 @@
 -- A worked example of a number with its sign turned, and of bits that are turned.
 use Rattle.std.specs.Prelude.{ℕ, ℤ, pos, List, [], ◌∷◌}
-use Rattle.st_words.specs.declared.kind.Kind.TheVariants.{Bool as Boolean, Dword, Int}
-use Rattle.st_words.specs.declared.operator.UnaryOperator.TheVariants.{Negate, Not}
-use Rattle.st_words.specs.Values.{Datum}
+use Rattle.st_types.specs.declared.kind.Kind.TheVariants.{Bool as Boolean, Dword, Int}
+use Rattle.st_types.specs.declared.operator.UnaryOperator.TheVariants.{Negate, Not}
+use Rattle.st_types.specs.Values.{Datum}
 use Rattle.machine_code.specs.declared.mark.Mark.{Mark}
 use Rattle.machine_code.specs.Tracking.{Tracked, tracked}
 use Rattle.quick_code.specs.declared.quick_instr.QuickInstr.{QuickInstr}

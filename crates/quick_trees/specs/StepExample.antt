@@ -1,9 +1,9 @@
 -- A worked example of a standard block that is called on an instance.
 use Rattle.std.specs.Prelude.{ℕ, pos, List, [], ◌∷◌}
-use Rattle.st_words.specs.declared.kind.Kind.TheVariants.{Bool as Boolean}
-use Rattle.st_words.specs.Values.{Datum}
-use Rattle.st_names.specs.declared.standard_blocks.StandardBlock.TheVariants.{RTrig}
-use Rattle.st_types.specs.StandardBlocks.{R_TRIG}
+use Rattle.st_types.specs.declared.kind.Kind.TheVariants.{Bool as Boolean}
+use Rattle.st_types.specs.Values.{Datum}
+use Rattle.symbols.specs.declared.standard_blocks.StandardBlock.TheVariants.{RTrig}
+use Rattle.st_meaning.specs.StandardBlocks.{R_TRIG}
 use Rattle.machine_code.specs.declared.mark.Mark.{Mark}
 use Rattle.machine_code.specs.Tracking.{Tracked, tracked}
 use Rattle.quick_code.specs.declared.quick_instr.QuickInstr.{QuickInstr}

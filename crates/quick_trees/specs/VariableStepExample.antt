@@ -1,7 +1,7 @@
 -- A worked example of a FOR whose step is a variable, which its body assigns.
 use Rattle.std.specs.Prelude.{ℕ, ℤ, pos, List, [], ◌∷◌, Some}
-use Rattle.st_words.specs.declared.kind.Kind.TheVariants.{Int}
-use Rattle.st_words.specs.Values.{Datum}
+use Rattle.st_types.specs.declared.kind.Kind.TheVariants.{Int}
+use Rattle.st_types.specs.Values.{Datum}
 use Rattle.machine_code.specs.declared.mark.Mark.{Mark}
 use Rattle.machine_code.specs.Tracking.{Tracked, tracked}
 use Rattle.quick_code.specs.declared.quick_instr.QuickInstr.{QuickInstr}

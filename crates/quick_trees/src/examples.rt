@@ -1,9 +1,9 @@
 //! Worked examples, proved by computation.
 
 ghost use Rattle.std.specs.Prelude.{◌≡◌, Ok, Some, None, [], ◌∷◌, pos, negsuc, false, true};
-ghost use Rattle.st_types.specs.Failures.{in_runs};
-ghost use Rattle.st_types.specs.Loops.{goes_on};
-ghost use Rattle.tree_code.specs.MarkedRuns.{marked_ran};
+ghost use Rattle.st_meaning.specs.Failures.{in_runs};
+ghost use Rattle.st_meaning.specs.Loops.{goes_on};
+ghost use Rattle.machine_code.specs.MarkedRuns.{marked_ran};
 ghost use Rattle.quick_code.specs.QuickRuns.{exec, left};
 ghost use Rattle.quick_trees.specs.ArrayExample.{array_body, array_code, array_frame, array_slots, array_words};
 ghost use Rattle.quick_trees.specs.BlockExample.{block_body, block_code, block_frame, block_library, block_slots};

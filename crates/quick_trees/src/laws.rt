@@ -1,10 +1,10 @@
 //! The law of quick code, proved of the definitions. The function does nothing: its contract is the law.
 
 ghost use Rattle.std.specs.Prelude.{◌≤◌, ℕ, List};
-ghost use Rattle.st_types.specs.Failures.{StandIns};
+ghost use Rattle.st_meaning.specs.Failures.{StandIns};
 ghost use Rattle.machine_code.specs.Tracking.{Tracked};
 ghost use Rattle.slot_trees.specs.SlotTrees.{SlotLibrary, SlotStmts};
-ghost use Rattle.tree_code.specs.MarkedRuns.{marked_ran};
+ghost use Rattle.machine_code.specs.MarkedRuns.{marked_ran};
 ghost use Rattle.quick_code.specs.QuickRuns.{Left};
 ghost use Rattle.quick_code.specs.QuickSteps.{Memory};
 ghost use Rattle.quick_trees.specs.QuickMemory.{Ends, Frame};

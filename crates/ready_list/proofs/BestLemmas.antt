@@ -3,10 +3,10 @@ use Rattle.std.proofs.Common.{◌≡◌, ℕ, ◌+◌, ◌<◌, inl, inr, Bool, 
 use Rattle.std.proofs.Common.{Some, None, option_map, refl, sym, ap, subst, arith}
 use Rattle.std.proofs.lemmas.Bool.{eq-eqb}
 use Rattle.std.proofs.lemmas.Bool.Decides.{nat_tests, eqb_tells}
-use Rattle.st_plans.specs.declared.entry.Activation.{Activation}
-use Rattle.st_plans.specs.declared.plan.Schedule.{Schedule}
-use Rattle.st_plans.specs.Due.{History, schedule_at, Waits, NoneWaits, IsBest, sooner, comes_first}
-use Rattle.st_plans.proofs.DueLemmas.{Waits-there}
+use Rattle.st_types.specs.declared.entry.Activation.{Activation}
+use Rattle.st_meaning.specs.declared.plan.Schedule.{Schedule}
+use Rattle.st_meaning.specs.Due.{History, schedule_at, Waits, NoneWaits, IsBest, sooner, comes_first}
+use Rattle.st_meaning.proofs.DueLemmas.{Waits-there}
 use Rattle.ready_list.specs.declared.standing.Standing.{Standing}
 use Rattle.ready_list.specs.Ready.{Ready, stand_at, offered, offered_at, sooner_of, IsFirst, IsReadyOf}
 use Rattle.ready_list.proofs.ReadyLemmas.{listed-waits, waits-listed}

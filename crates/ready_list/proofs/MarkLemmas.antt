@@ -4,8 +4,8 @@ use Rattle.std.proofs.Common.{arith, length-set}
 use Rattle.std.proofs.lemmas.List.{get_or-set_other}
 use Rattle.std.proofs.lemmas.Grind.{get_or-set_at}
 use Rattle.std.proofs.lemmas.Bool.Decides.{eqb_tells}
-use Rattle.st_plans.specs.declared.plan.Schedule.{Schedule}
-use Rattle.st_plans.specs.Due.{schedule_at}
+use Rattle.st_meaning.specs.declared.plan.Schedule.{Schedule}
+use Rattle.st_meaning.specs.Due.{schedule_at}
 use Rattle.ready_list.specs.declared.standing.Standing.{Standing}
 use Rattle.ready_list.specs.declared.standing.NewRow.{NewRow}
 use Rattle.ready_list.specs.Ready.{stand_at, is_due_at, marked}

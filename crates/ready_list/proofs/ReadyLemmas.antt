@@ -7,13 +7,13 @@ use Rattle.std.proofs.lemmas.List.{get_or-set_other, get_or_past}
 use Rattle.std.proofs.lemmas.Grind.{get_or-set_at}
 use Rattle.std.proofs.lemmas.Bool.{eq-eqb}
 use Rattle.std.proofs.lemmas.Bool.Decides.{nat_tests, eqb_tells, leb_tells}
-use Rattle.st_plans.specs.declared.entry.Activation.{Activation}
-use Rattle.st_plans.specs.declared.plan.Schedule.{Schedule}
-use Rattle.st_plans.specs.Due.{SampledRow, History, sample, sampled_at, rule, schedule_at, due, served, run_count}
-use Rattle.st_plans.specs.Due.{due_count, Waits, HasOverruns, with_row, with_run}
-use Rattle.st_plans.proofs.DueLemmas.{due-past, due-old, due-new, is_due-new, due_count-new, served-add, run_count-add}
-use Rattle.st_plans.proofs.DueLemmas.{row_now-old, row_now-new, Waits-same, Waits-there}
-use Rattle.st_plans.proofs.OverrunLemmas.{waits_on}
+use Rattle.st_types.specs.declared.entry.Activation.{Activation}
+use Rattle.st_meaning.specs.declared.plan.Schedule.{Schedule}
+use Rattle.st_meaning.specs.Due.{SampledRow, History, sample, sampled_at, rule, schedule_at, due, served, run_count}
+use Rattle.st_meaning.specs.Due.{due_count, Waits, HasOverruns, with_row, with_run}
+use Rattle.st_meaning.proofs.DueLemmas.{due-past, due-old, due-new, is_due-new, due_count-new, served-add, run_count-add}
+use Rattle.st_meaning.proofs.DueLemmas.{row_now-old, row_now-new, Waits-same, Waits-there}
+use Rattle.st_meaning.proofs.OverrunLemmas.{waits_on}
 use Rattle.ready_list.specs.declared.standing.Standing.{Standing}
 use Rattle.ready_list.specs.declared.standing.NewRow.{NewRow}
 use Rattle.ready_list.specs.Ready.{Ready, stand_at, marked, marked_at, AreMarked, HasStanding, IsReadyOf}

@@ -1,11 +1,11 @@
 -- The schedules of the code's plan are those of the plan that it stands for.
 use Rattle.std.proofs.Common.{◌≡◌, ℕ, zero, suc, List, [], ◌∷◌, map, refl}
-use Rattle.st_trees.specs.Sources.{Source}
-use Rattle.st_plans.specs.declared.plan.PlanVariable.{PlanVariable}
-use Rattle.st_plans.specs.Plans.{task_at, schedule_of}
-use Rattle.config.specs.declared.task.Task.{Task}
-use Rattle.config.specs.declared.task.ProgramInstance.{ProgramInstance}
-use Rattle.config.specs.PlanViews.{task_view, program_view}
+use Rattle.st_types.specs.Sources.{Source}
+use Rattle.st_meaning.specs.declared.plan.PlanVariable.{PlanVariable}
+use Rattle.st_meaning.specs.Plans.{task_at, schedule_of}
+use Rattle.plan.specs.declared.task.Task.{Task}
+use Rattle.plan.specs.declared.task.ProgramInstance.{ProgramInstance}
+use Rattle.plan.specs.PlanViews.{task_view, program_view}
 use Rattle.ready_list.specs.Schedules.{code_task_at, code_schedule}
 
 interval-same : (variables : List PlanVariable) (tasks : List Task) (t : ℕ)

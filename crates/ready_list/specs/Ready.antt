@@ -1,10 +1,10 @@
 -- What the ready list keeps.
 use Rattle.std.specs.Prelude.{◌≡◌, ℕ, ◌+◌, ◌-◌, ◌<◌, ◌≤◌, Bool, true, false, ◌&&◌, ◌==◌, not, List, length, Option}
 use Rattle.std.specs.Prelude.{Some, None, option_map, if◌then◌else◌, slice_index_or}
-use Rattle.st_plans.specs.declared.entry.Activation.{Activation}
-use Rattle.st_plans.specs.declared.plan.Schedule.{Schedule}
-use Rattle.st_plans.specs.Due.{History, sample, sampled_at, rule, schedule_at, due, served, Waits, sooner, due_count}
-use Rattle.st_plans.specs.Due.{run_count, with_run}
+use Rattle.st_types.specs.declared.entry.Activation.{Activation}
+use Rattle.st_meaning.specs.declared.plan.Schedule.{Schedule}
+use Rattle.st_meaning.specs.Due.{History, sample, sampled_at, rule, schedule_at, due, served, Waits, sooner, due_count}
+use Rattle.st_meaning.specs.Due.{run_count, with_run}
 use Rattle.ready_list.specs.declared.standing.Standing.{Standing}
 use Rattle.ready_list.specs.declared.standing.NewRow.{NewRow}
 

@@ -1,9 +1,9 @@
 -- Where the programs of the code's plan run.
 use Rattle.std.specs.Prelude.{ℕ, List, slice_index_or}
-use Rattle.st_plans.specs.declared.plan.Schedule.{Schedule}
-use Rattle.config.specs.declared.task.Trigger.TheVariants.{Absent}
-use Rattle.config.specs.declared.task.Task.{Task}
-use Rattle.config.specs.declared.task.ProgramInstance.{ProgramInstance}
+use Rattle.st_meaning.specs.declared.plan.Schedule.{Schedule}
+use Rattle.plan.specs.declared.task.Trigger.TheVariants.{Absent}
+use Rattle.plan.specs.declared.task.Task.{Task}
+use Rattle.plan.specs.declared.task.ProgramInstance.{ProgramInstance}
 
 abbrev pub code_task_at : List Task → ℕ → Task
 code_task_at tasks t = slice_index_or tasks t record { resource = 0; single = Absent; interval = 0; priority = 0 }

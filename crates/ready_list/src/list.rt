@@ -2,17 +2,18 @@
 
 ghost use Rattle.std.specs.Prelude.{◌≡◌, ◌+◌, ◌≤◌, ◌<◌, ◌^◌, ◌↔◌, ℕ, IsTrue, Some, None, false, if◌then◌else◌, length};
 ghost use Rattle.std.specs.Prelude.{IfOk, MatchBool, MatchOption, All};
-ghost use Rattle.st_words.specs.declared.limits.TheConstants.{MOMENT_LIMIT};
-ghost use Rattle.st_plans.specs.Due.{History, Waits, NoneWaits, IsBest, HasOverruns, with_row, no_history};
-ghost use Rattle.st_plans.specs.Plans.{schedules_of as schedules_in};
-ghost use Rattle.config.specs.PlanViews.{plan_view};
+ghost use Rattle.st_types.specs.declared.limits.TheConstants.{MOMENT_LIMIT};
+ghost use Rattle.st_meaning.specs.Due.{History, Waits, NoneWaits, IsBest, HasOverruns, with_row, no_history};
+ghost use Rattle.st_meaning.specs.Plans.{schedules_of as schedules_in};
+ghost use Rattle.plan.specs.PlanViews.{plan_view};
 ghost use Rattle.ready_list.specs.Ready.{stand_at, IsReadyOf, Removes};
 
 use crate::order::first_of;
 use crate::schedules::schedules_of;
 use crate::standing::{NewRow, Standing, mark_all, taken};
-use config::Plan;
-use st_plans::{Activation, Schedule};
+use plan::Plan;
+use st_meaning::Schedule;
+use st_types::Activation;
 use std::alloc::{AllocError, Global};
 use std::marker::Model;
 
@@ -45,7 +46,7 @@ impl Drop for ReadyList {
 
 impl Model for ReadyList {
     ghost use Rattle.std.specs.Prelude.{◌≡◌, ◌<◌, ◌≤◌, ◌+◌, ◌^◌, All, length};
-    ghost use Rattle.st_words.specs.declared.limits.TheConstants.{MOMENT_LIMIT};
+    ghost use Rattle.st_types.specs.declared.limits.TheConstants.{MOMENT_LIMIT};
     ghost use Rattle.ready_list.specs.Ready.{Ready};
 
     ghost Value = { Ready };

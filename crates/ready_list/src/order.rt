@@ -1,11 +1,12 @@
 //! What comes first of what waits.
 
 ghost use Rattle.std.specs.Prelude.{◌≡◌, length};
-ghost use Rattle.st_plans.specs.Due.{schedule_at as place_in, sooner as sooner_in};
+ghost use Rattle.st_meaning.specs.Due.{schedule_at as place_in, sooner as sooner_in};
 ghost use Rattle.ready_list.specs.Ready.{offered as offered_of, sooner_of as sooner_among, IsFirst};
 
 use crate::standing::Standing;
-use st_plans::{Activation, Schedule};
+use st_meaning::Schedule;
+use st_types::Activation;
 
 /// What waits of the program, if it runs on the resource.
 fn offered(

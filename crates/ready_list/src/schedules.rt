@@ -3,8 +3,8 @@
 ghost use Rattle.std.specs.Prelude.{◌≡◌, map, IfOk};
 ghost use Rattle.ready_list.specs.Schedules.{code_schedule};
 
-use config::{ProgramInstance, Task};
-use st_plans::Schedule;
+use plan::{ProgramInstance, Task};
+use st_meaning::Schedule;
 use std::alloc::{AllocError, Global};
 
 /// Where and how often a program runs.

@@ -1,10 +1,10 @@
 //! What is kept for each program, and how a row changes it.
 
 ghost use Rattle.std.specs.Prelude.{◌≡◌, ◌<◌, ◌^◌, ◌==◌, None, All, length};
-ghost use Rattle.st_plans.specs.Due.{sample as sample_in, rule};
+ghost use Rattle.st_meaning.specs.Due.{sample as sample_in, rule};
 ghost use Rattle.ready_list.specs.Ready.{is_due_at, marked as marked_by, AreMarked};
 
-use st_plans::Schedule;
+use st_meaning::Schedule;
 
 /// What is kept for a program.
 #[derive(Clone, Copy)]

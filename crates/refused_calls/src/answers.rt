@@ -1,13 +1,13 @@
 //! What calls answer, in words that take no memory.
 
-use coded_runs::Execution;
-use commit_lock::{Answer as Committed, Core};
+use crate::trial::Answer;
+use commit_lock::Reply as Told;
 use disk::Disk;
-use lives::Reply as Told;
-use refusals::Answer;
-use run_cells::Cell;
-use st_types::Outcome;
-use st_words::Value;
+use durable_core::{Answer as Committed, Core};
+use slot_memory::Cell;
+use slot_run::Execution;
+use st_meaning::Outcome;
+use st_types::Value;
 use std::fmt;
 use std::fmt::Write;
 

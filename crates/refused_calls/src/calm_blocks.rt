@@ -1,13 +1,16 @@
 //! The steps of standard blocks, which take no memory.
 
+use crate::asking::refuse_all;
+use crate::finding::Finding;
 use crate::findings::Findings;
-use refusals::{Answer, Finding, found_calm, refuse_all};
-use st_names::StandardBlock;
-use st_words::{Kind, Value};
+use crate::trial::Answer;
+use crate::trying::found_calm;
+use st_types::{Kind, Value};
 use std::alloc::Global;
 use std::fmt::Write;
 use std::{fmt, io};
 use std_blocks::step;
+use symbols::StandardBlock;
 
 /// A member of an instance: its type, and what it is before a step.
 type Member = (Kind, i128);

@@ -1,18 +1,20 @@
 //! The calls of a core that take no memory.
 
+use crate::asking::refuse_all;
+use crate::finding::Finding;
 use crate::findings::Findings;
 use crate::stage::{core_of, plan_of, row_of};
 use crate::texts::COUNTER;
-use coded_runs::{Execution, run};
-use commit_lock::Core;
+use crate::trial::Answer;
+use crate::trying::found_calm;
+use commit_lock::write_trace;
 use disk::SimDisk;
-use refusals::{Answer, Finding, found_calm, refuse_all};
-use st_plans::Row;
-use st_words::{Name, Path};
+use durable_core::Core;
+use slot_run::{Execution, run};
+use st_types::{Name, Path, Row};
 use std::alloc::Global;
 use std::fmt::Write;
 use std::{fmt, io};
-use traces::write_trace;
 
 /// A core at a first row, and what it is given next.
 #[derive(Drop)]

@@ -1,14 +1,17 @@
 //! A simulated disk after it was made, and a store after it was opened, which take no memory.
 
 ghost use Rattle.std.specs.Prelude.{◌≡◌};
-ghost use Rattle.st_words.specs.declared.limits.TheConstants.{MAX_RECORD_BODY};
+ghost use Rattle.st_types.specs.declared.limits.TheConstants.{MAX_RECORD_BODY};
 
+use crate::asking::refuse_all;
 use crate::disks::empty_disk;
+use crate::finding::Finding;
 use crate::findings::Findings;
+use crate::trial::Answer;
+use crate::trying::found_calm;
 use disk::{Disk, SimDisk};
-use refusals::{Answer, Finding, found_calm, refuse_all};
 use retain_store::{Store, StoreFault};
-use st_words::limits::MAX_RECORD_BODY;
+use st_types::limits::MAX_RECORD_BODY;
 use std::fmt::Write;
 use std::{fmt, io};
 

@@ -2,11 +2,14 @@
 
 ghost use Rattle.std.specs.Prelude.{◌≡◌, length, IfSome};
 
+use crate::asking::refuse_all;
+use crate::finding::Finding;
 use crate::findings::Findings;
 use crate::stage::plan_of;
 use crate::texts::THREE_TASKS;
+use crate::trial::Answer;
+use crate::trying::found_calm;
 use ready_list::ReadyList;
-use refusals::{Answer, Finding, found_calm, refuse_all};
 use std::alloc::Global;
 use std::fmt::Write;
 use std::{fmt, io};

@@ -1,7 +1,10 @@
 //! A mark after it was made, which takes no memory.
 
+use crate::asking::refuse_all;
+use crate::finding::Finding;
 use crate::findings::Findings;
-use refusals::{Answer, Finding, found_calm, refuse_all};
+use crate::trial::Answer;
+use crate::trying::found_calm;
 use run_lock::Mark;
 use std::fmt::Write;
 use std::io;

@@ -3,10 +3,10 @@
 use crate::answers::write_execution;
 use crate::findings::Findings;
 use crate::stage::Stage;
-use coded_runs::{Snapshot, run};
-use commit_lock::Core;
+use crate::trial::{Answer, Reply, Trial};
 use disk::SimDisk;
-use refusals::{Answer, Reply, Trial};
+use durable_core::Core;
+use slot_run::{Execution, Snapshot, Taken, run, run_quick};
 use std::alloc::Global;
 use std::fmt::Write;
 use std::io;
@@ -40,6 +40,66 @@ impl<'a> Trial for Taking<'a> {
     }
 }
 
+fn ran_told(execution: &Execution) -> Reply {
+    let mut answer = Answer::new();
+    let _ = write_execution(&mut answer, execution);
+    Reply::Done(answer)
+}
+
+/// Takes the values of the slots that the code names.
+#[derive(Drop)]
+struct TakingQuick<'a> {
+    stage: &'a Stage<'a>,
+}
+
+impl<'a> Trial for TakingQuick<'a> {
+    type Given = Core<SimDisk>;
+
+    fn given(&self, alloc: Global) -> Option<Core<SimDisk>> {
+        self.stage.core_at_a_row(alloc)
+    }
+
+    fn call(&self, alloc: Global, given: Core<SimDisk>) -> Reply {
+        match given.take_quick(alloc, 0) {
+            Ok(Some(Taken::Quick(quick))) => {
+                let mut answer = Answer::new();
+                let (program, row) = (quick.activation.program, quick.activation.row);
+                let words = quick.values.len();
+                let _ = write!(answer, "program {program} of row {row} over {words} words");
+                Reply::Done(answer)
+            }
+            Ok(Some(Taken::Whole(snapshot))) => Reply::Done(taken_told(&snapshot)),
+            Ok(None) => Reply::done("nothing"),
+            Err(refusal) => Reply::refused(refusal),
+        }
+    }
+}
+
+/// Runs what was taken by quick code.
+#[derive(Drop)]
+struct RunningQuick<'a> {
+    stage: &'a Stage<'a>,
+}
+
+impl<'a> Trial for RunningQuick<'a> {
+    type Given = Taken;
+
+    fn given(&self, alloc: Global) -> Option<Taken> {
+        self.stage.core_at_a_row(alloc)?.take_quick(alloc, 0).ok()?
+    }
+
+    fn call(&self, alloc: Global, given: Taken) -> Reply {
+        let Taken::Quick(quick) = given else {
+            return Reply::done("no quick code");
+        };
+        match run_quick(alloc, quick) {
+            Ok(Some(execution)) => ran_told(&execution),
+            Ok(None) => Reply::done("quick code cannot tell"),
+            Err(_) => Reply::out_of_memory(),
+        }
+    }
+}
+
 #[derive(Drop)]
 struct Running<'a> {
     stage: &'a Stage<'a>,
@@ -54,11 +114,7 @@ impl<'a> Trial for Running<'a> {
 
     fn call(&self, alloc: Global, given: Snapshot) -> Reply {
         match run(alloc, given) {
-            Ok(execution) => {
-                let mut answer = Answer::new();
-                let _ = write_execution(&mut answer, &execution);
-                Reply::Done(answer)
-            }
+            Ok(execution) => ran_told(&execution),
             Err(_) => Reply::out_of_memory(),
         }
     }
@@ -96,5 +152,7 @@ pub fn try_all(findings: &mut Findings<'_>, stage: &Stage<'_>) -> io::Result<()>
     let wanted = &stage.scene.wanted;
     findings.try_call("take", &Taking { stage }, wanted.taken)?;
     findings.try_call("run", &Running { stage }, wanted.ran)?;
+    findings.try_call("take quick", &TakingQuick { stage }, wanted.taken_quick)?;
+    findings.try_call("run quick", &RunningQuick { stage }, wanted.ran_quick)?;
     findings.try_call("commit here", &CommittingHere { stage }, "here 2")
 }

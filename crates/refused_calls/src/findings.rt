@@ -1,6 +1,8 @@
 //! What was found of all calls.
 
-use refusals::{Finding, Trial, try_each};
+use crate::finding::Finding;
+use crate::trial::Trial;
+use crate::trying::try_each;
 use std::alloc::Global;
 use std::io;
 

@@ -2,13 +2,13 @@
 
 use crate::findings::Findings;
 use crate::scenes::Scene;
+use crate::trial::{Answer, Reply, Trial};
 use layout::Layout;
-use refusals::{Answer, Reply, Trial};
 use st_check::check;
 use st_decl::declare;
 use st_lex::{Token, lex};
 use st_parse::parse;
-use st_trees::Source;
+use st_types::Source;
 use std::alloc::Global;
 use std::fmt::Write;
 use std::io;

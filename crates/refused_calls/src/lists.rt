@@ -1,17 +1,17 @@
 //! Lists of calls, and lives.
 
 ghost use Rattle.std.specs.Prelude.{◌≤◌};
-ghost use Rattle.st_words.specs.declared.limits.TheConstants.{MAX_LOG_ROOM};
+ghost use Rattle.st_types.specs.declared.limits.TheConstants.{MAX_LOG_ROOM};
 
 use crate::answers::{write_core, write_replies, write_values};
 use crate::findings::Findings;
 use crate::stage::Stage;
-use commit_lock::{Core, Refusal, StartMode};
+use crate::trial::{Answer, Reply, Trial};
+use commit_lock::{Course, Event, Life, LifeEnd, Reply as Told, drive, lives};
 use disk::SimDisk;
-use lives::{Course, Event, Life, LifeEnd, Reply as Told, drive, lives};
-use refusals::{Answer, Reply, Trial};
+use durable_core::{Core, Refusal, StartMode};
 use serial_core::Refusal as Serial;
-use st_words::limits::MAX_LOG_ROOM;
+use st_types::limits::MAX_LOG_ROOM;
 use std::alloc::Global;
 use std::fmt::Write;
 use std::{fmt, io};

@@ -1,8 +1,13 @@
 //! Each call of a layer, with its requests for memory refused one after another, and the calls that take no memory,
-//! with all requests refused. It prints a line a call. Without an allocator that refuses it says that there is none.
+//! with all requests refused. It prints a line a call.
+//!
+//! It asks the allocator of tests/refuse.c, which a script loads before that of the C library, by names of the
+//! environment. Nothing here takes memory while requests are counted. Without that allocator it says that there is
+//! none.
 #![tactic(auto)]
 
 mod answers;
+mod asking;
 mod calm_blocks;
 mod calm_cores;
 mod calm_disks;
@@ -10,6 +15,7 @@ mod calm_lists;
 mod calm_marks;
 mod cores;
 mod disks;
+mod finding;
 mod findings;
 mod language;
 mod lists;
@@ -20,9 +26,11 @@ mod scenes;
 mod stage;
 mod starts;
 mod texts;
+mod trial;
+mod trying;
 
+use asking::refuse_no_more;
 use findings::Findings;
-use refusals::refuse_no_more;
 use scenes::{SCENES, Scene};
 use stage::Stage;
 use std::io;
@@ -78,3 +86,6 @@ fn main(rt: HostRuntime) -> io::Result<()> {
     try_calls(&mut findings, &rt)?;
     findings.end()
 }
+
+#[cfg(test)]
+mod tests;

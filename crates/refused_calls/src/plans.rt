@@ -2,12 +2,12 @@
 
 use crate::findings::Findings;
 use crate::stage::Stage;
-use config::Plan;
+use crate::trial::{Answer, Reply, Trial};
+use config::build;
 use image::read_plant;
+use plan::Plan;
 use ready_list::ReadyList;
-use refusals::{Answer, Reply, Trial};
-use st_build::build;
-use st_plans::Row;
+use st_types::Row;
 use std::alloc::Global;
 use std::fmt::Write;
 use std::io;

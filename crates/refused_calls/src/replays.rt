@@ -3,15 +3,14 @@
 use crate::answers::write_values;
 use crate::findings::Findings;
 use crate::stage::Stage;
-use config::Plan;
-use lives::drive;
-use refusals::{Answer, Reply, Trial};
-use st_plans::Row;
+use crate::trial::{Answer, Reply, Trial};
+use commit_lock::{Replayed, drive, replay, write_trace};
+use plan::Plan;
+use st_types::Row;
 use std::alloc::Global;
 use std::fmt::Write;
 use std::sync::Arc;
 use std::{fmt, io};
-use traces::{Replayed, replay, write_trace};
 
 fn write_replayed(answer: &mut Answer, found: &Replayed) -> fmt::Result {
     let (rows, done, faults) = (found.rows, found.done, found.faults);

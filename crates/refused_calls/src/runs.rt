@@ -1,16 +1,19 @@
 //! Runs in threads.
 
 use crate::answers::write_core;
+use crate::asking::{refuse, refuse_no_more};
+use crate::finding::{Finding, Spells};
 use crate::findings::Findings;
 use crate::stage::{core_of, plan_of, row_of};
 use crate::texts::{COUNTER, TWO_RESOURCES};
-use commit_lock::{Answer as Committed, Core};
-use config::Plan;
+use crate::trial::{Answer, Reply, Trial};
+use crate::trying::MOST_REQUESTS;
 use disk::{Disk, SimDisk};
+use durable_core::{Answer as Committed, Core};
+use plan::Plan;
 use plc_threads::{Gate, Machine, Pace, Report, RunError, run_plant};
-use refusals::{Answer, Finding, MOST_REQUESTS, Reply, Spells, Trial, refuse, refuse_no_more};
 use run_lock::{Mark, RunFault};
-use st_plans::{Activation, Row};
+use st_types::{Activation, Row};
 use std::alloc::Global;
 use std::fmt::Write;
 use std::io;

@@ -29,8 +29,12 @@ pub struct Wanted {
     pub rows: &'static str,
     /// What is taken after the first row.
     pub taken: &'static str,
+    /// What is taken there for a run by quick code.
+    pub taken_quick: &'static str,
     /// What the run of that reads and writes.
     pub ran: &'static str,
+    /// What its run by quick code answers.
+    pub ran_quick: &'static str,
     /// What the calls are answered, and what they leave.
     pub replies: &'static str,
     /// What the lives are answered: one of these calls, and a warm one after it without calls.
@@ -73,7 +77,9 @@ pub const THREE_ROWS: Scene = Scene {
         sizes: "resources 1, tasks 1, programs 1, slots 1, retained 1",
         rows: "3 rows to 20 ms",
         taken: "program 0 of row 0 over 1 slots",
+        taken_quick: "program 0 of row 0 over 1 words",
         ran: "reads 0=0; writes 0=1; done",
+        ran_quick: "reads 0=0; writes 0=1; done",
         replies: "row 0; taken; committed 2; row 1; here 4; row 2; here 6; flushed 6; values 0=3; acked 6 of 6; \
             overruns 0",
         lived: "values; row 0; taken; committed 2; row 1; here 4; row 2; here 6; flushed 6; acked 6 of 6 / \
@@ -106,7 +112,9 @@ const TASKS: Scene = Scene {
         sizes: "resources 1, tasks 3, programs 3, slots 1, retained 1",
         rows: "4 rows to 20 ms",
         taken: "program 0 of row 0 over 2 slots",
+        taken_quick: "program 0 of row 0 over 1 words",
         ran: "reads 0=0; writes 0=1; done",
+        ran_quick: "reads 0=0; writes 0=1; done",
         replies: "row 0; row 1; row 2; row 3; here 5; here 6; here 7; nothing here; flushed 7; values 0=312; \
             acked 7 of 7; overruns 2 1 0",
         lived: "values; row 0; row 1; row 2; row 3; here 5; here 6; here 7; nothing here; flushed 7; acked 7 of 7 / \
@@ -137,7 +145,9 @@ const FULL_LOG: Scene = Scene {
         sizes: "resources 1, tasks 1, programs 3, slots 1, retained 1",
         rows: "2 rows to 10 ms",
         taken: "program 0 of row 0 over 1 slots",
+        taken_quick: "program 0 of row 0 over 1 words",
         ran: "reads 0=0; writes 0=1; done",
+        ran_quick: "reads 0=0; writes 0=1; done",
         replies: "row 0; here 2; here 3; K1; taken; K1; flushed 3; values 0=2; acked 3 of 3; overruns 0 0 0",
         lived: "values; row 0; here 2; here 3; K1; taken; K1; flushed 3; acked 3 of 3 / values 0=2; acked 0 of 0",
         replayed: "rows 1, done 2, faults 0, overruns 0; values 0=2",
@@ -169,7 +179,9 @@ const STEERED: Scene = Scene {
         sizes: "resources 2, tasks 2, programs 2, slots 3, retained 0",
         rows: "1 rows to 0 ms",
         taken: "program 0 of row 0 over 3 slots",
+        taken_quick: "program 0 of row 0 over 3 words",
         ran: "reads 0=1; writes 1=1; done",
+        ran_quick: "reads 0=1; writes 1=1; done",
         replies: "row 0; taken; here 2; stale; taken; committed 3; flushed 3; values 0=2 2=1; acked 3 of 3; \
             overruns 0 0",
         lived: "values 0=1; row 0; taken; here 2; stale; taken; committed 3; flushed 3; acked 3 of 3 / \
@@ -192,7 +204,9 @@ const FAULTING: Scene = Scene {
         sizes: "resources 2, tasks 2, programs 2, slots 2, retained 0",
         rows: "1 rows to 0 ms",
         taken: "program 0 of row 0 over 2 slots",
+        taken_quick: "program 0 of row 0 over 2 words",
         ran: "reads 1=0; writes; F2",
+        ran_quick: "quick code cannot tell",
         replies: "row 0; taken; here 2; stale; taken; committed 3; flushed 3; values 0=2 1=5; acked 3 of 3; \
             overruns 0 0",
         lived: "values; row 0; taken; here 2; stale; taken; committed 3; flushed 3; acked 3 of 3 / \
@@ -222,7 +236,9 @@ const WIDE_SNAPSHOTS: Scene = Scene {
         sizes: "resources 1, tasks 1, programs 1, slots 250, retained 250",
         rows: "2 rows to 10 ms",
         taken: "program 0 of row 0 over 250 slots",
+        taken_quick: "program 0 of row 0 over 250 words",
         ran: "reads 0=0; writes 0=1 249=5; done",
+        ran_quick: "reads 0=0; writes 0=1 249=5; done",
         replies: "row 0; taken; committed 2; row 1; here 4; flushed 4; values 0=2 249=5; acked 4 of 4; overruns 0",
         lived: "values; row 0; taken; committed 2; row 1; here 4; flushed 4; acked 4 of 4 / \
             values 0=2 249=5; acked 0 of 0",

@@ -2,14 +2,13 @@
 
 use crate::disks::empty_disk;
 use crate::scenes::{Call, Scene};
-use commit_lock::{Core, StartMode};
-use config::Plan;
+use commit_lock::Event;
+use config::build;
 use disk::SimDisk;
-use lives::Event;
-use st_build::build;
-use st_plans::Row;
-use st_words::Value;
-use st_words::limits::MAX_LOG_ROOM;
+use durable_core::{Core, StartMode};
+use plan::Plan;
+use st_types::limits::MAX_LOG_ROOM;
+use st_types::{Row, Value};
 use std::alloc::Global;
 use std::sync::Arc;
 

@@ -1,5 +1,14 @@
+pub mod CutLemmas
+pub mod NameLemmas
+pub mod EnumerationLemmas
 pub mod PathLemmas
 pub mod ReadingLemmas
 pub mod RecordLemmas
 pub mod SpellingLemmas
 pub mod ValueLemmas
+pub mod IndexLemmas
+pub mod LayoutLemmas
+pub mod LineLemmas
+pub mod MarkedLemmas
+pub mod MatchingLemmas
+pub mod OtherPlanLemmas

@@ -7,18 +7,18 @@ use Rattle.std.specs.List.{list_all}
 use Rattle.std.proofs.lemmas.Bool.{eqb-true, eqb-false}
 use Rattle.std.proofs.lemmas.List.{length-append, append-nil, map_push, length_push, drop_at, drop-drop}
 use Rattle.retain_records.specs.declared.sizes.TheConstants.{MAX_LAYOUT_BYTES, MAX_LINES}
-use Rattle.st_words.specs.declared.kind.Kind.{Kind}
-use Rattle.st_words.specs.declared.kind.Kind.TheVariants.{Sint, Int, Dint, Lint, Usint, Uint, Udint, Ulint, Byte, Word}
-use Rattle.st_words.specs.declared.kind.Kind.TheVariants.{Dword, Lword, Time, Bool as Boolean, Enumerated}
-use Rattle.st_words.specs.Kinds.{row_of}
-use Rattle.st_words.specs.Values.{Datum}
+use Rattle.st_types.specs.declared.kind.Kind.{Kind}
+use Rattle.st_types.specs.declared.kind.Kind.TheVariants.{Sint, Int, Dint, Lint, Usint, Uint, Udint, Ulint, Byte, Word}
+use Rattle.st_types.specs.declared.kind.Kind.TheVariants.{Dword, Lword, Time, Bool as Boolean, Enumerated}
+use Rattle.st_types.specs.Kinds.{row_of}
+use Rattle.st_types.specs.Values.{Datum}
 use Rattle.retain_records.specs.Records.{Line, line_text, is_path_text, has_keyword, IsLine, Spells, by_keyword}
-use Rattle.st_words.specs.UpperNames.{is_upper_name, joined}
+use Rattle.st_types.specs.UpperNames.{is_upper_name, joined}
 use Rattle.retain_records.specs.Records.{by_names}
-use Rattle.cut_bytes.specs.Cuts.{◌>>=◌, cut}
+use Rattle.retain_records.specs.Cuts.{◌>>=◌, cut}
 use Rattle.retain_records.specs.Reading.{line_at, value_at, RecordedVariable, variable_at, variables_in}
 use Rattle.retain_records.specs.Reading.{path_from, first_word, AreVariables}
-use Rattle.cut_bytes.specs.CutLaws.{bind_some, some_is, cut_again}
+use Rattle.retain_records.specs.CutLaws.{bind_some, some_is, cut_again}
 use Rattle.retain_records.specs.LineLaws.{line_parts, line_takes, path_has_no_space, made}
 
 -- variables before, and those that are read

@@ -6,8 +6,8 @@ use Rattle.std.specs.List.{flat_map, AllByRecursion}
 use Rattle.std.proofs.lemmas.Bool.{le-leb, lt-leb}
 use Rattle.std.proofs.lemmas.List.{length-map}
 use Rattle.retain_records.specs.declared.sizes.TheConstants.{MAX_LAYOUT_BYTES, MAX_LINES}
-use Rattle.st_words.specs.declared.limits.TheConstants.{MAX_RECORD_BODY}
-use Rattle.st_words.specs.Values.{Datum}
+use Rattle.st_types.specs.declared.limits.TheConstants.{MAX_RECORD_BODY}
+use Rattle.st_types.specs.Values.{Datum}
 use Rattle.retain_records.specs.Records.{Content, Line, text_of, IsLine, value_bytes, record_bytes, IsRecordable}
 use Rattle.retain_records.specs.Reading.{Parts, parts_at, variables_in, are_distinct, path_from, AreVariables, decoded}
 use Rattle.retain_records.specs.FieldLaws.{IsBytes}

@@ -6,11 +6,11 @@ use Rattle.std.specs.Int.{w128, byte_len, from_be_bytes}
 use mir.Val.{SFits, to_z, of_z}
 use Rattle.std.proofs.lemmas.Bool.{le-ltb}
 use Rattle.std.proofs.lemmas.Int.{to_z-of_z}
-use Rattle.st_words.specs.declared.kind.Kind.{Kind}
-use Rattle.st_words.specs.declared.fault.Fault.{Fault}
-use Rattle.st_words.specs.declared.fault.Fault.TheVariants.{Range}
-use Rattle.st_words.specs.Kinds.{holds}
-use Rattle.st_words.specs.Values.{Datum, in_range}
+use Rattle.st_types.specs.declared.kind.Kind.{Kind}
+use Rattle.st_types.specs.declared.fault.Fault.{Fault}
+use Rattle.st_types.specs.declared.fault.Fault.TheVariants.{Range}
+use Rattle.st_types.specs.Kinds.{holds}
+use Rattle.st_types.specs.Values.{Datum, in_range}
 use Rattle.retain_records.specs.Records.{wide_of}
 use Rattle.retain_records.specs.Reading.{number_of, value_at}
 

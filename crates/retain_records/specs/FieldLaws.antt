@@ -7,7 +7,7 @@ use Rattle.std.proofs.lemmas.List.{take_at, drop_at, take-append-drop, length-ap
 use Rattle.std.proofs.lemmas.List.{get_or-take, get_or_past}
 use Rattle.std.proofs.lemmas.Nat.{be_bytes_2, be_bytes_4, be_bytes_8, from_be_bytes-to_be_bytes_2}
 use Rattle.std.proofs.lemmas.Nat.{from_be_bytes-to_be_bytes_4, from_be_bytes-to_be_bytes_8}
-use Rattle.cut_bytes.specs.CutLaws.{unless_some}
+use Rattle.retain_records.specs.CutLaws.{unless_some}
 use Rattle.retain_records.specs.Reading.{number_at}
 
 abbrev pub IsBytes : List ℕ → Type 0

@@ -1,6 +1,15 @@
+pub mod CutLaws
+pub mod Cuts
+pub mod Enumerations
 pub mod FieldLaws
 pub mod LineLaws
 pub mod Reading
 pub mod RecordLaws
 pub mod Records
 pub mod Rooms
+pub mod Told
+pub mod Lines
+pub mod Matching
+pub mod Marked
+pub mod OtherPlans
+pub mod Examples

@@ -14,23 +14,23 @@ use lib.Signed.{mag}
 use mir.Val.{bits, hbits}
 use Rattle.std.proofs.lemmas.Slice.Eq.{bytes_eq-Decides}
 use Rattle.std.proofs.lemmas.List.{length-append}
-use Rattle.st_words.specs.declared.kind.Kind.{Kind}
-use Rattle.st_words.specs.declared.kind.Kind.TheVariants.{Sint, Int, Dint, Lint, Usint, Uint, Udint, Ulint, Byte, Word}
-use Rattle.st_words.specs.declared.kind.Kind.TheVariants.{Dword, Lword, Time, Bool as Boolean, Enumerated}
-use Rattle.st_words.specs.Kinds.{row_of, holds, width_of}
-use Rattle.st_words.specs.Values.{Datum, IsHeld}
+use Rattle.st_types.specs.declared.kind.Kind.{Kind}
+use Rattle.st_types.specs.declared.kind.Kind.TheVariants.{Sint, Int, Dint, Lint, Usint, Uint, Udint, Ulint, Byte, Word}
+use Rattle.st_types.specs.declared.kind.Kind.TheVariants.{Dword, Lword, Time, Bool as Boolean, Enumerated}
+use Rattle.st_types.specs.Kinds.{row_of, holds, width_of}
+use Rattle.st_types.specs.Values.{Datum, IsHeld}
 use Rattle.retain_records.specs.Records.{Line, line_text, text_of, is_visible, is_path_text, has_keyword, IsLine}
-use Rattle.st_words.specs.UpperNames.{is_upper_name, is_letter, joined}
+use Rattle.st_types.specs.UpperNames.{is_upper_name, is_letter, joined}
 use Rattle.retain_records.specs.Records.{Spells, by_keyword, by_names, IsEnumeration, is_byte_place}
-use Rattle.st_words.specs.UpperNames.{is_letter_or_digit, is_spaced}
-use Rattle.cut_bytes.specs.Cuts.{parted, onto_first, names_counted, ◌>>=◌, cut}
-use Rattle.enumeration_words.specs.Enumerations.{before_last, enumeration_in}
+use Rattle.st_types.specs.UpperNames.{is_letter_or_digit, is_spaced}
+use Rattle.retain_records.specs.Cuts.{parted, onto_first, names_counted, ◌>>=◌, cut}
+use Rattle.retain_records.specs.Enumerations.{before_last, enumeration_in}
 use Rattle.retain_records.specs.Reading.{or_kind, type_told}
 use Rattle.retain_records.specs.Records.{wide_of, value_bytes}
 use Rattle.retain_records.specs.Reading.{number_at, all_kinds, kind_of, line_at, number_of, value_at}
 use Rattle.retain_records.specs.Reading.{RecordedVariable, variable_at, variables_in}
 use Rattle.retain_records.specs.FieldLaws.{IsBytes, TakesBytes, IsWide, wide8, wide16}
-use Rattle.cut_bytes.specs.CutLaws.{bind_some, some_is, when_some, when_kept, has_no, cut_takes, cut_again, chosen}
+use Rattle.retain_records.specs.CutLaws.{bind_some, some_is, when_some, when_kept, has_no, cut_takes, cut_again, chosen}
 use Rattle.retain_records.specs.FieldLaws.{wide32, wide64, number_takes, number_again}
 
 -- ---- types

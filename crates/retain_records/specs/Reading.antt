@@ -3,14 +3,14 @@ use Rattle.std.specs.Prelude.{◌≡◌, ◌-◌, nat_le, nat_lt, ◌==◌, ℕ,
 use Rattle.std.specs.Prelude.{if◌then◌else◌, Option, Some, None, List, [], ◌∷◌, length, map, take, drop, bytes_eq}
 use Rattle.std.specs.List.{find, list_any}
 use Rattle.std.specs.Int.{Width, w32, w64, byte_len, from_be_bytes, cast_signed}
-use Rattle.st_words.specs.declared.limits.TheConstants.{MAX_RECORD_BODY, MOMENT_LIMIT}
-use Rattle.st_words.specs.declared.kind.Kind.{Kind}
-use Rattle.st_words.specs.declared.kind.Kind.TheVariants.{Sint, Int, Dint, Lint, Usint, Uint, Udint, Ulint, Byte, Word}
-use Rattle.st_words.specs.declared.kind.Kind.TheVariants.{Dword, Lword, Time, Bool as Boolean}
-use Rattle.st_words.specs.Kinds.{row_of, is_signed, holds}
-use Rattle.st_words.specs.Values.{Datum}
-use Rattle.cut_bytes.specs.Cuts.{◌>>=◌, cut}
-use Rattle.enumeration_words.specs.Enumerations.{enumeration_in}
+use Rattle.st_types.specs.declared.limits.TheConstants.{MAX_RECORD_BODY, MOMENT_LIMIT}
+use Rattle.st_types.specs.declared.kind.Kind.{Kind}
+use Rattle.st_types.specs.declared.kind.Kind.TheVariants.{Sint, Int, Dint, Lint, Usint, Uint, Udint, Ulint, Byte, Word}
+use Rattle.st_types.specs.declared.kind.Kind.TheVariants.{Dword, Lword, Time, Bool as Boolean}
+use Rattle.st_types.specs.Kinds.{row_of, is_signed, holds}
+use Rattle.st_types.specs.Values.{Datum}
+use Rattle.retain_records.specs.Cuts.{◌>>=◌, cut}
+use Rattle.retain_records.specs.Enumerations.{enumeration_in}
 use Rattle.retain_records.specs.Records.{Content, Line, is_path_text, wide_of}
 
 -- the number in the first bytes, and the bytes after it

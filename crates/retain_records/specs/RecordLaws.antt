@@ -8,16 +8,16 @@ use Rattle.std.specs.Int.{w32, w64, to_be_bytes}
 use Rattle.std.proofs.lemmas.Bool.{and_parts, and_from, leb-true, le-leb, not-true, not_from_false, eqb-true, eqb-false}
 use Rattle.std.proofs.lemmas.Bool.{ne_eqb, or_parts, or_from, cases_Bool}
 use Rattle.std.proofs.lemmas.List.{take_at, drop_at, take-append-drop, length-append, length-take}
-use Rattle.st_words.specs.declared.limits.TheConstants.{MAX_RECORD_BODY, MOMENT_LIMIT}
-use Rattle.st_words.specs.declared.kind.Kind.{Kind}
-use Rattle.st_words.specs.Values.{IsHeld}
+use Rattle.st_types.specs.declared.limits.TheConstants.{MAX_RECORD_BODY, MOMENT_LIMIT}
+use Rattle.st_types.specs.declared.kind.Kind.{Kind}
+use Rattle.st_types.specs.Values.{IsHeld}
 use Rattle.retain_records.specs.Records.{Content, line_text, text_of, IsLine, is_byte_place, IsLayoutText, moment_code}
 use Rattle.retain_records.specs.Records.{value_bytes, record_bytes, IsRecord}
-use Rattle.cut_bytes.specs.Cuts.{◌>>=◌}
+use Rattle.retain_records.specs.Cuts.{◌>>=◌}
 use Rattle.retain_records.specs.Reading.{number_at, RecordedVariable, variables_in, are_distinct, moment_of, Parts}
 use Rattle.retain_records.specs.Reading.{parts_at, decoded}
 use Rattle.retain_records.specs.FieldLaws.{IsBytes, IsBytes-drop, wide32, wide64, number_takes, number_again}
-use Rattle.cut_bytes.specs.CutLaws.{bind_some, some_is, when_some, when_kept}
+use Rattle.retain_records.specs.CutLaws.{bind_some, some_is, when_some, when_kept}
 use Rattle.retain_records.specs.LineLaws.{line_of, IsSoundVariable, texts, values_bytes, paths_of, variables_take}
 use Rattle.retain_records.specs.LineLaws.{variables_again}
 

@@ -4,12 +4,12 @@ use Rattle.std.specs.Prelude.{if◌then◌else◌, Option, Some, None}
 use Rattle.std.specs.Prelude.{IfSome, List, [], ◌∷◌, ◌++◌, length, map, bytes_eq, codes}
 use Rattle.std.specs.List.{flat_map, list_all, AllByRecursion, IsDistinct}
 use Rattle.std.specs.Int.{Width, w8, w16, w32, w64, to_be_bytes, cast_unsigned}
-use Rattle.st_words.specs.declared.limits.TheConstants.{MAX_RECORD_BODY, MOMENT_LIMIT}
-use Rattle.st_words.specs.declared.kind.Kind.{Kind}
-use Rattle.st_words.specs.declared.kind.Kind.TheVariants.{Enumerated}
-use Rattle.st_words.specs.Kinds.{row_of, names_in}
-use Rattle.st_words.specs.UpperNames.{is_upper_name, joined}
-use Rattle.st_words.specs.Values.{Datum, IsHeld}
+use Rattle.st_types.specs.declared.limits.TheConstants.{MAX_RECORD_BODY, MOMENT_LIMIT}
+use Rattle.st_types.specs.declared.kind.Kind.{Kind}
+use Rattle.st_types.specs.declared.kind.Kind.TheVariants.{Enumerated}
+use Rattle.st_types.specs.Kinds.{row_of, names_in}
+use Rattle.st_types.specs.UpperNames.{is_upper_name, joined}
+use Rattle.st_types.specs.Values.{Datum, IsHeld}
 
 -- what a record holds: the moment of the last row in milliseconds, the layout text, and the values in order
 pub record Content : Type 0 where

@@ -1,8 +1,8 @@
 //! Laws of the spelling of records. The functions do nothing: their contracts are the laws.
 
 ghost use Rattle.std.specs.Prelude.{◌≡◌, ℕ, List, Some, length};
-ghost use Rattle.st_words.specs.Values.{Datum};
-ghost use Rattle.st_words.specs.Kinds.{width_of};
+ghost use Rattle.st_types.specs.Values.{Datum};
+ghost use Rattle.st_types.specs.Kinds.{width_of};
 ghost use Rattle.retain_records.specs.Records.{Content, IsRecord, value_bytes};
 ghost use Rattle.retain_records.specs.Reading.{decoded};
 ghost use Rattle.retain_records.specs.FieldLaws.{IsBytes};

@@ -5,26 +5,9 @@ ghost use Rattle.std.specs.List.{list_all};
 ghost use Rattle.retain_records.specs.Records.{is_path_text, is_visible};
 ghost use Rattle.retain_records.specs.Reading.{kind_of, line_at, type_told};
 
-use cut_bytes::cut;
-use enumeration_words::enumeration_in;
-use st_words::Kind;
-
-const KINDS: [Kind; 14] = [
-    Kind::Sint,
-    Kind::Int,
-    Kind::Dint,
-    Kind::Lint,
-    Kind::Usint,
-    Kind::Uint,
-    Kind::Udint,
-    Kind::Ulint,
-    Kind::Byte,
-    Kind::Word,
-    Kind::Dword,
-    Kind::Lword,
-    Kind::Time,
-    Kind::Bool,
-];
+use crate::cutting::cut;
+use crate::enumeration::enumeration_in;
+use st_types::Kind;
 
 /// A line of a layout text: a path, the spelling of its type, and this type.
 #[derive(Clone, Copy)]
@@ -58,7 +41,7 @@ pub(crate) fn line_at(text: &[u8]) -> Option<(Line<'_>, &[u8])>
 fn kind_of(word: &[u8]) -> Option<Kind>
     ensures { result ≡ kind_of word.now }
 {
-    KINDS
+    Kind::ALL
         .iter()
         .copied()
         .find(|kind| kind.row().keyword.as_bytes() == word)

@@ -4,7 +4,7 @@ ghost use Rattle.std.specs.Prelude.{◌≡◌, option_map};
 ghost use Rattle.std.specs.Int.{w32, w64};
 ghost use Rattle.retain_records.specs.Reading.{moment_of, number_at, parts_at};
 
-use st_words::limits::MOMENT_LIMIT;
+use st_types::limits::MOMENT_LIMIT;
 
 /// A moment, a layout text, and the bytes after them.
 #[derive(Clone, Copy)]

@@ -8,8 +8,8 @@ ghost use Rattle.std.specs.Ordering.{nat_cmp};
 ghost use Rattle.retain_records.specs.declared.sizes.TheConstants.{MAX_LINES};
 ghost use Rattle.retain_records.specs.Reading.{are_distinct, neighbours_differ, path_from};
 
+use crate::cutting::cut;
 use crate::sizes::MAX_LINES;
-use cut_bytes::cut;
 use std::alloc::{AllocError, Global};
 
 /// Room for the offsets of the lines of any layout text, in bytes. A record is read with it, and what it held before

@@ -7,7 +7,7 @@ ghost use Rattle.retain_records.specs.Reading.{AreVariables, variable_at, variab
 
 use crate::line::line_at;
 use crate::value_bytes::value_at;
-use st_words::Value;
+use st_types::Value;
 
 /// A retained variable: its path, the spelling of its type, and its value.
 #[derive(Clone, Copy)]

@@ -10,8 +10,8 @@ use crate::parts::parts_at;
 use crate::paths::{LineRoom, are_distinct};
 use crate::reading::read_variables;
 use crate::sizes::{MAX_LAYOUT_BYTES, MAX_LINES};
-use st_words::Value;
-use st_words::limits::MAX_RECORD_BODY;
+use st_types::Value;
+use st_types::limits::MAX_RECORD_BODY;
 use std::alloc::{AllocError, Global};
 use std::marker::Model;
 

@@ -2,11 +2,11 @@
 
 ghost use Rattle.std.specs.Prelude.{◌≡◌, ◌+◌, ◌<◌, ◌≤◌, ◌^◌, ◌++◌, length, take, IfSome};
 ghost use Rattle.std.specs.List.{flat_map};
-ghost use Rattle.st_words.specs.declared.limits.TheConstants.{MOMENT_LIMIT};
+ghost use Rattle.st_types.specs.declared.limits.TheConstants.{MOMENT_LIMIT};
 ghost use Rattle.retain_records.specs.Records.{moment_code, value_bytes, record_bytes};
 
 use crate::value_bytes::{bits, width};
-use st_words::Value;
+use st_types::Value;
 
 /// Writes the record to the front of the buffer, which has room for it, and gives its length in bytes. It takes no
 /// memory.

@@ -3,11 +3,11 @@
 ghost use Rattle.std.specs.Prelude.{◌≡◌, ◌<◌, ◌^◌, length, option_map, pos, ◌≤ℤ◌};
 ghost use Rattle.std.specs.Int.{byte_len, cast_unsigned, from_be_bytes};
 ghost use mir.Val.{bits};
-ghost use Rattle.st_words.specs.Kinds.{width_of};
+ghost use Rattle.st_types.specs.Kinds.{width_of};
 ghost use Rattle.retain_records.specs.Records.{wide_of};
 ghost use Rattle.retain_records.specs.Reading.{number_of, value_at};
 
-use st_words::{Kind, Sort, Value};
+use st_types::{Kind, Sort, Value};
 
 /// How many bytes a value of the type takes in a record: one for a BOOL, else its width.
 pub(crate) fn width(kind: Kind) -> usize

@@ -4,11 +4,11 @@ use Rattle.std.proofs.Common.{Option, Some, None}
 use Rattle.std.specs.Prelude.{option_map, unwrap_or}
 use Rattle.std.specs.List.{flat_map}
 use Rattle.std.proofs.lemmas.List.{append_assoc, drop_more}
-use Rattle.st_words.specs.Values.{Datum}
-use Rattle.st_plans.specs.Restarts.{KeptLine}
-use Rattle.kept_lines.specs.Matching.{is_line_for, numbered_by}
+use Rattle.st_types.specs.Values.{Datum}
+use Rattle.st_meaning.specs.Restarts.{KeptLine}
+use Rattle.retain_records.specs.Matching.{is_line_for, numbered_by}
 use Rattle.retain_show.specs.declared.written_lines.Line as lines
-use Rattle.st_plans.specs.Layouts.{Enumerations}
+use Rattle.st_meaning.specs.Layouts.{Enumerations}
 use Rattle.retain_show.specs.declared.fate.Fate.{Fate}
 use Rattle.retain_show.specs.declared.fate.Changes.{Changes}
 use Rattle.retain_show.specs.Against.{Line, changes_shown, dropped_shown, was_shown, with_value, word_of}

@@ -4,10 +4,10 @@ use Rattle.std.proofs.Common.{get_or}
 use Rattle.std.specs.Prelude.{slice_set}
 use Rattle.std.proofs.lemmas.Bool.Decides.{nat_tests}
 use Rattle.std.proofs.lemmas.List.{length-set, get_or-set_same, get_or-set_other}
-use Rattle.retain_areas.specs.declared.shape.TheConstants.{FILE_BYTES}
-use Rattle.retain_areas.specs.Areas.{alone}
-use Rattle.retain_areas.specs.Recovered.{Area, Closed, Damaged, Open, recovered, area}
-use Rattle.retain_areas.proofs.AreaLemmas.{recovered_shut, same_area, shut_area}
+use Rattle.retain_store.specs.declared.shape.TheConstants.{FILE_BYTES}
+use Rattle.retain_store.specs.Areas.{alone}
+use Rattle.retain_store.specs.Recovered.{Area, Closed, Damaged, Open, recovered, area}
+use Rattle.retain_store.proofs.AreaLemmas.{recovered_shut, same_area, shut_area}
 use Rattle.retain_show.specs.declared.areas.TheConstants.{SECOND}
 use Rattle.retain_show.specs.Shown.{alone_shown, area_shown, areas_shown, both_shown}
 

@@ -3,16 +3,16 @@ use Rattle.std.proofs.Common.{◌≡◌, ◌∙◌, ap, refl, sym, ℕ, Bool, tr
 use Rattle.std.proofs.Common.{Option, Some, None, length}
 use Rattle.std.specs.Prelude.{bytes_eq, is_none, is_some, option_map, unwrap_or}
 use Rattle.std.specs.List.{find, flat_map}
-use Rattle.st_words.specs.Values.{Datum}
-use Rattle.st_plans.specs.declared.plan.PlanVariable.{PlanVariable}
-use Rattle.st_plans.specs.Layouts.{Enumerations, layout_text, path_text, type_text}
-use Rattle.st_plans.specs.Restarts.{KeptLine, is_line_of, restarted, value_in}
+use Rattle.st_types.specs.Values.{Datum}
+use Rattle.st_meaning.specs.declared.plan.PlanVariable.{PlanVariable}
+use Rattle.st_meaning.specs.Layouts.{Enumerations, layout_text, path_text, type_text}
+use Rattle.st_meaning.specs.Restarts.{KeptLine, is_line_of, restarted, value_in}
 use Rattle.retain_records.specs.Records.{Content}
-use Rattle.cut_bytes.specs.CutLaws.{some_is}
-use Rattle.retain_areas.specs.Recovered.{Recovered, TooLong, Refused, Found, Nothing}
+use Rattle.retain_records.specs.CutLaws.{some_is}
+use Rattle.retain_store.specs.Recovered.{Recovered, TooLong, Refused, Found, Nothing}
 use Rattle.retain_store.specs.Kept.{IsLast, record_in}
-use Rattle.kept_lines.specs.Told.{Words, words_at, line_then, lines_in, told}
-use Rattle.kept_lines.specs.Matching.{numbered_by}
+use Rattle.retain_records.specs.Told.{Words, words_at, line_then, lines_in, told}
+use Rattle.retain_records.specs.Matching.{numbered_by}
 use Rattle.retain_show.specs.declared.fate.Changes.{Changes}
 use Rattle.retain_show.specs.Shown.{generation_shown, moment_shown, shown_text}
 use Rattle.retain_show.specs.Against as against

@@ -3,7 +3,7 @@ use Rattle.std.proofs.Common.{◌≡◌, ◌∙◌, ap, sym, refl, ℕ, ◌+◌,
 use Rattle.std.proofs.Common.{Option, Result, Ok, Err, OnOk}
 use Rattle.std.proofs.lemmas.List.{append_assoc, append-nil, drop_all, drop_more}
 use Rattle.std.specs.Io.KnownBytes.{Appends}
-use Rattle.st_words.specs.Values.{Datum}
+use Rattle.st_types.specs.Values.{Datum}
 use Rattle.retain_show.specs.Shown.{line_shown, lines_shown}
 use Rattle.st_print.proofs.AppendLemmas.{appends_both}
 

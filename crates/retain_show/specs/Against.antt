@@ -3,16 +3,16 @@ use Rattle.std.specs.Prelude.{ℕ, ◌+◌, ◌-◌, ◌^◌, ◌==◌, if◌the
 use Rattle.std.specs.Prelude.{Option, Some, None, is_some, is_none, codes, length, map, filter, bytes_eq}
 use Rattle.std.specs.List.{find, flat_map}
 use Rattle.std.specs.Fmt.{decimal}
-use Rattle.st_words.specs.Values.{Datum}
+use Rattle.st_types.specs.Values.{Datum}
 use Rattle.st_print.specs.Spelling.{value_text}
-use Rattle.st_plans.specs.declared.plan.PlanVariable.{PlanVariable}
-use Rattle.st_plans.specs.Layouts.{Enumerations, layout_text, path_text, type_text}
-use Rattle.st_plans.specs.Restarts.{KeptLine, is_line_of, restarted}
-use Rattle.retain_areas.specs.Recovered.{Recovered, TooLong, Refused, Nothing, Found}
-use Rattle.cut_bytes.specs.Cuts.{parted}
-use Rattle.config.specs.declared.plan.Plan.{Plan}
-use Rattle.config.specs.PlanViews.{plan_view}
-use Rattle.kept_lines.specs.Told.{Words, words_at, told}
+use Rattle.st_meaning.specs.declared.plan.PlanVariable.{PlanVariable}
+use Rattle.st_meaning.specs.Layouts.{Enumerations, layout_text, path_text, type_text}
+use Rattle.st_meaning.specs.Restarts.{KeptLine, is_line_of, restarted}
+use Rattle.retain_store.specs.Recovered.{Recovered, TooLong, Refused, Nothing, Found}
+use Rattle.retain_records.specs.Cuts.{parted}
+use Rattle.plan.specs.declared.plan.Plan.{Plan}
+use Rattle.plan.specs.PlanViews.{plan_view}
+use Rattle.retain_records.specs.Told.{Words, words_at, told}
 use Rattle.retain_show.specs.declared.fate.Changes.{Changes}
 use Rattle.retain_show.specs.declared.fate.Fate.{Fate}
 use Rattle.retain_show.specs.declared.fate.Fate.TheVariants.{Carried, New, Retyped}

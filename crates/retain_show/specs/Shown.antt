@@ -2,13 +2,13 @@
 use Rattle.std.specs.Prelude.{ℕ, ◌-◌, nat_lt, if◌then◌else◌, List, [], ◌∷◌, ◌++◌, Option, Some, None, codes, length}
 use Rattle.std.specs.Prelude.{take, drop}
 use Rattle.std.specs.Fmt.{decimal}
-use Rattle.st_words.specs.Values.{Datum}
+use Rattle.st_types.specs.Values.{Datum}
 use Rattle.st_print.specs.Spelling.{value_text}
-use Rattle.retain_areas.specs.declared.shape.TheConstants.{FILE_BYTES}
+use Rattle.retain_store.specs.declared.shape.TheConstants.{FILE_BYTES}
 use Rattle.retain_show.specs.declared.areas.TheConstants.{SECOND}
 use Rattle.retain_records.specs.Records.{Content}
-use Rattle.cut_bytes.specs.Cuts.{cut, parted}
-use Rattle.retain_areas.specs.Recovered.{Area, Closed, Damaged, Open, Recovered, TooLong, Refused, Nothing, Found, area}
+use Rattle.retain_records.specs.Cuts.{cut, parted}
+use Rattle.retain_store.specs.Recovered.{Area, Closed, Damaged, Open, Recovered, TooLong, Refused, Nothing, Found, area}
 
 -- what stands behind the first blank of a line `PATH TYPE`
 abbrev pub behind : Option (List ℕ × List ℕ) → List ℕ

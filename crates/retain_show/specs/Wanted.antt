@@ -3,11 +3,11 @@ use Rattle.std.specs.Prelude.{ℕ, Bool, List, [], ◌∷◌, ◌++◌, if◌the
 use Rattle.std.specs.Prelude.{Some, None, option_map, unwrap_or, is_some, is_none, length, map, filter}
 use Rattle.std.specs.List.{find, flat_map}
 use Rattle.std.specs.Vec.{vec_items}
-use Rattle.st_words.specs.Values.{Datum}
-use Rattle.st_plans.specs.declared.plan.PlanVariable.{PlanVariable}
-use Rattle.st_plans.specs.Layouts.{Enumerations, path_text, type_text}
-use Rattle.st_plans.specs.Restarts.{KeptLine}
-use Rattle.kept_lines.specs.Matching.{is_line_for, numbered_by}
+use Rattle.st_types.specs.Values.{Datum}
+use Rattle.st_meaning.specs.declared.plan.PlanVariable.{PlanVariable}
+use Rattle.st_meaning.specs.Layouts.{Enumerations, path_text, type_text}
+use Rattle.st_meaning.specs.Restarts.{KeptLine}
+use Rattle.retain_records.specs.Matching.{is_line_for, numbered_by}
 use Rattle.retain_show.specs.declared.fate.Changes.{Changes}
 use Rattle.retain_show.specs.declared.fate.Fate.{Fate}
 use Rattle.retain_show.specs.declared.written_lines.Line as lines

@@ -2,9 +2,9 @@
 
 ghost use Rattle.std.specs.Prelude.{◌≡◌, ◌≢◌, ◌<◌, ◌++◌, length, IfOk, IfErr, OnOk, slice_set};
 ghost use Rattle.std.specs.Io.KnownBytes.{Appends};
-ghost use Rattle.retain_areas.specs.declared.shape.TheConstants.{FILE_BYTES};
+ghost use Rattle.retain_store.specs.declared.shape.TheConstants.{FILE_BYTES};
 ghost use Rattle.retain_store.specs.Opening.{RefusesFor};
-ghost use Rattle.retain_areas.specs.Recovered.{recovered};
+ghost use Rattle.retain_store.specs.Recovered.{recovered};
 ghost use Rattle.retain_show.specs.Shown.{alone_shown, areas_shown, both_shown};
 
 use crate::contents::opened;

@@ -13,7 +13,7 @@ use crate::lines::names_of_type;
 use crate::matching::{Match, dropped_in, matched};
 use crate::written_lines::Line;
 use st_print::write_value;
-use st_words::{Name, Value};
+use st_types::{Name, Value};
 use std::alloc::{AllocError, Global};
 use std::io;
 use std::io::Write;

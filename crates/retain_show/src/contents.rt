@@ -3,7 +3,7 @@
 ghost use Rattle.std.specs.Prelude.{◌≡◌, ◌≢◌, IfOk, IfErr};
 ghost use Rattle.retain_store.specs.Opening.{RefusesFor};
 ghost use Rattle.retain_store.specs.Kept.{IsLast};
-ghost use Rattle.retain_areas.specs.Recovered.{recovered};
+ghost use Rattle.retain_store.specs.Recovered.{recovered};
 ghost use Rattle.retain_show.specs.Shown.{IsAccepted, shown_text};
 
 use crate::record::{record_text, text_of};

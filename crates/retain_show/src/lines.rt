@@ -3,12 +3,12 @@
 ghost use Rattle.std.specs.Prelude.{◌≡◌, ◌∷◌, [], IfOk, OnOk, map};
 ghost use Rattle.std.specs.Vec.{vec_items};
 ghost use Rattle.std.specs.Io.KnownBytes.{Appends};
-ghost use Rattle.cut_bytes.specs.Cuts.{parted};
+ghost use Rattle.retain_records.specs.Cuts.{parted};
 ghost use Rattle.retain_show.specs.Shown.{inner, line_shown, lines_shown, spelling_of};
 
-use cut_bytes::cut;
+use retain_records::cut;
 use st_print::write_value;
-use st_words::{Name, Value};
+use st_types::{Name, Value};
 use std::alloc::{AllocError, Global};
 use std::io;
 use std::io::Write;

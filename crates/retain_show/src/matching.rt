@@ -1,15 +1,15 @@
 //! The lines of a record that speak of a variable.
 
 ghost use Rattle.std.specs.Prelude.{◌≡◌, IfOk, map, option_map, unwrap_or};
-ghost use Rattle.kept_lines.specs.Matching.{numbered_by};
+ghost use Rattle.retain_records.specs.Matching.{numbered_by};
 ghost use Rattle.retain_show.specs.Against.{line_with_path};
 ghost use Rattle.retain_show.specs.Wanted.{dropped_in, fate_in, is_dropped, kept_line, line_view};
 ghost use Rattle.retain_show.specs.Wanted.{match_view, matched, own_line, told_in};
 
 use crate::fate::Fate;
 use crate::written_lines::Line;
-use kept_lines::numbered;
-use st_words::Value;
+use retain_records::numbered;
+use st_types::Value;
 use std::alloc::{AllocError, Global};
 
 /// The value that a variable takes from a line, where it is its own: one with its path and its type, as they are

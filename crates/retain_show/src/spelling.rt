@@ -1,47 +1,13 @@
 //! How paths and types are written in a record.
 
-ghost use Rattle.std.specs.Prelude.{◌≡◌, IfOk, OnOk, map};
+ghost use Rattle.std.specs.Prelude.{◌≡◌, IfOk, map};
 ghost use Rattle.std.specs.Vec.{vec_items};
-ghost use Rattle.std.specs.Io.KnownBytes.{Appends};
-ghost use Rattle.st_words.specs.UpperNames.{joined};
-ghost use Rattle.st_plans.specs.Layouts.{path_text, type_text};
+ghost use Rattle.st_meaning.specs.Layouts.{path_text, type_text};
 
-use st_print::write_path;
-use st_words::{Kind, Name, Path};
+use st_print::{write_path, write_type};
+use st_types::{Kind, Name, Path};
 use std::alloc::Global;
 use std::io;
-use std::io::Write;
-
-/// Writes names with commas between them.
-fn write_names<W: Write>(out: &mut W, names: &[Name]) -> io::Result<()>
-    ensures { OnOk result (Appends (W.contents out.old) (W.contents out.new) (joined names.now)) }
-{
-    match names {
-        [] => Ok(()),
-        [last] => out.write_all(last.as_slice()),
-        [first, others @ ..] => {
-            out.write_all(first.as_slice())?;
-            out.write_all(b",")?;
-            write_names(out, others)
-        }
-    }
-}
-
-/// Writes a type: its keyword, or the names of an enumerated one between parentheses.
-fn write_type<W: Write>(out: &mut W, types: &[Vec<Name>], kind: Kind) -> io::Result<()>
-    ensures { OnOk result
-        (Appends (W.contents out.old) (W.contents out.new) (type_text (map vec_items types.now) kind)) }
-{
-    let Kind::Enumerated { number, .. } = kind else {
-        return out.write_all(kind.row().keyword.as_bytes());
-    };
-    let Some(names) = types.get(number as usize) else {
-        return Ok(());
-    };
-    out.write_all(b"(")?;
-    write_names(out, names)?;
-    out.write_all(b")")
-}
 
 /// A type as a record spells it.
 pub(crate) fn type_text(alloc: Global, types: &[Vec<Name>], kind: Kind) -> io::Result<Vec<u8>>

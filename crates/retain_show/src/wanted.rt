@@ -9,8 +9,8 @@ ghost use Rattle.retain_show.specs.Wanted.{line_view, wanted};
 
 use crate::spelling::{path_text, type_text};
 use crate::written_lines::Line;
-use st_plans::PlanVariable;
-use st_words::Name;
+use st_meaning::PlanVariable;
+use st_types::Name;
 use std::alloc::Global;
 use std::io;
 

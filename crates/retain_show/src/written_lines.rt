@@ -4,8 +4,8 @@ ghost use Rattle.std.specs.Prelude.{◌≡◌, IfOk, map};
 ghost use Rattle.retain_show.specs.Against.{valued_lines};
 ghost use Rattle.retain_show.specs.Wanted.{line_view};
 
-use kept_lines::{Words, words_at};
-use st_words::Value;
+use retain_records::{Words, words_at};
+use st_types::Value;
 use std::alloc::{AllocError, Global};
 
 /// A path and a type, as they are written, and a value: a line of a record, or a variable with its initial value.

@@ -4,12 +4,12 @@ use Rattle.std.proofs.Common.{subst, arith, length-append}
 use Rattle.std.proofs.lemmas.List.{drop_at}
 use Rattle.std.proofs.Math.Seq.{take-append-add}
 use Rattle.std.specs.Int.{w32, w64, to_be_bytes}
-use Rattle.retain_areas.specs.declared.shape.TheConstants.{HEADER_BYTES}
-use Rattle.st_words.specs.declared.limits.TheConstants.{MAX_RECORD_BODY}
+use Rattle.retain_store.specs.declared.shape.TheConstants.{HEADER_BYTES}
+use Rattle.st_types.specs.declared.limits.TheConstants.{MAX_RECORD_BODY}
 use Rattle.retain_records.specs.Records.{Content, IsRecordable, record_bytes}
 use Rattle.retain_records.specs.Reading.{decoded}
 use Rattle.retain_records.specs.RecordLaws.{decoded_of}
-use Rattle.retain_areas.specs.Areas.{IsFrame}
+use Rattle.retain_store.specs.Areas.{IsFrame}
 
 pub is_frame : (generation : ℕ) (body frame : List ℕ)
     → frame ≡ to_be_bytes w64 generation ++ to_be_bytes w32 (length body) ++ body → 0 < generation → generation < 2 ^ 64

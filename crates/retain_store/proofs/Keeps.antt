@@ -2,23 +2,23 @@
 use Rattle.std.proofs.Common.{◌≡◌, inl, inr, ℕ, ◌+◌, ◌-◌, ◌<◌, ◌≤◌, List, get_or, length, refl, sym, ◌∙◌, ap, subst, arith}
 use Rattle.std.proofs.lemmas.Bool.{cases_eq}
 use Rattle.std.proofs.lemmas.Bool.Decides.{nat_tests}
-use Rattle.retain_areas.specs.declared.shape.TheConstants.{AREA_BYTES, FILE_BYTES, HEADER_BYTES}
+use Rattle.retain_store.specs.declared.shape.TheConstants.{AREA_BYTES, FILE_BYTES, HEADER_BYTES}
 use Rattle.disk.specs.Disk.{Only}
-use Rattle.retain_areas.specs.declared.area.Areas.{Areas}
-use Rattle.retain_areas.specs.declared.area.Gate.{Gate}
-use Rattle.retain_areas.specs.declared.area.Gate.TheVariants as gates
-use Rattle.retain_areas.specs.declared.area.Half.{Half}
-use Rattle.retain_areas.specs.declared.area.Half.TheVariants.{First, Second}
+use Rattle.retain_store.specs.declared.area.Areas.{Areas}
+use Rattle.retain_store.specs.declared.area.Gate.{Gate}
+use Rattle.retain_store.specs.declared.area.Gate.TheVariants as gates
+use Rattle.retain_store.specs.declared.area.Half.{Half}
+use Rattle.retain_store.specs.declared.area.Half.TheVariants.{First, Second}
 use Rattle.retain_store.specs.declared.store.Saves.{Saves}
 use Rattle.retain_store.specs.declared.store.Saves.TheVariants as saves
 use Rattle.retain_records.specs.Records.{Content}
-use Rattle.retain_areas.specs.Recovered.{Recovered, Open, TooLong, Refused, Nothing, Found, area, recovered}
-use Rattle.retain_areas.specs.Areas.{alone, at_of, other_of, IsEmpty, IsOlder, IsOpen, GateIs, IsReady, IsEither, IsSaved}
-use Rattle.retain_areas.specs.Areas.{IsSurveyed, areas_after_save}
-use Rattle.retain_areas.specs.Surveys.{held}
+use Rattle.retain_store.specs.Recovered.{Recovered, Open, TooLong, Refused, Nothing, Found, area, recovered}
+use Rattle.retain_store.specs.Areas.{alone, at_of, other_of, IsEmpty, IsOlder, IsOpen, GateIs, IsReady, IsEither, IsSaved}
+use Rattle.retain_store.specs.Areas.{IsSurveyed, areas_after_save}
+use Rattle.retain_store.specs.Surveys.{held}
 use Rattle.retain_store.specs.Opening.{IsAtRest, KeepsRecord}
 use Rattle.retain_store.specs.Kept.{StoreInvariant, IsLast}
-use Rattle.retain_areas.proofs.Surveys.{twice, is_half, held_some}
+use Rattle.retain_store.proofs.Surveys.{twice, is_half, held_some}
 
 other_at : (half : Half) → at_of (other_of half) ≡ AREA_BYTES - at_of half
 other_at First = refl

@@ -1,16 +1,16 @@
 -- What a store keeps.
 use Rattle.std.specs.Prelude.{◌≡◌, ◌+◌, ◌-◌, ◌≤◌, ◌<◌, ℕ, Bool, true, false, Option, Some, None, List}
-use Rattle.st_words.specs.Values.{Datum}
-use Rattle.retain_areas.specs.declared.shape.TheConstants.{AREA_BYTES, HEADER_BYTES}
-use Rattle.retain_areas.specs.declared.area.Areas.{Areas}
+use Rattle.st_types.specs.Values.{Datum}
+use Rattle.retain_store.specs.declared.shape.TheConstants.{AREA_BYTES, HEADER_BYTES}
+use Rattle.retain_store.specs.declared.area.Areas.{Areas}
 use Rattle.retain_store.specs.declared.fault.StoreFault.{StoreFault}
 use Rattle.retain_store.specs.declared.fault.StoreFault.TheVariants as faults
 use Rattle.retain_store.specs.declared.store.Saves.{Saves}
 use Rattle.retain_store.specs.declared.store.Saves.TheVariants as saves
 use Rattle.retain_records.specs.Records.{Content}
-use Rattle.retain_areas.specs.Recovered.{Recovered, Nothing, Found, recovered}
-use Rattle.retain_areas.specs.Areas.{IsEither}
-use Rattle.retain_areas.specs.Surveys.{held}
+use Rattle.retain_store.specs.Recovered.{Recovered, Nothing, Found, recovered}
+use Rattle.retain_store.specs.Areas.{IsEither}
+use Rattle.retain_store.specs.Surveys.{held}
 use Rattle.retain_store.specs.Opening.{IsAtRest}
 
 -- what callers see of a store: its disk, the generation of the last record (0 for none), the last record, the record

@@ -1,2 +1,5 @@
+pub mod Areas
+pub mod Recovered
+pub mod Surveys
 pub mod Kept
 pub mod Opening

@@ -1,14 +1,14 @@
 -- What opening a store does.
 use Rattle.std.specs.Prelude.{◌≡◌, ◌+◌, ◌%◌, ◌^◌, ◌<◌, ℕ, List, length}
 use Rattle.disk.specs.Disk.{Only}
-use Rattle.retain_areas.specs.declared.shape.TheConstants.{FILE_BYTES}
-use Rattle.retain_areas.specs.declared.area.Areas.{Areas}
+use Rattle.retain_store.specs.declared.shape.TheConstants.{FILE_BYTES}
+use Rattle.retain_store.specs.declared.area.Areas.{Areas}
 use Rattle.retain_store.specs.declared.fault.StoreFault.{StoreFault}
 use Rattle.retain_store.specs.declared.fault.StoreFault.TheVariants as faults
 use Rattle.retain_store.specs.declared.loading.Loaded.{Loaded}
 use Rattle.retain_store.specs.declared.loading.Loaded.TheVariants as loads
-use Rattle.retain_areas.specs.Recovered.{Recovered, TooLong, Refused, Found}
-use Rattle.retain_areas.specs.Areas.{IsEmpty, IsSurveyed}
+use Rattle.retain_store.specs.Recovered.{Recovered, TooLong, Refused, Found}
+use Rattle.retain_store.specs.Areas.{IsEmpty, IsSurveyed}
 
 -- the fault says of the file what is so
 abbrev pub RefusesFor : StoreFault → Recovered → Type 0

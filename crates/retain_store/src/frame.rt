@@ -2,14 +2,14 @@
 
 ghost use Rattle.std.specs.Prelude.{◌≡◌, ◌+◌, ◌≤◌, ◌<◌, ◌++◌, length, take, drop};
 ghost use Rattle.std.specs.Int.{w32, w64, to_be_bytes};
-ghost use Rattle.st_words.specs.declared.limits.TheConstants.{MAX_RECORD_BODY};
+ghost use Rattle.st_types.specs.declared.limits.TheConstants.{MAX_RECORD_BODY};
 ghost use Rattle.retain_records.specs.Records.{IsRecordable, record_bytes};
-ghost use Rattle.retain_areas.specs.Areas.{IsFrame};
+ghost use Rattle.retain_store.specs.Areas.{IsFrame};
 ghost use Rattle.retain_store.specs.Kept.{content_of};
 
-use retain_areas::HEADER_BYTES;
+use crate::shape::HEADER_BYTES;
 use retain_records::spell;
-use st_words::Value;
+use st_types::Value;
 
 /// Writes a header.
 fn put_header(header: &mut [u8], generation: u64, size: u32)

@@ -3,15 +3,17 @@
 ghost use Rattle.std.specs.Prelude.{◌≡◌, ◌≢◌, ◌-◌, length, take, IfOk, IfErr, IsOk, OnOk, MatchResult};
 ghost use Rattle.disk.specs.Disk.{Only, Counts};
 ghost use Rattle.disk.specs.Runs.{LeavesOnly};
-ghost use Rattle.retain_areas.specs.Recovered.{recovered};
-ghost use Rattle.retain_areas.specs.Areas.{IsZeros};
-ghost use Rattle.retain_areas.specs.Surveys.{held, IsRecordableAt};
+ghost use Rattle.retain_store.specs.Recovered.{recovered};
+ghost use Rattle.retain_store.specs.Areas.{IsZeros};
+ghost use Rattle.retain_store.specs.Surveys.{held, IsRecordableAt};
 ghost use Rattle.retain_store.specs.Opening.{IsAtRest, IsLoaded, IsOfFile, RefusesFor, CountsFault, KeepsFile};
 ghost use Rattle.retain_store.specs.Opening.{KeepsRecord};
 
+use crate::area::{Areas, format};
 use crate::fault::StoreFault;
+use crate::shape::{AREA_BYTES, FILE_BYTES};
+use crate::surveying::survey;
 use disk::{Disk, DiskError};
-use retain_areas::{AREA_BYTES, Areas, FILE_BYTES, format, survey};
 use retain_records::{LineRoom, Record};
 
 /// Syncs the file, and tells its length.

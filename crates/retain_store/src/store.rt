@@ -3,22 +3,23 @@
 ghost use Rattle.std.specs.Prelude.{◌≡◌, ◌≢◌, ◌≤◌, ◌+◌, ◌-◌, ◌^◌, ◌↔◌, List, ℕ, true, false, IfOk, IfErr, IfSome, OnOk};
 ghost use Rattle.std.specs.Prelude.{OnErr, IsErrOf, MatchResult, length, take};
 ghost use Rattle.std.specs.Option.{option_copied};
-ghost use Rattle.st_words.specs.declared.limits.TheConstants.{MAX_RECORD_BODY};
+ghost use Rattle.st_types.specs.declared.limits.TheConstants.{MAX_RECORD_BODY};
 ghost use Rattle.disk.specs.Disk.{Only};
 ghost use Rattle.disk.specs.Runs.{LeavesOnly};
 ghost use Rattle.retain_records.specs.Records.{IsRecordable, record_bytes};
-ghost use Rattle.retain_areas.specs.Recovered.{recovered, Found};
-ghost use Rattle.retain_areas.specs.Areas.{IsEither, IsZeros};
+ghost use Rattle.retain_store.specs.Recovered.{recovered, Found};
+ghost use Rattle.retain_store.specs.Areas.{IsEither, IsZeros};
 ghost use Rattle.retain_store.specs.Opening.{RefusesFor, CountsFault, KeepsFile, KeepsRecord};
 ghost use Rattle.retain_store.specs.Kept.{content_of, record_in, IsLast, IsTriedAfter};
 
+use crate::area::{Areas, write_frame};
 use crate::fault::StoreFault;
 use crate::frame::put_frame;
 use crate::loading::recover;
+use crate::shape::{FILE_BYTES, HEADER_BYTES};
 use disk::Disk;
-use retain_areas::{Areas, FILE_BYTES, HEADER_BYTES, write_frame};
 use retain_records::{LineRoom, Record};
-use st_words::Value;
+use st_types::Value;
 use std::alloc::{AllocError, Global};
 use std::marker::Model;
 
@@ -65,8 +66,8 @@ impl<D: Disk + Drop> Drop for Store<D> {
 
 impl<D: Disk> Model for Store<D> {
     ghost use Rattle.std.specs.Prelude.{◌-◌, ◌≤◌, length};
-    ghost use Rattle.retain_areas.specs.declared.shape.TheConstants.{HEADER_BYTES};
-    ghost use Rattle.retain_areas.specs.Surveys.{held, IsRecordableAt};
+    ghost use Rattle.retain_store.specs.declared.shape.TheConstants.{HEADER_BYTES};
+    ghost use Rattle.retain_store.specs.Surveys.{held, IsRecordableAt};
     ghost use Rattle.retain_store.specs.Kept.{StoreView, StoreInvariant, tried_by, has_failed};
 
     ghost Value = { StoreView D };

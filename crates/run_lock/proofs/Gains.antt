@@ -1,27 +1,27 @@
 -- What a call of the core adds to the log.
 use Rattle.std.proofs.Common.{◌≡◌, ◌∙◌, ap, arith, sym, refl, append-nil, take, drop, length, length-append, ◌≤◌, ℕ, ◌+◌, List, [], ◌∷◌, ◌++◌, Option, Some, None, Result, Ok, Err}
-use Rattle.st_plans.specs.declared.entry.Entry.TheVariants.{Row, Done}
-use Rattle.st_plans.specs.declared.entry.Activation.{Activation}
-use Rattle.st_plans.specs.Rows.{Latch}
-use Rattle.st_plans.specs.Logs.{is_done, done_count}
-use Rattle.st_plans.proofs.CountLemmas.{counted_behind}
-use Rattle.st_plans.proofs.LogLemmas.{past_of-add}
-use Rattle.config.specs.PlanViews.{plan_view}
-use Rattle.coded_runs.specs.Effects.{Effect}
+use Rattle.st_types.specs.declared.entry.Entry.TheVariants.{Row, Done}
+use Rattle.st_types.specs.declared.entry.Activation.{Activation}
+use Rattle.st_types.specs.Rows.{Latch}
+use Rattle.st_meaning.specs.Logs.{is_done, done_count}
+use Rattle.st_meaning.proofs.CountLemmas.{counted_behind}
+use Rattle.st_meaning.proofs.LogLemmas.{past_of-add}
+use Rattle.plan.specs.PlanViews.{plan_view}
+use Rattle.slot_run.specs.Effects.{Effect}
 use Rattle.serial_core.specs.declared.refusal.Answer.{Answer}
 use Rattle.serial_core.specs.declared.refusal.Answer.TheVariants.{Committed, Stale}
 use Rattle.serial_core.specs.declared.refusal.Refusal.TheVariants.{Full, NotWaiting, Foreign, NotLater, NoMemory}
 use Rattle.serial_core.specs.Steps.{State, made, grown, Latches, Commits, CommitsHere}
-use Rattle.commit_lock.specs.declared.refusal.Refusal.{Refusal}
-use Rattle.commit_lock.specs.declared.refusal.Refusal.TheVariants.{StoreFailed, Serial}
-use Rattle.commit_lock.specs.Cores.{CoreView, Guards, with_state}
+use Rattle.durable_core.specs.declared.refusal.Refusal.{Refusal}
+use Rattle.durable_core.specs.declared.refusal.Refusal.TheVariants.{StoreFailed, Serial}
+use Rattle.durable_core.specs.Cores.{CoreView, Guards, with_state}
 use Rattle.run_lock.specs.Answers.{committed_by, committed_here}
 use Rattle.run_lock.specs.Latching.{LatchesNext}
 use Rattle.run_lock.specs.Lives.{life_of, life_at, Gains, IsGrownFrom, IsOfLife, IsStartedSo}
-use Rattle.commit_lock.specs.declared.starting.StartMode.{StartMode}
+use Rattle.durable_core.specs.declared.starting.StartMode.{StartMode}
 use Rattle.run_lock.proofs.PhaseLemmas.{StaysSo}
 use Rattle.std.proofs.lemmas.List.{take-append-le, take-append-drop}
-use Rattle.st_plans.specs.declared.entry.Entry.{Entry}
+use Rattle.st_types.specs.declared.entry.Entry.{Entry}
 
 -- nothing changed in the life
 pub stays : {D : Type 0} (s t : CoreView D) (x : State) → t ≡ with_state s x → x ≡ s.state → Gains s t 0

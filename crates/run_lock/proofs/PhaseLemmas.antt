@@ -5,11 +5,11 @@ use Rattle.retain_store.specs.declared.fault.StoreFault.{StoreFault}
 use Rattle.serial_core.specs.declared.refusal.Refusal.{Refusal as SerialRefusal}
 use Rattle.serial_core.specs.declared.refusal.Refusal.TheVariants.{Full, NotWaiting, Foreign, NotLater, NoMemory}
 use Rattle.serial_core.specs.Steps.{State, Latches}
-use Rattle.commit_lock.specs.Cores.{CoreView, Guards}
-use Rattle.commit_lock.specs.Flushing.{Flushes}
-use Rattle.commit_lock.specs.declared.refusal.Refusal.TheVariants.{StoreFailed, Serial}
-use Rattle.st_plans.specs.Rows.{Latch}
-use Rattle.commit_lock.specs.declared.refusal.Refusal.{Refusal}
+use Rattle.durable_core.specs.Cores.{CoreView, Guards}
+use Rattle.durable_core.specs.Flushing.{Flushes}
+use Rattle.durable_core.specs.declared.refusal.Refusal.TheVariants.{StoreFailed, Serial}
+use Rattle.st_types.specs.Rows.{Latch}
+use Rattle.durable_core.specs.declared.refusal.Refusal.{Refusal}
 use Rattle.run_lock.specs.declared.phase.Phase.{Phase}
 use Rattle.run_lock.specs.declared.phase.RunFault.{RunFault}
 use Rattle.run_lock.specs.declared.phase.Phase.TheVariants.{Running, Ended, Stopped}

@@ -2,7 +2,7 @@
 use Rattle.std.specs.Prelude.{ℕ, ◌+◌, min, Option, Some, None, Result, Ok, Err}
 use Rattle.serial_core.specs.declared.refusal.Answer.{Answer}
 use Rattle.serial_core.specs.declared.refusal.Answer.TheVariants.{Committed, Stale}
-use Rattle.commit_lock.specs.declared.refusal.Refusal.{Refusal}
+use Rattle.durable_core.specs.declared.refusal.Refusal.{Refusal}
 
 -- how many executions an answer tells of
 abbrev pub committed_by : Result Answer Refusal → ℕ

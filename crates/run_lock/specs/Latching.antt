@@ -1,9 +1,9 @@
 -- Latching the next of the rows that are left.
 use Rattle.std.specs.Prelude.{◌≡◌, ℕ, List, [], ◌∷◌, Option, Some, None, Ok, Err}
-use Rattle.st_plans.specs.Rows.{Latch}
+use Rattle.st_types.specs.Rows.{Latch}
 use Rattle.serial_core.specs.Steps.{Latches}
-use Rattle.commit_lock.specs.declared.refusal.Refusal.{Refusal}
-use Rattle.commit_lock.specs.Cores.{CoreView, Guards}
+use Rattle.durable_core.specs.declared.refusal.Refusal.{Refusal}
+use Rattle.durable_core.specs.Cores.{CoreView, Guards}
 
 -- The first row is latched as the core does it, and whether that was refused; without a row nothing changes.
 abbrev pub LatchesNext : {D : Type 0} → CoreView D → List Latch → Option Refusal → CoreView D → Type 0

@@ -1,16 +1,16 @@
 -- The life that a run is of.
 use Rattle.std.specs.Prelude.{◌≡◌, ℕ, ◌+◌, ◌<◌, ◌≤◌, List, [], ◌++◌, Option, Some, take}
 use Rattle.std.specs.Coded.{Coded-set, coded_list, coded_option}
-use Rattle.st_plans.specs.contracts.entry.Row as latch
-use Rattle.st_plans.specs.declared.entry.Entry.{Entry}
+use Rattle.st_types.specs.contracts.entry.Row as latch
+use Rattle.st_types.specs.declared.entry.Entry.{Entry}
 use Rattle.serial_core.specs.contracts.serial.SerialCore as state
 use Rattle.atomic_table.specs.Seated.{TableId}
-use Rattle.st_plans.specs.Logs.{done_count}
+use Rattle.st_meaning.specs.Logs.{done_count}
 use Rattle.serial_core.specs.Steps.{State, made, none_waits}
-use Rattle.st_plans.specs.Rows.{Latch}
-use Rattle.commit_lock.specs.Cores.{CoreView}
-use Rattle.commit_lock.specs.contracts.starting.StartMode as mode
-use Rattle.commit_lock.specs.declared.starting.StartMode.{StartMode}
+use Rattle.st_types.specs.Rows.{Latch}
+use Rattle.durable_core.specs.Cores.{CoreView}
+use Rattle.durable_core.specs.contracts.starting.StartMode as mode
+use Rattle.durable_core.specs.declared.starting.StartMode.{StartMode}
 use Rattle.run_lock.specs.declared.phase.Phase.{Phase}
 use Rattle.run_lock.specs.Phases.{unless_stopped}
 

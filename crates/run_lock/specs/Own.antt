@@ -1,17 +1,17 @@
 -- What has the code of a run's own plan.
 use Rattle.std.specs.Prelude.{◌≡◌, ℕ, List, Option, Some, None, option_map, refl}
 use Rattle.std.specs.Coded.{Coded, Coded-set, code_by, coded_list, coded_option, coded×, coded_ℕ}
-use Rattle.st_words.specs.declared.kind.Kind.{Kind}
-use Rattle.st_words.specs.contracts.kind.Kind as kind
+use Rattle.st_types.specs.declared.kind.Kind.{Kind}
+use Rattle.st_types.specs.contracts.kind.Kind as kind
 use Rattle.machine_code.specs.declared.instr.Instr.{Instr}
 use Rattle.machine_code.specs.contracts.instr.Instr as instr
-use Rattle.coded_programs.specs.declared.code.Code.{Code}
-use Rattle.coded_programs.specs.Codes.{CodeView, code_view}
-use Rattle.coded_runs.specs.Effects.{Effect}
-use Rattle.coded_runs.specs.Executions.{IsEffectOf}
-use Rattle.coded_runs.specs.QuickExecutions.{IsQuickEffectOf}
-use Rattle.coded_runs.specs.declared.taken.Taken.{Taken}
-use Rattle.coded_runs.specs.declared.taken.Taken.TheVariants.{Quick, Whole}
+use Rattle.slot_code.specs.declared.code.Code.{Code}
+use Rattle.slot_code.specs.Codes.{CodeView, code_view}
+use Rattle.slot_run.specs.Effects.{Effect}
+use Rattle.slot_run.specs.Executions.{IsEffectOf}
+use Rattle.slot_run.specs.QuickExecutions.{IsQuickEffectOf}
+use Rattle.slot_run.specs.declared.taken.Taken.{Taken}
+use Rattle.slot_run.specs.declared.taken.Taken.TheVariants.{Quick, Whole}
 use Rattle.serial_core.specs.Steps.{State, code_at}
 
 -- the code of a program in the plan of a life

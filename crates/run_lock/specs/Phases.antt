@@ -4,10 +4,10 @@ use Rattle.std.specs.Coded.{Coded-set, coded_option}
 use Rattle.std.proofs.Math.Bridge.{le_prop}
 use Rattle.retain_store.specs.contracts.fault.StoreFault as fault
 use Rattle.serial_core.specs.declared.refusal.Refusal.TheVariants.{Full, NotWaiting, Foreign, NotLater, NoMemory}
-use Rattle.commit_lock.specs.Cores.{CoreView}
-use Rattle.st_plans.specs.Rows.{Latch}
-use Rattle.commit_lock.specs.declared.refusal.Refusal.{Refusal}
-use Rattle.commit_lock.specs.declared.refusal.Refusal.TheVariants.{StoreFailed, Serial}
+use Rattle.durable_core.specs.Cores.{CoreView}
+use Rattle.st_types.specs.Rows.{Latch}
+use Rattle.durable_core.specs.declared.refusal.Refusal.{Refusal}
+use Rattle.durable_core.specs.declared.refusal.Refusal.TheVariants.{StoreFailed, Serial}
 use Rattle.run_lock.specs.declared.phase.Phase.{Phase}
 use Rattle.run_lock.specs.declared.phase.Phase.TheVariants.{Running, Ended, Stopped}
 use Rattle.run_lock.specs.declared.phase.RunFault.{RunFault}

@@ -4,26 +4,26 @@ ghost use Rattle.std.specs.Prelude.{length, ◌≡◌, ◌↔◌, ◌+◌, ◌^�
 ghost use Rattle.std.specs.Prelude.{IfOk, IfNone, OnErr, IsTrue};
 ghost use Rattle.std.specs.Coded.{Coded-set};
 ghost use Rattle.atomic_table.specs.Seated.{table_id_coded};
-ghost use Rattle.st_plans.specs.Logs.{done_count};
+ghost use Rattle.st_meaning.specs.Logs.{done_count};
 ghost use Rattle.serial_core.specs.Steps.{made, Commits, CommitsHere, Takes};
 ghost use Rattle.serial_core.specs.Quick.{TakesQuick};
-ghost use Rattle.commit_lock.specs.Cores.{Guards};
-ghost use Rattle.commit_lock.specs.Flushing.{Flushes, IsAcknowledged};
+ghost use Rattle.durable_core.specs.Cores.{Guards};
+ghost use Rattle.durable_core.specs.Flushing.{Flushes, IsAcknowledged};
 ghost use Rattle.run_lock.specs.Answers.{committed_by, committed_here};
 ghost use Rattle.run_lock.specs.Lives.{life_of, IsOfLife, IsOfLife-prop, IsStartedSo, IsStartedSo-prop, NothingIsDue};
 ghost use Rattle.run_lock.specs.Lives.{InOrder, InOrder-prop};
 ghost use Rattle.run_lock.specs.Latching.{LatchesNext};
 ghost use Rattle.run_lock.specs.Own.{IsOwnTaken};
 ghost use Rattle.run_lock.specs.Phases.{ended_by, phase_after, phase_after_answer, IsStoppedFor, IsStoppedFor-prop, MayEnd};
-ghost use Rattle.commit_lock.specs.declared.refusal.Refusal.{Refusal};
+ghost use Rattle.durable_core.specs.declared.refusal.Refusal.{Refusal};
 
 use crate::mark::{Mark, RaisePass};
 use crate::own::{OwnExecution, OwnTaken};
 use crate::phase::{Phase, after_answer, after_call, end_of};
-use coded_runs::{Snapshot, Taken};
-use commit_lock::{Answer, Core, Refusal};
 use disk::Disk;
-use st_plans::Row;
+use durable_core::{Answer, Core, Refusal};
+use slot_run::{Snapshot, Taken};
+use st_types::Row;
 use std::alloc::Global;
 use std::collections::VecDeque;
 use std::marker::{Brand, PhantomData};
@@ -33,9 +33,9 @@ use std::sync::ledger::{Book, Ledger, Share};
 pub trait Run: Ledger {
     ghost use Rattle.std.specs.Prelude.{ℕ, List, Option};
     ghost use Rattle.atomic_table.specs.Seated.{TableId};
-    ghost use Rattle.st_plans.specs.Rows.{Latch};
+    ghost use Rattle.st_types.specs.Rows.{Latch};
     ghost use Rattle.serial_core.specs.Steps.{State};
-    ghost use Rattle.commit_lock.specs.declared.starting.StartMode.{StartMode};
+    ghost use Rattle.durable_core.specs.declared.starting.StartMode.{StartMode};
 
     /// How many executions the log has as the run begins.
     ghost dones: { ℕ };
@@ -62,7 +62,7 @@ pub trait Run: Ledger {
 impl Run for Brand {
     ghost use Rattle.std.specs.Prelude.{[], None};
     ghost use Rattle.run_lock.specs.Lives.{no_mark};
-    ghost use Rattle.commit_lock.specs.declared.starting.StartMode.TheVariants.{Cold};
+    ghost use Rattle.durable_core.specs.declared.starting.StartMode.TheVariants.{Cold};
 
     ghost dones = { 0 };
 

@@ -4,8 +4,8 @@ ghost use Rattle.std.specs.Prelude.{◌≡◌, IfNone, IfOk, IfSome, Some};
 ghost use Rattle.run_lock.specs.Own.{CameOf, IsOwn, IsOwn-prop, IsOwnTaken, IsOwnTaken-prop, IsWhole};
 
 use crate::locked::Run;
-use coded_runs::{Execution, Taken, run_by_values, run_quick};
-use st_plans::Activation;
+use slot_run::{Execution, Taken, run_by_values, run_quick};
+use st_types::Activation;
 use std::alloc::{AllocError, Global};
 use std::marker::PhantomData;
 

@@ -3,7 +3,7 @@
 ghost use Rattle.std.specs.Prelude.{◌≡◌};
 ghost use Rattle.run_lock.specs.Phases.{ended_by, phase_after, phase_after_answer};
 
-use commit_lock::Refusal;
+use durable_core::Refusal;
 use serial_core::Refusal as SerialRefusal;
 use thiserror::Error;
 

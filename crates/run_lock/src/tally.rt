@@ -2,13 +2,13 @@
 
 ghost use Rattle.std.specs.Prelude.{◌≡◌, ◌+◌};
 ghost use Rattle.serial_core.specs.Steps.{Commits, CommitsHere};
-ghost use Rattle.commit_lock.specs.Cores.{Guards};
+ghost use Rattle.durable_core.specs.Cores.{Guards};
 ghost use Rattle.run_lock.specs.Answers.{committed_by, committed_here, stale_after};
 
 use crate::locked::{Locked, Run, count_here, count_of};
 use crate::own::OwnExecution;
-use commit_lock::{Answer, Refusal};
 use disk::Disk;
+use durable_core::{Answer, Refusal};
 use std::alloc::Global;
 use std::sync::ledger::Share;
 

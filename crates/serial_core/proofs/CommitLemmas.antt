@@ -2,40 +2,40 @@
 use Rattle.std.proofs.Common.{◌≡◌, ℕ, Bool, true, false, IsTrue, ◌↔◌, List, [], ◌∷◌, ◌++◌, length, map, Option, Some}
 use Rattle.std.proofs.Common.{None, option_map, slice_get, slice_index, refl, sym, ap, subst, ◌∙◌, arith, length-append}
 use Rattle.std.proofs.lemmas.Option.{slice_get-map}
-use Rattle.st_words.specs.Values.{Datum}
-use Rattle.st_plans.specs.declared.entry.Entry.{Entry}
-use Rattle.st_plans.specs.declared.entry.Entry.TheVariants.{Row, Done}
-use Rattle.st_plans.specs.declared.entry.Activation.{Activation}
-use Rattle.st_types.specs.declared.outcome.Outcome.{Outcome}
-use Rattle.st_plans.specs.Rows.{Latch}
-use Rattle.st_words.specs.declared.kind.Kind.{Kind}
-use Rattle.st_plans.specs.declared.plan.PlanVariable.{PlanVariable}
-use Rattle.st_plans.specs.declared.plan.PlanInput.{PlanInput}
-use Rattle.st_types.specs.Stores.{Store, shape_of}
-use Rattle.st_types.proofs.RunLemmas.{store_after_shape}
-use Rattle.st_types.specs.Runs.{outcome_of, store_after}
-use Rattle.st_types.specs.Slots as slots
+use Rattle.st_types.specs.Values.{Datum}
+use Rattle.st_types.specs.declared.entry.Entry.{Entry}
+use Rattle.st_types.specs.declared.entry.Entry.TheVariants.{Row, Done}
+use Rattle.st_types.specs.declared.entry.Activation.{Activation}
+use Rattle.st_meaning.specs.declared.outcome.Outcome.{Outcome}
+use Rattle.st_types.specs.Rows.{Latch}
+use Rattle.st_types.specs.declared.kind.Kind.{Kind}
+use Rattle.st_meaning.specs.declared.plan.PlanVariable.{PlanVariable}
+use Rattle.st_meaning.specs.declared.plan.PlanInput.{PlanInput}
+use Rattle.st_meaning.specs.Stores.{Store, shape_of}
+use Rattle.st_meaning.proofs.RunLemmas.{store_after_shape}
+use Rattle.st_meaning.specs.Runs.{outcome_of, store_after}
+use Rattle.st_meaning.specs.Slots as slots
 use Rattle.std.proofs.lemmas.List.{length-map}
-use Rattle.st_types.specs.Slots.{agrees, variables_in, inputs_in}
-use Rattle.st_plans.specs.Layouts.{layout_of}
-use Rattle.st_plans.specs.Due.{History, Waits, with_run}
-use Rattle.st_plans.specs.Plans as plans
-use Rattle.st_plans.specs.Plans.{schedules_of, image_of, program_at, after_run}
-use Rattle.st_plans.specs.Logs.{Past, past_of, row_at, outcome_at, outcomes_of, done_follows}
-use Rattle.st_plans.proofs.LogLemmas.{past_of-add, IsLegal-add}
-use Rattle.coded_programs.specs.declared.code.Code.{Code}
-use Rattle.coded_programs.specs.Codes.{CodeView, code_view}
-use Rattle.coded_programs.specs.Meanings.{Means}
-use Rattle.coded_runs.specs.Effects.{Effect, IsTrueOf}
-use Rattle.st_trees.specs.SourceViews.{source_view}
-use Rattle.config.specs.Sources.{program_numbered}
-use Rattle.config.specs.SlotPlaces.{merged, slots_among, written_variables}
-use Rattle.config.proofs.SlotLemmas.{from_first, inputs_merged, length_written, typed_merged, variables_merged}
-use Rattle.config.proofs.SlotLemmas.{variables_written}
-use Rattle.st_plans.specs.Layouts.{input_slot}
-use Rattle.config.specs.declared.plan.Plan.{Plan}
-use Rattle.config.specs.declared.task.ProgramInstance.{ProgramInstance}
-use Rattle.config.specs.PlanViews.{plan_view, program_view}
+use Rattle.st_meaning.specs.Slots.{agrees, variables_in, inputs_in}
+use Rattle.st_meaning.specs.Layouts.{layout_of}
+use Rattle.st_meaning.specs.Due.{History, Waits, with_run}
+use Rattle.st_meaning.specs.Plans as plans
+use Rattle.st_meaning.specs.Plans.{schedules_of, image_of, program_at, after_run}
+use Rattle.st_meaning.specs.Logs.{Past, past_of, row_at, outcome_at, outcomes_of, done_follows}
+use Rattle.st_meaning.proofs.LogLemmas.{past_of-add, IsLegal-add}
+use Rattle.slot_code.specs.declared.code.Code.{Code}
+use Rattle.slot_code.specs.Codes.{CodeView, code_view}
+use Rattle.slot_code.specs.Meanings.{Means}
+use Rattle.slot_run.specs.Effects.{Effect, IsTrueOf}
+use Rattle.st_types.specs.SourceViews.{source_view}
+use Rattle.plan.specs.Sources.{program_numbered}
+use Rattle.plan.specs.SlotPlaces.{merged, slots_among, written_variables}
+use Rattle.plan.proofs.SlotLemmas.{from_first, inputs_merged, length_written, typed_merged, variables_merged}
+use Rattle.plan.proofs.SlotLemmas.{variables_written}
+use Rattle.st_meaning.specs.Layouts.{input_slot}
+use Rattle.plan.specs.declared.plan.Plan.{Plan}
+use Rattle.plan.specs.declared.task.ProgramInstance.{ProgramInstance}
+use Rattle.plan.specs.PlanViews.{plan_view, program_view}
 use Rattle.ready_list.specs.Ready.{Ready, IsReadyOf, Removes}
 use Rattle.serial_core.specs.Steps.{store_in, code_at, IsOwnOf}
 use Rattle.serial_core.specs.Kept.{IsOfPast, SerialInvariant}

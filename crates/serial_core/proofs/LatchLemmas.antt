@@ -7,26 +7,26 @@ use Rattle.std.proofs.lemmas.List.{get_or_append_left, length-map}
 use Rattle.std.proofs.Math.Seq.{get_or-append_seam}
 use Rattle.std.proofs.lemmas.Bool.Decides.{eqb_tells}
 use Rattle.std.proofs.lemmas.Bool.{ltb-true}
-use Rattle.st_words.specs.declared.limits.TheConstants.{MOMENT_LIMIT}
-use Rattle.st_words.specs.Values.{Datum}
-use Rattle.st_plans.specs.declared.entry.Entry.{Entry}
-use Rattle.st_plans.specs.declared.entry.Entry.TheVariants.{Row}
-use Rattle.st_types.specs.declared.outcome.Outcome.{Outcome}
-use Rattle.st_plans.specs.declared.plan.PlanVariable.{PlanVariable}
-use Rattle.st_plans.specs.declared.plan.PlanInput.{PlanInput}
-use Rattle.st_plans.specs.Rows.{Latch}
-use Rattle.st_types.specs.Slots.{IsLayout, variables_in}
-use Rattle.st_plans.specs.Layouts.{layout_of}
-use Rattle.st_plans.specs.Due.{History, with_row}
-use Rattle.st_plans.specs.Plans.{samples_of, sample_of, is_on, fits}
-use Rattle.st_plans.specs.Logs.{past_of, row_at, is_later, row_follows}
-use Rattle.st_plans.proofs.LogLemmas.{past_of-add, IsLegal-add, last_moment-add}
-use Rattle.config.specs.declared.task.Trigger.{Trigger}
-use Rattle.config.specs.declared.task.Trigger.TheVariants.{Absent, Input, Variable}
-use Rattle.config.specs.declared.task.Task.{Task}
-use Rattle.config.specs.declared.plan.Plan.{Plan}
-use Rattle.config.specs.PlanViews.{plan_view, task_view, trigger_view, single_of}
-use Rattle.config.specs.Sound.{is_sound_trigger, is_boolean_variable}
+use Rattle.st_types.specs.declared.limits.TheConstants.{MOMENT_LIMIT}
+use Rattle.st_types.specs.Values.{Datum}
+use Rattle.st_types.specs.declared.entry.Entry.{Entry}
+use Rattle.st_types.specs.declared.entry.Entry.TheVariants.{Row}
+use Rattle.st_meaning.specs.declared.outcome.Outcome.{Outcome}
+use Rattle.st_meaning.specs.declared.plan.PlanVariable.{PlanVariable}
+use Rattle.st_meaning.specs.declared.plan.PlanInput.{PlanInput}
+use Rattle.st_types.specs.Rows.{Latch}
+use Rattle.st_meaning.specs.Slots.{IsLayout, variables_in}
+use Rattle.st_meaning.specs.Layouts.{layout_of}
+use Rattle.st_meaning.specs.Due.{History, with_row}
+use Rattle.st_meaning.specs.Plans.{samples_of, sample_of, is_on, fits}
+use Rattle.st_meaning.specs.Logs.{past_of, row_at, is_later, row_follows}
+use Rattle.st_meaning.proofs.LogLemmas.{past_of-add, IsLegal-add, last_moment-add}
+use Rattle.plan.specs.declared.task.Trigger.{Trigger}
+use Rattle.plan.specs.declared.task.Trigger.TheVariants.{Absent, Input, Variable}
+use Rattle.plan.specs.declared.task.Task.{Task}
+use Rattle.plan.specs.declared.plan.Plan.{Plan}
+use Rattle.plan.specs.PlanViews.{plan_view, task_view, trigger_view, single_of}
+use Rattle.plan.specs.Sound.{is_sound_trigger, is_boolean_variable}
 use Rattle.ready_list.specs.Ready.{Ready, IsReadyOf}
 use Rattle.serial_core.specs.Samples.{sample_at, sample_task}
 use Rattle.serial_core.specs.Steps.{store_in}

@@ -1,14 +1,14 @@
 -- The outcomes of a log.
 use Rattle.std.proofs.Common.{◌≡◌, ℕ, suc, Bool, List, [], ◌∷◌, ◌++◌, length, Option, refl, ap, ◌∙◌}
 use Rattle.std.specs.List.{fold}
-use Rattle.st_words.specs.Values.{Datum}
-use Rattle.st_plans.specs.declared.entry.Entry.{Entry}
-use Rattle.st_types.specs.declared.outcome.Outcome.{Outcome}
-use Rattle.st_types.specs.Stores.{Store}
-use Rattle.st_plans.specs.Plans as plans
-use Rattle.st_plans.specs.Logs.{Past, past_of, with_entry, outcome_at, outcomes_from, beginning, outcomes_of}
-use Rattle.config.specs.declared.plan.Plan.{Plan}
-use Rattle.config.specs.PlanViews.{plan_view}
+use Rattle.st_types.specs.Values.{Datum}
+use Rattle.st_types.specs.declared.entry.Entry.{Entry}
+use Rattle.st_meaning.specs.declared.outcome.Outcome.{Outcome}
+use Rattle.st_meaning.specs.Stores.{Store}
+use Rattle.st_meaning.specs.Plans as plans
+use Rattle.st_meaning.specs.Logs.{Past, past_of, with_entry, outcome_at, outcomes_from, beginning, outcomes_of}
+use Rattle.plan.specs.declared.plan.Plan.{Plan}
+use Rattle.plan.specs.PlanViews.{plan_view}
 use Rattle.ready_list.specs.Ready.{Ready}
 use Rattle.serial_core.specs.Steps.{store_in}
 use Rattle.serial_core.specs.Kept.{SerialInvariant}

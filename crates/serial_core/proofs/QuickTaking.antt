@@ -1,24 +1,24 @@
 -- What is taken for a run of quick code.
 use Rattle.std.proofs.Common.{◌≡◌, ◌∙◌, ℕ, true, List, Option, Some, option_map, slice_get, refl, sym, ap}
 use Rattle.std.proofs.Common.{subst, Ok}
-use Rattle.st_words.specs.Values.{Datum}
-use Rattle.st_types.specs.Slots.{agrees}
-use Rattle.st_plans.specs.declared.entry.Activation.{Activation}
-use Rattle.st_plans.specs.Logs.{row_at}
+use Rattle.st_types.specs.Values.{Datum}
+use Rattle.st_meaning.specs.Slots.{agrees}
+use Rattle.st_types.specs.declared.entry.Activation.{Activation}
+use Rattle.st_meaning.specs.Logs.{row_at}
 use Rattle.machine_code.specs.Tracking.{are_read, memory_of}
-use Rattle.coded_programs.specs.declared.code.Code.{Code}
-use Rattle.coded_programs.specs.Codes.{code_view}
-use Rattle.coded_runs.specs.Effects.{Effect}
-use Rattle.coded_runs.specs.Executions.{IsEffectOf}
-use Rattle.coded_runs.specs.QuickExecutions.{IsQuickEffectOf, run_over}
-use Rattle.coded_runs.specs.declared.quick_snapshot.QuickSnapshot.{QuickSnapshot}
-use Rattle.coded_runs.specs.declared.snapshot.Snapshot.{Snapshot}
-use Rattle.coded_runs.specs.declared.taken.Taken.{Taken}
-use Rattle.coded_runs.specs.declared.taken.Taken.TheVariants.{Quick, Whole}
-use Rattle.config.specs.declared.plan.Plan.{Plan}
-use Rattle.config.specs.declared.task.ProgramInstance.{ProgramInstance}
-use Rattle.plan_reads.specs.Reading.{QuickReadsAreAskedFor}
-use Rattle.plan_reads.proofs.PlanReads.{asks_for_quick_reads}
+use Rattle.slot_code.specs.declared.code.Code.{Code}
+use Rattle.slot_code.specs.Codes.{code_view}
+use Rattle.slot_run.specs.Effects.{Effect}
+use Rattle.slot_run.specs.Executions.{IsEffectOf}
+use Rattle.slot_run.specs.QuickExecutions.{IsQuickEffectOf, run_over}
+use Rattle.slot_run.specs.declared.quick_snapshot.QuickSnapshot.{QuickSnapshot}
+use Rattle.slot_run.specs.declared.snapshot.Snapshot.{Snapshot}
+use Rattle.slot_run.specs.declared.taken.Taken.{Taken}
+use Rattle.slot_run.specs.declared.taken.Taken.TheVariants.{Quick, Whole}
+use Rattle.plan.specs.declared.plan.Plan.{Plan}
+use Rattle.plan.specs.declared.task.ProgramInstance.{ProgramInstance}
+use Rattle.plan.specs.Reading.{QuickReadsAreAskedFor}
+use Rattle.plan.proofs.PlanReads.{asks_for_quick_reads}
 use Rattle.serial_core.specs.Steps.{State, code_at, made, slots_for, stands, IsOwn, IsSnapshotIn}
 use Rattle.serial_core.specs.Quick.{IsBestIn, IsQuickSnapshotIn, IsTakenIn, TakesQuick}
 use Rattle.serial_core.proofs.ReadLemmas.{picked_stand, reads_stand}
@@ -38,11 +38,14 @@ asked_for state quick parts p at =
 -- What is taken of the best activation is what is taken for the resource.
 pub best_taken : (state : State) (resource : ℕ) (a : Activation) (taken : Taken) → IsBestIn state resource a
     → IsTakenIn state a taken → TakesQuick state resource (Ok (Some taken))
-best_taken state resource a (Quick quick) best is = record {
-  best = subst (IsBestIn state resource) (sym is.0) best;
-  parts = is.1;
-  asked = asked_for state quick is.1;
-}
+best_taken state resource a (Quick quick) best is = (
+  is.1,
+  record {
+    best = subst (IsBestIn state resource) (sym is.0) best;
+    parts = is.2;
+    asked = asked_for state quick is.2;
+  },
+)
 best_taken state resource a (Whole snapshot) best is = (is.1, best_snapshot state resource a snapshot best is.0 is.2)
 
 -- An execution of a quick snapshot is of its own program, and what it read stands.

@@ -4,26 +4,26 @@ use Rattle.std.proofs.Common.{get_or, Option, Some, None, option_map, slice_get,
 use Rattle.std.specs.Prelude.{position}
 use Rattle.std.proofs.lemmas.List.{length-map}
 use Rattle.std.proofs.lemmas.Option.{slice_get_read, slice_get-map}
-use Rattle.st_words.specs.Values.{Datum}
-use Rattle.st_words.specs.Paths.{Path, same_path}
-use Rattle.st_plans.specs.declared.entry.Entry.{Entry}
-use Rattle.st_plans.specs.declared.entry.Entry.TheVariants.{Row}
-use Rattle.st_types.specs.declared.outcome.Outcome.{Outcome}
-use Rattle.st_plans.specs.declared.plan.PlanVariable.{PlanVariable}
-use Rattle.st_plans.specs.declared.plan.PlanInput.{PlanInput}
-use Rattle.st_plans.specs.Rows.{Latch}
-use Rattle.st_types.specs.Stores.{Store, get}
-use Rattle.st_types.specs.Scopes.{seen}
-use Rattle.st_types.specs.Slots.{variables_in}
-use Rattle.st_plans.specs.Layouts.{layout_of}
-use Rattle.st_plans.specs.Plans.{image_of, initial_value}
-use Rattle.st_plans.specs.Logs.{past_of, row_at}
+use Rattle.st_types.specs.Values.{Datum}
+use Rattle.st_types.specs.Paths.{Path, same_path}
+use Rattle.st_types.specs.declared.entry.Entry.{Entry}
+use Rattle.st_types.specs.declared.entry.Entry.TheVariants.{Row}
+use Rattle.st_meaning.specs.declared.outcome.Outcome.{Outcome}
+use Rattle.st_meaning.specs.declared.plan.PlanVariable.{PlanVariable}
+use Rattle.st_meaning.specs.declared.plan.PlanInput.{PlanInput}
+use Rattle.st_types.specs.Rows.{Latch}
+use Rattle.st_meaning.specs.Stores.{Store, get}
+use Rattle.st_meaning.specs.Scopes.{seen}
+use Rattle.st_meaning.specs.Slots.{variables_in}
+use Rattle.st_meaning.specs.Layouts.{layout_of}
+use Rattle.st_meaning.specs.Plans.{image_of, initial_value}
+use Rattle.st_meaning.specs.Logs.{past_of, row_at}
 use Rattle.layout.proofs.Positions.{position_step}
-use Rattle.config.specs.SlotPlaces.{place_among}
-use Rattle.config.specs.declared.slots.SlotPlace.{SlotPlace}
-use Rattle.config.specs.declared.slots.SlotPlace.TheVariants.{Input, Variable}
-use Rattle.config.specs.declared.plan.Plan.{Plan}
-use Rattle.config.specs.PlanViews.{plan_view}
+use Rattle.plan.specs.SlotPlaces.{place_among}
+use Rattle.plan.specs.declared.slots.SlotPlace.{SlotPlace}
+use Rattle.plan.specs.declared.slots.SlotPlace.TheVariants.{Input, Variable}
+use Rattle.plan.specs.declared.plan.Plan.{Plan}
+use Rattle.plan.specs.PlanViews.{plan_view}
 use Rattle.ready_list.specs.Ready.{Ready}
 use Rattle.serial_core.specs.Steps.{store_in, first_image, last_image}
 use Rattle.serial_core.specs.Kept.{SerialInvariant}

@@ -1,14 +1,14 @@
 -- Going on from a record.
 use Rattle.std.proofs.Common.{◌≡◌, ℕ, List, [], map, length, Option, Some, sym, ap, ◌∙◌}
 use Rattle.std.specs.List.{AllByRecursion}
-use Rattle.st_words.specs.Values.{Datum, IsHeld}
-use Rattle.st_plans.specs.declared.entry.Entry.{Entry}
-use Rattle.st_types.specs.Stores.{Store}
-use Rattle.st_plans.specs.Restarts.{kept, warm_start}
-use Rattle.config.specs.declared.plan.Plan.{Plan}
-use Rattle.config.specs.PlanViews.{plan_view}
+use Rattle.st_types.specs.Values.{Datum, IsHeld}
+use Rattle.st_types.specs.declared.entry.Entry.{Entry}
+use Rattle.st_meaning.specs.Stores.{Store}
+use Rattle.st_meaning.specs.Restarts.{kept, warm_start}
+use Rattle.plan.specs.declared.plan.Plan.{Plan}
+use Rattle.plan.specs.PlanViews.{plan_view}
 use Rattle.serial_core.specs.Steps.{State, store_in}
-use Rattle.core_parts.specs.Restored.{restored}
+use Rattle.core_values.specs.Restored.{restored}
 use Rattle.serial_core.specs.Retained.{retained_kinds, retained_paths, retained_values, paired, told_by}
 use Rattle.serial_core.proofs.RetainedLemmas.{restart_is, goes_by_itself, kept_paired, values_paired, kinds_kept}
 use Rattle.serial_core.proofs.RetainedLemmas.{restored_back, restored_typed}

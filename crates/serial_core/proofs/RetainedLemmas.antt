@@ -6,20 +6,20 @@ use Rattle.std.specs.Prelude.{filter, bytes_eq}
 use Rattle.std.proofs.lemmas.Bool.{and_parts, or_parts, not-true, cases_Bool}
 use Rattle.std.proofs.lemmas.Slice.Eq.{bytes_eq-Decides}
 use Rattle.std.specs.List.{list_any, AllByRecursion}
-use Rattle.st_words.specs.declared.kind.Kind.{Kind}
-use Rattle.st_words.specs.Values.{Datum, IsHeld}
-use Rattle.st_words.specs.Paths.{Path, same_path}
-use Rattle.st_plans.specs.declared.plan.PlanVariable.{PlanVariable}
-use Rattle.st_plans.specs.declared.plan.PlanInput.{PlanInput}
-use Rattle.st_types.specs.Stores.{Store}
-use Rattle.st_types.specs.Slots.{variables_in}
-use Rattle.st_plans.specs.Layouts.{Enumerations, layout_of, path_text}
-use Rattle.st_plans.specs.Restarts.{KeptLine, lines_with, restarted}
-use Rattle.st_plans.proofs.RestartLemmas.{restarts, taken, AreUnlike, all_unlike, unlike_next}
-use Rattle.st_types.specs.Scopes.{Name, contains_name}
-use Rattle.st_words.specs.Comparisons.{same_path_is, same_path_itself}
-use Rattle.config.specs.Sound.{are_different}
-use Rattle.core_parts.specs.Restored.{first_or, others, restored}
+use Rattle.st_types.specs.declared.kind.Kind.{Kind}
+use Rattle.st_types.specs.Values.{Datum, IsHeld}
+use Rattle.st_types.specs.Paths.{Path, same_path}
+use Rattle.st_meaning.specs.declared.plan.PlanVariable.{PlanVariable}
+use Rattle.st_meaning.specs.declared.plan.PlanInput.{PlanInput}
+use Rattle.st_meaning.specs.Stores.{Store}
+use Rattle.st_meaning.specs.Slots.{variables_in}
+use Rattle.st_meaning.specs.Layouts.{Enumerations, layout_of, path_text}
+use Rattle.st_meaning.specs.Restarts.{KeptLine, lines_with, restarted}
+use Rattle.st_meaning.proofs.RestartLemmas.{restarts, taken, AreUnlike, all_unlike, unlike_next}
+use Rattle.st_meaning.specs.Scopes.{Name, contains_name}
+use Rattle.st_types.specs.Comparisons.{same_path_is, same_path_itself}
+use Rattle.plan.specs.Sound.{are_different}
+use Rattle.core_values.specs.Restored.{first_or, others, restored}
 use Rattle.serial_core.specs.Retained.{retained_paths, retained_kinds, retained_values, paired}
 use Rattle.serial_core.proofs.PlanSlots.{no_variables}
 

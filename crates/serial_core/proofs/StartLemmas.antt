@@ -2,18 +2,18 @@
 use Rattle.std.specs.Prelude.{IfSome}
 use Rattle.std.proofs.Common.{◌≡◌, ℕ, ◌<◌, Bool, List, [], ◌∷◌, length, map, Option, refl, sym, ap, subst, ◌∙◌}
 use Rattle.std.proofs.Common.{arith}
-use Rattle.st_words.specs.declared.kind.Kind.{Kind}
-use Rattle.st_words.specs.Values.{Datum}
-use Rattle.st_plans.specs.declared.entry.Entry.{Entry}
-use Rattle.st_types.specs.declared.outcome.Outcome.{Outcome}
-use Rattle.st_plans.specs.declared.plan.PlanVariable.{PlanVariable}
-use Rattle.st_plans.specs.Due.{no_history}
-use Rattle.st_plans.specs.Logs.{past_of, outcomes_of}
+use Rattle.st_types.specs.declared.kind.Kind.{Kind}
+use Rattle.st_types.specs.Values.{Datum}
+use Rattle.st_types.specs.declared.entry.Entry.{Entry}
+use Rattle.st_meaning.specs.declared.outcome.Outcome.{Outcome}
+use Rattle.st_meaning.specs.declared.plan.PlanVariable.{PlanVariable}
+use Rattle.st_meaning.specs.Due.{no_history}
+use Rattle.st_meaning.specs.Logs.{past_of, outcomes_of}
 use Rattle.std.proofs.lemmas.List.{nil_from_length, length-map}
-use Rattle.st_words.specs.declared.limits.TheConstants.{MOMENT_LIMIT}
-use Rattle.st_plans.specs.Plans.{schedules_of}
-use Rattle.config.specs.declared.plan.Plan.{Plan}
-use Rattle.config.specs.PlanViews.{plan_view}
+use Rattle.st_types.specs.declared.limits.TheConstants.{MOMENT_LIMIT}
+use Rattle.st_meaning.specs.Plans.{schedules_of}
+use Rattle.plan.specs.declared.plan.Plan.{Plan}
+use Rattle.plan.specs.PlanViews.{plan_view}
 use Rattle.ready_list.specs.Ready.{Ready, IsReadyOf}
 use Rattle.serial_core.specs.Steps.{store_in}
 use Rattle.serial_core.specs.Kept.{SerialInvariant}

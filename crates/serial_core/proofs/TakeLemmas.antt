@@ -3,28 +3,28 @@ use Rattle.std.proofs.Common.{◌≡◌, ℕ, ◌<◌, Bool, true, List, length,
 use Rattle.std.proofs.Common.{None, option_map, slice_get, slice_index, refl, sym, ap, subst, ◌∙◌, arith}
 use Rattle.std.specs.Prelude.{MatchBool, MatchOption}
 use Rattle.std.proofs.lemmas.List.{length-map}
-use Rattle.st_words.specs.Values.{Datum}
-use Rattle.st_plans.specs.declared.plan.PlanInput.{PlanInput}
-use Rattle.st_plans.specs.declared.entry.Entry.{Entry}
-use Rattle.st_plans.specs.declared.entry.Entry.TheVariants.{Row}
-use Rattle.st_plans.specs.declared.entry.Activation.{Activation}
-use Rattle.st_types.specs.declared.outcome.Outcome.{Outcome}
-use Rattle.st_plans.specs.Rows.{Latch}
-use Rattle.st_types.specs.Slots.{AreOfTypes}
-use Rattle.st_plans.specs.Due.{History, Waits, NoneWaits, IsBest}
-use Rattle.st_plans.specs.Plans.{schedules_of}
-use Rattle.st_plans.specs.Logs.{past_of, row_at}
-use Rattle.st_plans.proofs.DueLemmas.{Waits-there}
-use Rattle.coded_programs.specs.declared.code.Code.{Code}
-use Rattle.coded_runs.specs.declared.snapshot.Snapshot.{Snapshot}
-use Rattle.config.specs.declared.plan.Plan.{Plan}
-use Rattle.config.specs.declared.task.ProgramInstance.{ProgramInstance}
-use Rattle.config.specs.declared.slots.SlotPlace.{SlotPlace}
-use Rattle.config.specs.SlotPlaces.{are_numbered, merged, slots_among}
-use Rattle.config.proofs.SlotLemmas.{typed_merged}
-use Rattle.config.specs.PlanViews.{plan_view}
-use Rattle.plan_reads.specs.Reading.{ReadsAreAskedFor}
-use Rattle.plan_reads.proofs.PlanReads.{asks_for_reads}
+use Rattle.st_types.specs.Values.{Datum}
+use Rattle.st_meaning.specs.declared.plan.PlanInput.{PlanInput}
+use Rattle.st_types.specs.declared.entry.Entry.{Entry}
+use Rattle.st_types.specs.declared.entry.Entry.TheVariants.{Row}
+use Rattle.st_types.specs.declared.entry.Activation.{Activation}
+use Rattle.st_meaning.specs.declared.outcome.Outcome.{Outcome}
+use Rattle.st_types.specs.Rows.{Latch}
+use Rattle.st_meaning.specs.Slots.{AreOfTypes}
+use Rattle.st_meaning.specs.Due.{History, Waits, NoneWaits, IsBest}
+use Rattle.st_meaning.specs.Plans.{schedules_of}
+use Rattle.st_meaning.specs.Logs.{past_of, row_at}
+use Rattle.st_meaning.proofs.DueLemmas.{Waits-there}
+use Rattle.slot_code.specs.declared.code.Code.{Code}
+use Rattle.slot_run.specs.declared.snapshot.Snapshot.{Snapshot}
+use Rattle.plan.specs.declared.plan.Plan.{Plan}
+use Rattle.plan.specs.declared.task.ProgramInstance.{ProgramInstance}
+use Rattle.plan.specs.declared.slots.SlotPlace.{SlotPlace}
+use Rattle.plan.specs.SlotPlaces.{are_numbered, merged, slots_among}
+use Rattle.plan.proofs.SlotLemmas.{typed_merged}
+use Rattle.plan.specs.PlanViews.{plan_view}
+use Rattle.plan.specs.Reading.{ReadsAreAskedFor}
+use Rattle.plan.proofs.PlanReads.{asks_for_reads}
 use Rattle.ready_list.specs.Ready.{Ready, IsReadyOf}
 use Rattle.serial_core.specs.Steps.{State, store_in, code_at, none_waits, IsSnapshotOf, IsSnapshotIn, IsWaiting}
 use Rattle.serial_core.specs.Kept.{SerialInvariant}

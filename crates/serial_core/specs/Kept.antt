@@ -1,15 +1,15 @@
 -- What a core keeps of its fields.
 use Rattle.std.specs.Prelude.{◌≡◌, ℕ, ◌<◌, ◌≤◌, IfSome, List, Bool, length, map, Option, Some, slice_get}
 use Rattle.std.specs.Prelude.{slice_index}
-use Rattle.st_words.specs.declared.limits.TheConstants.{MOMENT_LIMIT}
-use Rattle.st_words.specs.Values.{Datum}
-use Rattle.st_plans.specs.declared.entry.Entry.{Entry}
-use Rattle.st_plans.specs.declared.entry.Entry.TheVariants.{Row}
-use Rattle.st_types.specs.declared.outcome.Outcome.{Outcome}
-use Rattle.st_plans.specs.Plans.{schedules_of}
-use Rattle.st_plans.specs.Logs.{Past, past_of, row_at, last_moment, outcomes_of, IsLegal}
-use Rattle.config.specs.declared.plan.Plan.{Plan}
-use Rattle.config.specs.PlanViews.{plan_view}
+use Rattle.st_types.specs.declared.limits.TheConstants.{MOMENT_LIMIT}
+use Rattle.st_types.specs.Values.{Datum}
+use Rattle.st_types.specs.declared.entry.Entry.{Entry}
+use Rattle.st_types.specs.declared.entry.Entry.TheVariants.{Row}
+use Rattle.st_meaning.specs.declared.outcome.Outcome.{Outcome}
+use Rattle.st_meaning.specs.Plans.{schedules_of}
+use Rattle.st_meaning.specs.Logs.{Past, past_of, row_at, last_moment, outcomes_of, IsLegal}
+use Rattle.plan.specs.declared.plan.Plan.{Plan}
+use Rattle.plan.specs.PlanViews.{plan_view}
 use Rattle.ready_list.specs.Ready.{Ready, IsReadyOf}
 use Rattle.serial_core.specs.Steps.{store_in}
 

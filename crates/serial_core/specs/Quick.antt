@@ -1,19 +1,20 @@
 -- What is taken for a run of quick code.
 use Rattle.std.specs.Prelude.{◌≡◌, ℕ, ◌<◌, ◌≤◌, length, Option, Some, None, Result, Ok, Err, option_map}
-use Rattle.st_plans.specs.declared.entry.Activation.{Activation}
-use Rattle.st_plans.specs.declared.entry.Entry.TheVariants.{Done}
-use Rattle.st_plans.specs.Due.{IsBest}
-use Rattle.st_plans.specs.Plans.{schedules_of}
-use Rattle.st_plans.specs.Logs.{row_at}
-use Rattle.quick_programs.specs.Quick.{AreIn, kinds_of}
-use Rattle.coded_programs.specs.Codes.{code_view}
-use Rattle.coded_programs.specs.Windows.{window_of}
-use Rattle.coded_runs.specs.Effects.{Effect}
-use Rattle.coded_runs.specs.declared.quick_snapshot.QuickSnapshot.{QuickSnapshot}
-use Rattle.coded_runs.specs.declared.taken.Taken.{Taken}
-use Rattle.coded_runs.specs.declared.taken.Taken.TheVariants.{Quick, Whole}
-use Rattle.config.specs.PlanViews.{plan_view}
-use Rattle.plan_reads.specs.Reading.{QuickReadsAreAskedFor}
+use Rattle.st_types.specs.declared.entry.Activation.{Activation}
+use Rattle.st_types.specs.declared.entry.Entry.TheVariants.{Done}
+use Rattle.st_meaning.specs.Due.{IsBest}
+use Rattle.st_meaning.specs.Plans.{schedules_of}
+use Rattle.st_meaning.specs.Logs.{row_at}
+use Rattle.slot_code.specs.Quick.{AreIn, kinds_of}
+use Rattle.slot_code.specs.declared.code.Code.{Code}
+use Rattle.slot_code.specs.Codes.{code_view}
+use Rattle.slot_code.specs.Windows.{window_of}
+use Rattle.slot_run.specs.Effects.{Effect}
+use Rattle.slot_run.specs.declared.quick_snapshot.QuickSnapshot.{QuickSnapshot}
+use Rattle.slot_run.specs.declared.taken.Taken.{Taken}
+use Rattle.slot_run.specs.declared.taken.Taken.TheVariants.{Quick, Whole}
+use Rattle.plan.specs.PlanViews.{plan_view}
+use Rattle.plan.specs.Reading.{QuickReadsAreAskedFor}
 use Rattle.serial_core.specs.declared.refusal.Refusal.{Refusal}
 use Rattle.serial_core.specs.declared.refusal.Refusal.TheVariants.{Full, NoMemory}
 use Rattle.serial_core.specs.Steps.{State, grown, made, slots_for, code_at, none_waits, IsSnapshotIn, IsSnapshotOf}
@@ -38,16 +39,22 @@ pub record IsQuickSnapshotOf (state : State) (resource : ℕ) (quick : QuickSnap
   pub parts : IsQuickSnapshotIn state quick
   pub asked : QuickReadsAreAskedFor state.plan (slots_for state quick.activation) quick
 
+-- there is quick code of it
+abbrev pub HasQuickCode : Code → Type 0
+HasQuickCode code = code.quick ≡ None → ⊥
+
 -- What is taken of an activation: what its code names where there is quick code, and all slots where there is none.
 abbrev pub IsTakenIn : State → Activation → Taken → Type 0
-IsTakenIn state a (Quick quick) = (quick.activation ≡ a) × IsQuickSnapshotIn state quick
+IsTakenIn state a (Quick quick) =
+    (quick.activation ≡ a) × HasQuickCode quick.code.value × IsQuickSnapshotIn state quick
 IsTakenIn state a (Whole snapshot) =
     (snapshot.activation ≡ a) × (snapshot.code.value.quick ≡ None) × IsSnapshotIn state snapshot
 
 -- The same for a resource.
 abbrev pub TakesQuick : State → ℕ → Result (Option Taken) Refusal → Type 0
 TakesQuick state resource (Ok None) = none_waits state resource
-TakesQuick state resource (Ok (Some (Quick quick))) = IsQuickSnapshotOf state resource quick
+TakesQuick state resource (Ok (Some (Quick quick))) =
+    HasQuickCode quick.code.value × IsQuickSnapshotOf state resource quick
 TakesQuick state resource (Ok (Some (Whole snapshot))) =
     (snapshot.code.value.quick ≡ None) × IsSnapshotOf state resource snapshot
 TakesQuick state resource (Err NoMemory) = none_waits state resource → ⊥

@@ -1,26 +1,26 @@
 -- The steps of a core, each by the cases of its answer. Each refusal carries that those before it do not apply.
 use Rattle.std.specs.Prelude.{◌≡◌, ℕ, ◌<◌, ◌≤◌, Bool, true, false, List, [], ◌∷◌, ◌++◌, map, length, Option, Some, None}
 use Rattle.std.specs.Prelude.{option_map, Result, Ok, Err, slice_get}
-use Rattle.st_words.specs.Values.{Datum}
-use Rattle.st_plans.specs.declared.entry.Entry.{Entry}
-use Rattle.st_plans.specs.declared.entry.Entry.TheVariants.{Row, Done}
-use Rattle.st_plans.specs.declared.entry.Activation.{Activation}
-use Rattle.st_plans.specs.Rows.{Latch}
-use Rattle.st_types.specs.Stores.{Store}
-use Rattle.st_types.specs.Slots.{variables_in, agrees}
-use Rattle.st_plans.specs.Layouts.{layout_of}
-use Rattle.st_plans.specs.Due.{Waits, NoneWaits, IsBest}
-use Rattle.st_plans.specs.declared.plan.PlanInput.{PlanInput}
-use Rattle.st_plans.specs.Plans.{schedules_of, fits, initial_value, image_of}
-use Rattle.st_plans.specs.Logs.{Past, past_of, row_at, last_moment, is_later}
-use Rattle.coded_programs.specs.declared.code.Code.{Code}
-use Rattle.coded_programs.specs.Codes.{code_view}
-use Rattle.coded_runs.specs.Effects.{Effect}
-use Rattle.coded_runs.specs.declared.snapshot.Snapshot.{Snapshot}
-use Rattle.config.specs.declared.plan.Plan.{Plan}
-use Rattle.config.specs.PlanViews.{plan_view}
-use Rattle.config.specs.SlotPlaces.{merged}
-use Rattle.plan_reads.specs.Reading.{ReadsAreAskedFor}
+use Rattle.st_types.specs.Values.{Datum}
+use Rattle.st_types.specs.declared.entry.Entry.{Entry}
+use Rattle.st_types.specs.declared.entry.Entry.TheVariants.{Row, Done}
+use Rattle.st_types.specs.declared.entry.Activation.{Activation}
+use Rattle.st_types.specs.Rows.{Latch}
+use Rattle.st_meaning.specs.Stores.{Store}
+use Rattle.st_meaning.specs.Slots.{variables_in, agrees}
+use Rattle.st_meaning.specs.Layouts.{layout_of}
+use Rattle.st_meaning.specs.Due.{Waits, NoneWaits, IsBest}
+use Rattle.st_meaning.specs.declared.plan.PlanInput.{PlanInput}
+use Rattle.st_meaning.specs.Plans.{schedules_of, fits, initial_value, image_of}
+use Rattle.st_meaning.specs.Logs.{Past, past_of, row_at, last_moment, is_later}
+use Rattle.slot_code.specs.declared.code.Code.{Code}
+use Rattle.slot_code.specs.Codes.{code_view}
+use Rattle.slot_run.specs.Effects.{Effect}
+use Rattle.slot_run.specs.declared.snapshot.Snapshot.{Snapshot}
+use Rattle.plan.specs.declared.plan.Plan.{Plan}
+use Rattle.plan.specs.PlanViews.{plan_view}
+use Rattle.plan.specs.SlotPlaces.{merged}
+use Rattle.plan.specs.Reading.{ReadsAreAskedFor}
 use Rattle.serial_core.specs.declared.refusal.Answer.{Answer}
 use Rattle.serial_core.specs.declared.refusal.Answer.TheVariants.{Committed, Stale}
 use Rattle.serial_core.specs.declared.refusal.Refusal.{Refusal}
@@ -118,6 +118,14 @@ stands state effect = agrees (slots_for state effect.activation) effect.reads
 
 abbrev pub waits_in : State → Activation → Type 0
 waits_in state a = Waits (schedules_of (plan_view state.plan)) (made state).history a
+
+-- Whether the log has room for the Done of an activation, and that waits. Each case carries that those before it do
+-- not apply.
+abbrev pub Admits : State → Activation → Result (Unit {0}) Refusal → Type 0
+Admits state a (Ok u) = (length state.log < state.room) × waits_in state a
+Admits state a (Err Full) = state.room ≤ length state.log
+Admits state a (Err NotWaiting) = (length state.log < state.room) × (waits_in state a → ⊥)
+Admits state a (Err _) = ⊥
 
 -- Whether an execution can be committed now: it is refused, or what it read stands or doesn't. Each case carries that
 -- those before it do not apply.

@@ -1,19 +1,19 @@
 //! Committing an execution.
 
 ghost use Rattle.std.specs.Prelude.{◌≡◌, ◌<◌, ◌↔◌, IsTrue, Ok, length, true};
-ghost use Rattle.st_plans.specs.Due.{History};
+ghost use Rattle.st_meaning.specs.Due.{History};
 ghost use Rattle.ready_list.specs.Ready.{IsReadyOf, Removes};
-ghost use Rattle.st_plans.specs.Logs.{row_at};
-ghost use Rattle.serial_core.specs.Steps.{Commits, Judges, IsOwn, IsOwnOf, made, stands, waits_in};
+ghost use Rattle.st_meaning.specs.Logs.{row_at};
+ghost use Rattle.serial_core.specs.Steps.{Admits, Commits, Judges, IsOwn, IsOwnOf, made, stands, waits_in};
 ghost use Rattle.serial_core.specs.Quick.{IsOwnCode};
 
 use crate::refusal::{Answer, Refusal};
 use crate::serial::SerialCore;
-use coded_runs::Execution;
-use config::Plan;
-use core_parts::{row_of, stand, write_all};
+use core_values::{row_of, stand, write_all};
+use plan::Plan;
 use ready_list::ReadyList;
-use st_plans::{Activation, Entry, Row};
+use slot_run::Execution;
+use st_types::{Activation, Entry, Row};
 
 /// Whether the execution is of its activation's row, under the plan's budget.
 fn is_timed(plan: &Plan, row: &Row, execution: &Execution) -> bool
@@ -80,16 +80,25 @@ impl SerialCore {
         )
     }
 
-    /// Whether what the execution read stands; or why it can't be committed, whatever it read.
-    fn judge(&self, execution: &Execution) -> Result<bool, Refusal>
-        ensures { Judges self.now execution.now result }
+    /// Why an execution of an activation can't be committed, whatever its code is: K1 where the log is full, else K2
+    /// where the activation isn't waiting.
+    fn admits(&self, activation: Activation) -> Result<(), Refusal>
+        ensures { Admits self.now activation result }
     {
         if self.log.len() >= self.room {
             return Err(Refusal::Full);
         }
-        if !self.waits(execution.activation()) {
+        if !self.waits(activation) {
             return Err(Refusal::NotWaiting);
         }
+        Ok(())
+    }
+
+    /// Whether what the execution read stands; or why it can't be committed, whatever it read.
+    fn judge(&self, execution: &Execution) -> Result<bool, Refusal>
+        ensures { Judges self.now execution.now result }
+    {
+        self.admits(execution.activation())?;
         if !self.owns(execution) {
             return Err(Refusal::Foreign);
         }
@@ -101,12 +110,7 @@ impl SerialCore {
         requires own { IsOwnCode self.now execution.now }
         ensures { Judges self.now execution.now result }
     {
-        if self.log.len() >= self.room {
-            return Err(Refusal::Full);
-        }
-        if !self.waits(execution.activation()) {
-            return Err(Refusal::NotWaiting);
-        }
+        self.admits(execution.activation())?;
         if !is_timed(&self.plan, self.row_for(execution.activation()), execution) {
             return Err(Refusal::Foreign);
         }
@@ -142,7 +146,7 @@ impl SerialCore {
     }
 
     /// The same for an execution whose code is known to be that of its activation's program here. `commit` compares the
-    /// two, an instruction and a slot's type at a time; this does not, so it takes as long whatever the layout.
+    /// two, an instruction and a slot's type at a time; this does not, so what it costs does not grow with the code.
     pub fn commit_own(&mut self, execution: Execution) -> Result<Answer, Refusal>
         requires own { IsOwnCode self.old execution }
         ensures { Commits self.old execution result self.new }

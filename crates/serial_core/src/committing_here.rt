@@ -1,55 +1,53 @@
 //! Committing in one step.
 
-ghost use Rattle.std.specs.Prelude.{◌≡◌, true, IfErr, IfOk, IfSome};
-ghost use Rattle.serial_core.specs.Steps.{CommitsHere, CommitsWaiting, IsOwn, stands, waits_in};
-ghost use Rattle.serial_core.specs.Quick.{CommitsOne};
+ghost use Rattle.std.specs.Prelude.{◌≡◌, true, IfErr, IfOk};
+ghost use Rattle.serial_core.specs.Steps.{CommitsHere, CommitsWaiting, IsOwn, IsSnapshotIn, stands, waits_in};
+ghost use Rattle.serial_core.specs.Quick.{CommitsOne, IsQuickSnapshotIn};
 
 use crate::refusal::{Answer, Refusal};
 use crate::serial::SerialCore;
-use coded_runs::{Execution, Taken, run_by_values, run_quick};
-use st_plans::Activation;
+use slot_run::{Execution, QuickSnapshot, Snapshot, Taken, run_by_values, run_quick};
+use st_types::Activation;
 use std::alloc::Global;
 
 impl SerialCore {
-    /// An execution of an activation that waits, by quick code; none where there is none or it cannot tell how the run
-    /// ends. K6 out of memory.
-    fn quick_execution(
-        &self,
-        alloc: Global,
-        activation: Activation,
-    ) -> Result<Option<Execution>, Refusal>
-        requires waits { waits_in self.now activation }
-        ensures activation { IfOk result (λ o. IfSome o (λ e. e.activation ≡ activation)) }
-        ensures own { IfOk result (λ o. IfSome o (IsOwn self.now)) }
-        ensures stands { IfOk result (λ o. IfSome o (λ e. stands self.now e ≡ true)) }
-        ensures memory { IfErr result (λ e. e ≡ Refusal.NoMemory) }
-    {
-        match self.taken_of(alloc, activation)? {
-            Taken::Quick(quick) => match run_quick(alloc, quick) {
-                Ok(execution) => Ok(execution),
-                Err(_) => Err(Refusal::NoMemory),
-            },
-            Taken::Whole(_) => Ok(None),
-        }
-    }
-
-    /// An execution of an activation that waits, by the machine on values; K6 out of memory.
-    fn whole_execution(&self, alloc: Global, activation: Activation) -> Result<Execution, Refusal>
-        requires waits { waits_in self.now activation }
-        ensures activation { IfOk result (λ e. e.activation ≡ activation) }
+    /// An execution of a snapshot, by the machine on values; K6 out of memory.
+    fn whole_execution(&self, alloc: Global, snapshot: Snapshot) -> Result<Execution, Refusal>
+        requires parts { IsSnapshotIn self.now snapshot }
+        ensures activation { IfOk result (λ e. e.activation ≡ snapshot.activation) }
         ensures own { IfOk result (IsOwn self.now) }
         ensures stands { IfOk result (λ e. stands self.now e ≡ true) }
         ensures memory { IfErr result (λ e. e ≡ Refusal.NoMemory) }
     {
-        let snapshot = self.snapshot_of(alloc, activation)?;
         match run_by_values(alloc, snapshot) {
             Ok(execution) => Ok(execution),
             Err(_) => Err(Refusal::NoMemory),
         }
     }
 
-    /// An execution of an activation that waits. What it read stands, since nothing else happens meanwhile. K6 out of
-    /// memory.
+    /// An execution of a quick snapshot, by the machine on values where quick code cannot tell how the run ends; K6 out
+    /// of memory.
+    fn quick_execution(&self, alloc: Global, quick: QuickSnapshot) -> Result<Execution, Refusal>
+        requires waits { waits_in self.now quick.activation }
+        requires parts { IsQuickSnapshotIn self.now quick }
+        ensures activation { IfOk result (λ e. e.activation ≡ quick.activation) }
+        ensures own { IfOk result (IsOwn self.now) }
+        ensures stands { IfOk result (λ e. stands self.now e ≡ true) }
+        ensures memory { IfErr result (λ e. e ≡ Refusal.NoMemory) }
+    {
+        let activation = quick.activation;
+        match run_quick(alloc, quick) {
+            Ok(Some(execution)) => Ok(execution),
+            Ok(None) => {
+                let snapshot = self.snapshot_of(alloc, activation)?;
+                self.whole_execution(alloc, snapshot)
+            }
+            Err(_) => Err(Refusal::NoMemory),
+        }
+    }
+
+    /// An execution of an activation that waits. What it read has its value still, since nothing else happens
+    /// meanwhile. K6 out of memory.
     fn execution_of(&self, alloc: Global, activation: Activation) -> Result<Execution, Refusal>
         requires waits { waits_in self.now activation }
         ensures activation { IfOk result (λ e. e.activation ≡ activation) }
@@ -57,9 +55,9 @@ impl SerialCore {
         ensures stands { IfOk result (λ e. stands self.now e ≡ true) }
         ensures memory { IfErr result (λ e. e ≡ Refusal.NoMemory) }
     {
-        match self.quick_execution(alloc, activation)? {
-            Some(execution) => Ok(execution),
-            None => self.whole_execution(alloc, activation),
+        match self.taken_of(alloc, activation)? {
+            Taken::Quick(quick) => self.quick_execution(alloc, quick),
+            Taken::Whole(snapshot) => self.whole_execution(alloc, snapshot),
         }
     }
 

@@ -3,18 +3,18 @@
 ghost use Rattle.std.specs.Prelude.{◌≡◌, ◌≤◌, ◌<◌, ◌^◌, IfSome, ◌+◌, ◌++◌, ◌∷◌, [], map, length, vec_len, vec_capacity};
 ghost use Rattle.std.specs.Prelude.{if◌then◌else◌};
 ghost use Rattle.std.specs.List.{AllByRecursion};
-ghost use Rattle.st_words.specs.declared.limits.TheConstants.{MOMENT_LIMIT};
-ghost use Rattle.st_words.specs.Values.{IsHeld};
-ghost use Rattle.st_plans.specs.Logs.{last_moment};
-ghost use Rattle.st_plans.specs.Restarts.{kept};
-ghost use Rattle.config.specs.PlanViews.{plan_view};
+ghost use Rattle.st_types.specs.declared.limits.TheConstants.{MOMENT_LIMIT};
+ghost use Rattle.st_types.specs.Values.{IsHeld};
+ghost use Rattle.st_meaning.specs.Logs.{last_moment};
+ghost use Rattle.st_meaning.specs.Restarts.{kept};
+ghost use Rattle.plan.specs.PlanViews.{plan_view};
 ghost use Rattle.serial_core.specs.Steps.{made};
 ghost use Rattle.serial_core.specs.Retained.{retained_values, retained_kinds};
 
 use crate::serial::SerialCore;
-use config::Plan;
-use st_plans::PlanVariable;
-use st_words::Value;
+use plan::Plan;
+use st_meaning::PlanVariable;
+use st_types::Value;
 
 /// A value, which its type holds.
 fn held(value: Value) -> Value

@@ -6,9 +6,9 @@ ghost use Rattle.serial_core.specs.Steps.{Latches};
 use crate::refusal::Refusal;
 use crate::sampling::sample_all;
 use crate::serial::SerialCore;
-use config::Plan;
-use core_parts::{fits, is_later};
-use st_plans::{Entry, Row};
+use core_values::{fits, is_later};
+use plan::Plan;
+use st_types::{Entry, Row};
 
 impl SerialCore {
     /// Latches a row, and gives its number from 0. It takes no memory.

@@ -2,19 +2,18 @@
 
 ghost use Rattle.std.specs.Prelude.{◌≡◌, ◌<◌, ◌≤◌, option_map, option_and_then, slice_get, length, map, Some, None};
 ghost use Rattle.std.specs.Prelude.{MatchBool};
-ghost use Rattle.st_plans.specs.Due.{HasOverruns};
-ghost use Rattle.st_plans.specs.Logs.{IsLegal, outcomes_of};
-ghost use Rattle.st_plans.specs.Plans.{schedules_of, initial_value};
-ghost use Rattle.st_types.specs.Scopes.{seen};
-ghost use Rattle.config.specs.PlanViews.{plan_view};
+ghost use Rattle.st_meaning.specs.Due.{HasOverruns};
+ghost use Rattle.st_meaning.specs.Logs.{IsLegal, outcomes_of};
+ghost use Rattle.st_meaning.specs.Plans.{schedules_of, initial_value};
+ghost use Rattle.st_meaning.specs.Scopes.{seen};
+ghost use Rattle.plan.specs.PlanViews.{plan_view};
 ghost use Rattle.serial_core.specs.Steps.{made, none_waits, first_image, last_image, inputs_now, store_in, IsWaiting};
 
 use crate::serial::SerialCore;
-use config::SlotPlace;
-use core_parts::row_of;
-use st_plans::Entry;
-use st_types::Outcome;
-use st_words::{Kind, Path, Value};
+use core_values::row_of;
+use plan::SlotPlace;
+use st_meaning::Outcome;
+use st_types::{Entry, Kind, Path, Value};
 
 fn value_at(values: &[Value], slot: usize) -> Option<Value>
     ensures { result ≡ slice_get values.now slot }

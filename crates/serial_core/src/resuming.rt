@@ -2,16 +2,16 @@
 
 ghost use Rattle.std.specs.Prelude.{◌≡◌, ◌<◌, ◌^◌, IfSome, [], Some, map};
 ghost use Rattle.std.specs.List.{AllByRecursion};
-ghost use Rattle.st_words.specs.declared.limits.TheConstants.{MOMENT_LIMIT};
-ghost use Rattle.st_words.specs.Values.{IsHeld};
-ghost use Rattle.st_plans.specs.Restarts.{kept, warm_start};
-ghost use Rattle.config.specs.PlanViews.{plan_view};
+ghost use Rattle.st_types.specs.declared.limits.TheConstants.{MOMENT_LIMIT};
+ghost use Rattle.st_types.specs.Values.{IsHeld};
+ghost use Rattle.st_meaning.specs.Restarts.{kept, warm_start};
+ghost use Rattle.plan.specs.PlanViews.{plan_view};
 ghost use Rattle.serial_core.specs.Retained.{retained_kinds, told_by};
 
 use crate::serial::SerialCore;
-use config::Plan;
-use core_parts::restore;
-use st_words::Value;
+use core_values::restore;
+use plan::Plan;
+use st_types::Value;
 
 impl SerialCore {
     /// Goes on from a record: the retained variables take these values, in order, and rows have to be later than this

@@ -1,10 +1,9 @@
 //! The core: a log, and the variables that it makes.
 
-use config::Plan;
+use plan::Plan;
 use ready_list::ReadyList;
-use st_plans::Entry;
-use st_types::Outcome;
-use st_words::Value;
+use st_meaning::Outcome;
+use st_types::{Entry, Value};
 use std::marker::Model;
 use std::sync::Arc;
 
@@ -53,8 +52,8 @@ impl Drop for SerialCore {
 
 impl Model for SerialCore {
     ghost use Rattle.std.specs.Coded.{codes};
-    ghost use Rattle.st_trees.specs.contracts.source.Source as source;
-    ghost use Rattle.coded_programs.specs.contracts.code.Code as code;
+    ghost use Rattle.st_types.specs.contracts.source.Source as source;
+    ghost use Rattle.slot_code.specs.contracts.code.Code as code;
     ghost use Rattle.serial_core.specs.Steps.{State};
 
     ghost Value = { State };

@@ -1,15 +1,15 @@
 //! Starting a core.
 
 ghost use Rattle.std.specs.Prelude.{◌≡◌, ◌≤◌, [], None, IfOk, map};
-ghost use Rattle.st_words.specs.declared.limits.TheConstants.{MAX_LOG_ROOM};
-ghost use Rattle.st_plans.specs.Plans.{initial_store};
-ghost use Rattle.config.specs.PlanViews.{plan_view};
+ghost use Rattle.st_types.specs.declared.limits.TheConstants.{MAX_LOG_ROOM};
+ghost use Rattle.st_meaning.specs.Plans.{initial_store};
+ghost use Rattle.plan.specs.PlanViews.{plan_view};
 
 use crate::serial::SerialCore;
-use config::Plan;
+use plan::Plan;
 use ready_list::ReadyList;
-use st_plans::PlanVariable;
-use st_words::Value;
+use st_meaning::PlanVariable;
+use st_types::Value;
 use std::alloc::{AllocError, Global};
 use std::sync::Arc;
 

@@ -1,17 +1,17 @@
 //! Taking a snapshot.
 
-ghost use Rattle.std.specs.Prelude.{◌≡◌, ◌<◌, length, map, None, Some, IfOk, IfErr, IsFalse, MatchOption};
-ghost use Rattle.coded_programs.specs.declared.code.Code.{Code};
+ghost use Rattle.std.specs.Prelude.{◌≡◌, ◌<◌, length, map, None, Some, IfOk, IfErr, IsFalse, IsTrue, MatchOption};
+ghost use Rattle.slot_code.specs.declared.code.Code.{Code};
 ghost use Rattle.serial_core.specs.Steps.{Takes, IsSnapshotIn, code_at, none_waits, slots_for, waits_in};
-ghost use Rattle.serial_core.specs.Quick.{TakesQuick, IsBestIn, IsQuickSnapshotIn, IsTakenIn};
+ghost use Rattle.serial_core.specs.Quick.{HasQuickCode, TakesQuick, IsBestIn, IsQuickSnapshotIn, IsTakenIn};
 
 use crate::refusal::Refusal;
 use crate::serial::SerialCore;
-use coded_programs::Code;
-use coded_runs::{QuickSnapshot, Snapshot, Taken};
-use config::{Plan, merged_values};
-use core_parts::window_values;
-use st_plans::Activation;
+use core_values::window_values;
+use plan::{Plan, merged_values};
+use slot_code::Code;
+use slot_run::{QuickSnapshot, Snapshot, Taken};
+use st_types::Activation;
 use std::alloc::{AllocError, Global};
 use std::sync::Arc;
 
@@ -26,7 +26,8 @@ fn code_of(plan: &Plan, program: usize) -> Result<Arc<Code>, AllocError>
 /// Whether there is quick code of a program.
 fn has_quick_code(plan: &Plan, program: usize) -> bool
     requires there { program < length plan.now.programs.items }
-    ensures { IsFalse result → (code : Code) → code_at plan.now program ≡ Some code → code.quick ≡ None }
+    ensures none { IsFalse result → (code : Code) → code_at plan.now program ≡ Some code → code.quick ≡ None }
+    ensures some { IsTrue result → (code : Code) → code_at plan.now program ≡ Some code → HasQuickCode code }
 {
     plan.programs[program].code.quick.is_some()
 }

@@ -4,13 +4,13 @@ use Rattle.std.proofs.Common.{Some, Result, Ok, Err, refl, sym, ap, ◌∙◌, a
 use Rattle.std.specs.Prelude.{nat_le, reverse}
 use Rattle.std.proofs.lemmas.Bool.{le-leb}
 use Rattle.std.proofs.lemmas.Bool.Decides.{nat_tests}
-use Rattle.st_words.specs.declared.fault.Fault.{Fault as TheFault}
-use Rattle.st_words.specs.declared.fault.Fault.TheVariants.{Conversion}
-use Rattle.st_words.specs.Values.{Datum}
-use Rattle.st_types.specs.Failures.{ill_typed, StandIns, in_runs, run_result}
-use Rattle.st_types.specs.StandardFunctions.{Standard, standard_value}
-use Rattle.st_names.specs.Standard.{standard_view}
-use Rattle.st_names.specs.declared.standard_functions.Standard as code_function
+use Rattle.st_types.specs.declared.fault.Fault.{Fault as TheFault}
+use Rattle.st_types.specs.declared.fault.Fault.TheVariants.{Conversion}
+use Rattle.st_types.specs.Values.{Datum}
+use Rattle.st_meaning.specs.Failures.{ill_typed, StandIns, in_runs, run_result}
+use Rattle.st_meaning.specs.StandardFunctions.{Standard, standard_value}
+use Rattle.symbols.specs.Standard.{standard_view}
+use Rattle.symbols.specs.declared.standard_functions.Standard as code_function
 use Rattle.machine_code.specs.declared.instr.Instr.TheVariants.{Compute}
 use Rattle.machine_code.specs.Machine.{Ending, Next, failed, act, on_tops, on_result}
 use Rattle.machine_code.specs.Tracking.{Tracked, tracking}

@@ -1,7 +1,7 @@
 -- The topmost values, which stay.
 use Rattle.std.proofs.Common.{◌≡◌, List, [], ◌∷◌, take, drop, refl}
 use Rattle.std.specs.Prelude.{reverse}
-use Rattle.st_words.specs.Values.{Datum}
+use Rattle.st_types.specs.Values.{Datum}
 
 pub top_is : (st : List Datum) (v : Datum) → v ∷ [] ≡ reverse (take 1 st) → st ≡ v ∷ drop 1 st
 top_is [] v e = absurd cc

@@ -1,11 +1,11 @@
 -- Instructions on the topmost values.
 use Rattle.std.proofs.Common.{◌≡◌, ℕ, List, ◌∷◌, Some, Result, Ok, Err, sym, ap, ◌∙◌}
-use Rattle.st_words.specs.declared.fault.Fault.{Fault as TheFault}
-use Rattle.st_words.specs.declared.operator.BinaryOperator.{BinaryOperator}
-use Rattle.st_words.specs.Values.{Datum}
-use Rattle.st_types.specs.Failures.{in_runs, run_result}
-use Rattle.st_types.specs.Operators.{apply}
-use Rattle.st_types.specs.Operators.{natural}
+use Rattle.st_types.specs.declared.fault.Fault.{Fault as TheFault}
+use Rattle.st_types.specs.declared.operator.BinaryOperator.{BinaryOperator}
+use Rattle.st_types.specs.Values.{Datum}
+use Rattle.st_meaning.specs.Failures.{in_runs, run_result}
+use Rattle.st_meaning.specs.Operators.{apply}
+use Rattle.st_meaning.specs.Operators.{natural}
 use Rattle.machine_code.specs.declared.instr.Instr.TheVariants.{Binary, Subscript}
 use Rattle.machine_code.specs.Machine.{Next, failed, act, element, slot_number}
 use Rattle.machine_code.specs.Tracking.{Tracked, tracking}

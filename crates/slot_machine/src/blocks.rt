@@ -1,9 +1,9 @@
 //! The instruction that steps a standard block.
 
 ghost use Rattle.std.specs.Prelude.{◌≡◌, ◌-◌, ℕ, List, Some, length, min};
-ghost use Rattle.st_words.specs.Values.{Datum};
-ghost use Rattle.st_types.specs.StandardBlocks.{members_of};
-ghost use Rattle.st_names.specs.Standard.{block_view};
+ghost use Rattle.st_types.specs.Values.{Datum};
+ghost use Rattle.st_meaning.specs.StandardBlocks.{members_of};
+ghost use Rattle.symbols.specs.Standard.{block_view};
 ghost use Rattle.machine_code.specs.Tracking.{tracked, seen, assigned};
 ghost use Rattle.machine_code.specs.declared.instr.Instr.TheVariants as instrs;
 ghost use Rattle.slot_machine.specs.Steps.{StepsOn, marks_from};
@@ -11,9 +11,9 @@ ghost use Rattle.slot_machine.specs.Steps.{StepsOn, marks_from};
 use crate::stop::Stop;
 use machine_code::Mark;
 use slot_memory::{mark_assigned, mark_seen};
-use st_names::StandardBlock;
-use st_words::Value;
+use st_types::Value;
 use std_blocks::step;
+use symbols::StandardBlock;
 
 /// How many members an instance has.
 fn member_count(block: StandardBlock) -> u16

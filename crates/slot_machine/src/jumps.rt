@@ -1,7 +1,7 @@
 //! Instructions that go elsewhere, and ticks.
 
 ghost use Rattle.std.specs.Prelude.{◌≡◌, ◌≤◌, ◌∷◌, ℕ, List, Some};
-ghost use Rattle.st_words.specs.Values.{Datum};
+ghost use Rattle.st_types.specs.Values.{Datum};
 ghost use Rattle.machine_code.specs.Machine.{is_within};
 ghost use Rattle.machine_code.specs.Tracking.{Tracked};
 ghost use Rattle.machine_code.specs.declared.instr.Instr.TheVariants as instrs;
@@ -9,8 +9,8 @@ ghost use Rattle.slot_machine.specs.Steps.{Steps, IsDown, IsTick};
 
 use crate::stack::Stack;
 use crate::stop::Stop;
-use st_words::{Fault, Value};
-use std_functions::{is_at_most, is_same_number, truth};
+use st_types::{Fault, Value};
+use std_blocks::{is_at_most, is_same_number, truth};
 
 /// A jump to a place that is at most the one behind the instruction.
 #[inline(always)]

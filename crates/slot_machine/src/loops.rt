@@ -1,7 +1,7 @@
 //! Instructions of FOR loops.
 
 ghost use Rattle.std.specs.Prelude.{◌≡◌, ◌≤◌, ◌∷◌, ℕ, List, Some};
-ghost use Rattle.st_words.specs.Values.{Datum};
+ghost use Rattle.st_types.specs.Values.{Datum};
 ghost use Rattle.machine_code.specs.Machine.{runs_within};
 ghost use Rattle.machine_code.specs.Tracking.{tracked};
 ghost use Rattle.machine_code.specs.declared.instr.Instr.TheVariants as instrs;
@@ -12,8 +12,8 @@ use crate::stack::Stack;
 use crate::stop::Stop;
 use machine_code::Mark;
 use slot_memory::{look, mark_seen, peek, put, put_seen, stepped_on};
-use st_words::{Fault, Value};
-use std_functions::{is_at_most, is_negative};
+use st_types::{Fault, Value};
+use std_blocks::{is_at_most, is_negative};
 
 /// Whether the control variable has not passed the limit.
 #[inline(always)]

@@ -1,7 +1,7 @@
 //! The machine.
 
 ghost use Rattle.std.specs.Prelude.{◌≡◌, ◌≤◌, ◌+◌, ◌*◌, [], ℕ, length, Some};
-ghost use Rattle.st_types.specs.Failures.{in_runs};
+ghost use Rattle.st_meaning.specs.Failures.{in_runs};
 ghost use Rattle.machine_code.specs.declared.limits.TheConstants.{MAX_INSTRUCTIONS};
 ghost use Rattle.machine_code.specs.Machine.{runs};
 ghost use Rattle.machine_code.specs.Tracking.{tracking, tracked};
@@ -16,7 +16,7 @@ use crate::stack::Stack;
 use crate::stop::Stop;
 use crate::subscripts::subscript;
 use machine_code::{Instr, Mark};
-use st_words::{Fault, Value};
+use st_types::{Fault, Value};
 use std::alloc::Global;
 
 /// One instruction of code of a size at a moment, where `place` is the one behind it. It goes on, or ends with a fault or

@@ -1,18 +1,18 @@
 //! Instructions that compute with the values on the stack.
 
 ghost use Rattle.std.specs.Prelude.{◌≡◌, ℕ, List, Some};
-ghost use Rattle.st_words.specs.Values.{Datum};
+ghost use Rattle.st_types.specs.Values.{Datum};
 ghost use Rattle.machine_code.specs.Tracking.{Tracked};
 ghost use Rattle.machine_code.specs.declared.instr.Instr.TheVariants as instrs;
 ghost use Rattle.slot_machine.specs.Steps.{Steps, operated};
-ghost use Rattle.st_names.specs.Standard.{standard_view};
-ghost use Rattle.st_types.specs.Failures.{run_result};
+ghost use Rattle.symbols.specs.Standard.{standard_view};
+ghost use Rattle.st_meaning.specs.Failures.{run_result};
 
 use crate::stack::Stack;
 use crate::stop::Stop;
-use st_names::Standard;
-use st_words::{BinaryOperator, Fault, UnaryOperator, Value};
-use std_functions::{apply, apply_unary, standard_value};
+use st_types::{BinaryOperator, Fault, UnaryOperator, Value};
+use std_blocks::{apply, apply_unary, standard_value};
+use symbols::Standard;
 
 #[inline(always)]
 pub fn push_constant(value: Value, stack: &mut Stack) -> Result<(), Stop>

@@ -1,7 +1,7 @@
 //! Instructions that read and write slots.
 
 ghost use Rattle.std.specs.Prelude.{◌≡◌, ℕ, Some};
-ghost use Rattle.st_types.specs.Operators.{natural};
+ghost use Rattle.st_meaning.specs.Operators.{natural};
 ghost use Rattle.machine_code.specs.Tracking.{tracked};
 ghost use Rattle.machine_code.specs.declared.instr.Instr.TheVariants as instrs;
 ghost use Rattle.slot_machine.specs.Steps.{Steps};
@@ -10,8 +10,8 @@ use crate::stack::Stack;
 use crate::stop::Stop;
 use machine_code::Mark;
 use slot_memory::{look, put, reset};
-use st_words::{Fault, Value};
-use std_functions::bits;
+use st_types::{Fault, Value};
+use std_blocks::bits;
 
 #[inline(always)]
 pub fn load(k: u16, stack: &mut Stack, values: &[Value], marks: &mut [Mark]) -> Result<(), Stop>

@@ -5,7 +5,7 @@ ghost use Rattle.std.specs.Prelude.{IfSome, IfNone};
 ghost use Rattle.slot_machine.specs.Steps.{AreTops, IsPopped, IsPushed, IsTop};
 
 use crate::stop::Stop;
-use st_words::{Fault, Value};
+use st_types::{Fault, Value};
 use std::alloc::{AllocError, Global};
 use std::marker::Model;
 
@@ -22,7 +22,7 @@ impl Drop for Stack {
 
 impl Model for Stack {
     ghost use Rattle.std.specs.Prelude.{List, reverse};
-    ghost use Rattle.st_words.specs.Values.{Datum};
+    ghost use Rattle.st_types.specs.Values.{Datum};
 
     ghost Value = { List Datum };
 

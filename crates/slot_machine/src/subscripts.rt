@@ -1,9 +1,9 @@
 //! The instruction that moves a slot's number on to an element.
 
 ghost use Rattle.std.specs.Prelude.{◌≡◌, ◌+◌, ◌*◌, ◌-ℤ◌, ◌+ℤ◌, ℕ, pos, Some, true};
-ghost use Rattle.st_types.specs.Failures.{run_result};
-ghost use Rattle.st_types.specs.Operators.{natural};
-ghost use Rattle.st_layouts.specs.Shapes.{in_bounds, distance};
+ghost use Rattle.st_meaning.specs.Failures.{run_result};
+ghost use Rattle.st_meaning.specs.Operators.{natural};
+ghost use Rattle.layout.specs.Shapes.{in_bounds, distance};
 ghost use Rattle.machine_code.specs.Machine.{element, slot_number};
 ghost use Rattle.machine_code.specs.Tracking.{Tracked};
 ghost use Rattle.machine_code.specs.declared.instr.Instr.TheVariants as instrs;
@@ -12,7 +12,7 @@ ghost use Rattle.slot_machine.specs.Steps.{Steps};
 use crate::slots::slot_of;
 use crate::stack::Stack;
 use crate::stop::Stop;
-use st_words::{Fault, Kind, Value};
+use st_types::{Fault, Kind, Value};
 
 /// The number behind the last subscript.
 fn upper(lower: Value, count: u16) -> i128

@@ -1,2 +1,3 @@
 mod Marked
 mod SteppedLemmas
+pub mod PickedLemmas

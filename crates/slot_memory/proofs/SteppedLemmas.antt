@@ -2,13 +2,13 @@
 use Rattle.std.proofs.Common.{◌≡◌, ap, sym, ◌∙◌, Bool, true, false, if◌then◌else◌, Some, None, Result, Ok, Err}
 use Rattle.std.specs.Prelude.{ℤ, pos, ◌+ℤ◌, ◌^◌}
 use Rattle.std.proofs.Math.IntN.{+ℤ_idr}
-use Rattle.st_words.specs.declared.fault.Fault.{Fault}
-use Rattle.st_words.specs.declared.fault.Fault.TheVariants.{Range}
-use Rattle.st_words.specs.declared.kind.Kind.{Kind}
-use Rattle.st_words.specs.Kinds.{holds}
-use Rattle.st_words.specs.Values.{Datum, in_range}
-use Rattle.st_words.specs.Words.{datum_at, is_wide, number_at}
-use Rattle.st_types.specs.Loops.{unless_fault}
+use Rattle.st_types.specs.declared.fault.Fault.{Fault}
+use Rattle.st_types.specs.declared.fault.Fault.TheVariants.{Range}
+use Rattle.st_types.specs.declared.kind.Kind.{Kind}
+use Rattle.st_types.specs.Kinds.{holds}
+use Rattle.st_types.specs.Values.{Datum, in_range}
+use Rattle.st_types.specs.Words.{datum_at, is_wide, number_at}
+use Rattle.st_meaning.specs.Loops.{unless_fault}
 
 -- the words of a type that is not wide are its numbers
 pub word_is : (k : Kind) (w : ℤ) → is_wide k ≡ false → number_at k w ≡ w

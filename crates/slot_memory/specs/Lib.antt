@@ -1,1 +1,2 @@
-pub mod Memories
+pub mod TrackedMemories
+pub mod Cells

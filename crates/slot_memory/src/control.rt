@@ -1,12 +1,12 @@
 //! Control variables of FOR loops.
 
 ghost use Rattle.std.specs.Prelude.{◌≡◌, ◌+ℤ◌, false};
-ghost use Rattle.st_words.specs.Values.{in_range};
-ghost use Rattle.st_words.specs.Words.{is_wide};
-ghost use Rattle.st_types.specs.Loops.{stepped_on, unless_fault};
+ghost use Rattle.st_types.specs.Values.{in_range};
+ghost use Rattle.st_types.specs.Words.{is_wide};
+ghost use Rattle.st_meaning.specs.Loops.{stepped_on, unless_fault};
 
-use st_words::{Value, is_wide};
-use std_functions::holds_word;
+use st_types::{Value, is_wide};
+use std_blocks::holds_word;
 
 /// The sum without bounds.
 #[inline(always)]

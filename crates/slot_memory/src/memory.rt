@@ -1,13 +1,13 @@
 //! The memory of a run: the values of the slots, and a mark for each.
 
 ghost use Rattle.std.specs.Prelude.{◌≡◌, IfNone, IfSome, List};
-ghost use Rattle.st_words.specs.Values.{IsHeld};
+ghost use Rattle.st_types.specs.Values.{IsHeld};
 ghost use Rattle.machine_code.specs.declared.mark.Mark as mark;
 ghost use Rattle.machine_code.specs.Tracking.{tracking, tracked, with_mark, seen, assigned};
-ghost use Rattle.slot_memory.specs.Memories.{found_in, put_in};
+ghost use Rattle.slot_memory.specs.TrackedMemories.{found_in, put_in};
 
 use machine_code::Mark;
-use st_words::Value;
+use st_types::Value;
 
 /// Marks that a slot was looked up.
 #[inline(always)]

@@ -1,20 +1,20 @@
 -- A block that is linked by the table of its declarations is linked, and so is a program's instance.
 use Rattle.std.proofs.Common.{◌≡◌, ℕ, true, false, not, if◌then◌else◌, List, Some, None, sym}
 use Rattle.std.proofs.Common.{ap, ◌∙◌, subst}
-use Rattle.st_words.specs.declared.path.Owner.{Owner}
-use Rattle.st_trees.specs.Units.{OrganisationUnit}
-use Rattle.st_types.specs.Bodies.{externals_in}
-use Rattle.st_types.specs.NameTypes.{Declared}
-use Rattle.st_types.specs.Scopes.{Name, contains_name}
-use Rattle.st_statics.specs.declared.limits.TheConstants.{MAX_TYPE_DEPTH}
-use Rattle.st_layouts.specs.LayoutVariables.{Owned, owned_variable}
-use Rattle.st_layouts.specs.Libraries.{instances_among, block_of_unit, program_of_unit}
-use Rattle.st_layouts.specs.Names.{are_different, names_of_sites}
-use Rattle.st_layouts.specs.Shapes.{of_instance}
-use Rattle.st_layouts.specs.Standing.{are_declared_once, variable_at}
-use Rattle.st_layouts.specs.TextLayouts.{slots_of, variable_shape}
-use Rattle.st_layouts.specs.Types.{Site, shape_of_type, parts_of, sites_of_blocks, site_named, is_within_depth}
-use Rattle.st_layouts.proofs.ListLemmas.{both, turned, some_is}
+use Rattle.st_types.specs.declared.path.Owner.{Owner}
+use Rattle.st_types.specs.Units.{OrganisationUnit}
+use Rattle.st_meaning.specs.Bodies.{externals_in}
+use Rattle.st_meaning.specs.NameTypes.{Declared}
+use Rattle.st_meaning.specs.Scopes.{Name, contains_name}
+use Rattle.st_rules.specs.declared.limits.TheConstants.{MAX_TYPE_DEPTH}
+use Rattle.layout.specs.LayoutVariables.{Owned, owned_variable}
+use Rattle.layout.specs.Libraries.{instances_among, block_of_unit, program_of_unit}
+use Rattle.layout.specs.Names.{are_different, names_of_sites}
+use Rattle.layout.specs.Shapes.{of_instance}
+use Rattle.layout.specs.Standing.{are_declared_once, variable_at}
+use Rattle.layout.specs.TextLayouts.{slots_of, variable_shape}
+use Rattle.layout.specs.Types.{Site, shape_of_type, parts_of, sites_of_blocks, site_named, is_within_depth}
+use Rattle.layout.proofs.ListLemmas.{both, turned, some_is}
 use Rattle.slot_trees.specs.SlotTrees.{SlotStmts}
 use Rattle.slot_trees.specs.Tables.{Symbol, named_in}
 use Rattle.slot_trees.specs.LinkedTexts.{IsInstance, EachInstance, IsBlockLink}

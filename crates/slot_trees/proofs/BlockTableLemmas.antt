@@ -2,14 +2,14 @@
 use Rattle.std.proofs.Common.{◌≡◌, Bool, true, false, if◌then◌else◌, List, [], ◌∷◌, Option, Some, None, option_map}
 use Rattle.std.proofs.Common.{refl, sym, ap, ◌∙◌, subst}
 use Rattle.std.specs.Prelude.{bytes_eq}
-use Rattle.st_types.specs.NameTypes.{Declared}
-use Rattle.st_types.specs.Scopes.{Name, contains_name}
-use Rattle.st_layouts.specs.LayoutVariables.{Owned}
-use Rattle.st_layouts.specs.Shapes.{Parts}
-use Rattle.st_layouts.specs.Standing.{are_declared_once, variable_at}
-use Rattle.st_layouts.specs.TextLayouts.{slots_of}
-use Rattle.st_layouts.proofs.ListLemmas.{map_some, some_is, same_name}
-use Rattle.st_layouts.proofs.VariableLemmas.{variable_stands}
+use Rattle.st_meaning.specs.NameTypes.{Declared}
+use Rattle.st_meaning.specs.Scopes.{Name, contains_name}
+use Rattle.layout.specs.LayoutVariables.{Owned}
+use Rattle.layout.specs.Shapes.{Parts}
+use Rattle.layout.specs.Standing.{are_declared_once, variable_at}
+use Rattle.layout.specs.TextLayouts.{slots_of}
+use Rattle.layout.proofs.ListLemmas.{map_some, some_is, same_name}
+use Rattle.layout.proofs.VariableLemmas.{variable_stands}
 use Rattle.slot_trees.specs.Tables.{Symbol, symbol_of, part_at}
 use Rattle.slot_trees.specs.ProgramTables.{symbol_at}
 use Rattle.slot_trees.specs.BlockTables.{part_symbol, block_symbol, if_there, block_symbols}

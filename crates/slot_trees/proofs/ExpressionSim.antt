@@ -5,26 +5,26 @@ use Rattle.std.proofs.Common.{Option, Some, None, option_map, option_and_then, R
 use Rattle.std.proofs.Common.{zero, suc, add_assoc, add-zero, arith}
 use Rattle.std.proofs.lemmas.Bool.Decides.{nat_tests}
 use Rattle.std.specs.Prelude.{nat_lt}
-use Rattle.st_words.specs.declared.fault.Fault.TheVariants.{Index}
-use Rattle.st_words.specs.declared.kind.Kind.{Kind}
-use Rattle.st_words.specs.declared.path.Step.TheVariants.{Element}
-use Rattle.st_words.specs.Values.{Datum}
-use Rattle.st_words.specs.Paths.{Path}
-use Rattle.st_trees.specs.Expressions as named
-use Rattle.st_trees.specs.Expressions.{Expr, literal, read, parenthesis, Exprs, Variable, variable, member, subscript}
-use Rattle.st_trees.specs.Expressions.{Selectors, no_selectors, selector_then}
-use Rattle.st_types.specs.Failures.{Failure, valueless, or_failure, failing}
-use Rattle.st_types.specs.Stores.{Store, has_part}
-use Rattle.st_types.specs.Ticks.{◌>>=◌, give, fault, attempt}
-use Rattle.st_types.specs.Operators.{value_of_literal, apply, apply_unary, truth}
-use Rattle.st_types.specs.StandardFunctions.{Standard, standard_of, standard_value}
-use Rattle.st_types.specs.Scopes.{Name, Scope, path_in, member_at}
-use Rattle.st_types.specs.Evaluation.{known, value, values, place as named_place, selected, element_at, bounded}
-use Rattle.st_types.specs.Evaluation.{looked_up, called, truth_of}
-use Rattle.st_types.specs.Slots.{Slot, IsLayout}
-use Rattle.st_layouts.specs.Shapes.{Shape, plain, array, parts, size, in_bounds, distance, leads_on}
-use Rattle.st_layouts.specs.Standing.{Stands}
-use Rattle.st_layouts.proofs.ListLemmas.{map_some, if_some, some_is}
+use Rattle.st_types.specs.declared.fault.Fault.TheVariants.{Index}
+use Rattle.st_types.specs.declared.kind.Kind.{Kind}
+use Rattle.st_types.specs.declared.path.Step.TheVariants.{Element}
+use Rattle.st_types.specs.Values.{Datum}
+use Rattle.st_types.specs.Paths.{Path}
+use Rattle.st_types.specs.Expressions as named
+use Rattle.st_types.specs.Expressions.{Expr, literal, read, parenthesis, Exprs, Variable, variable, member, subscript}
+use Rattle.st_types.specs.Expressions.{Selectors, no_selectors, selector_then}
+use Rattle.st_meaning.specs.Failures.{Failure, valueless, or_failure, failing}
+use Rattle.st_meaning.specs.Stores.{Store, has_part}
+use Rattle.st_meaning.specs.Ticks.{◌>>=◌, give, fault, attempt}
+use Rattle.st_meaning.specs.Operators.{value_of_literal, apply, apply_unary, truth}
+use Rattle.st_meaning.specs.StandardFunctions.{Standard, standard_of, standard_value}
+use Rattle.st_meaning.specs.Scopes.{Name, Scope, path_in, member_at}
+use Rattle.st_meaning.specs.Evaluation.{known, value, values, place as named_place, selected, element_at, bounded}
+use Rattle.st_meaning.specs.Evaluation.{looked_up, called, truth_of}
+use Rattle.st_meaning.specs.Slots.{Slot, IsLayout}
+use Rattle.layout.specs.Shapes.{Shape, plain, array, parts, size, in_bounds, distance, leads_on}
+use Rattle.layout.specs.Standing.{Stands}
+use Rattle.layout.proofs.ListLemmas.{map_some, if_some, some_is}
 use Rattle.slot_trees.specs.SlotTrees.{Anchor, own, absolute, SlotExpr, load, call, unary, binary}
 use Rattle.slot_trees.specs.SlotTrees.{SlotExprs, expr_then, Place, place, Subscripts}
 use Rattle.slot_trees.specs.SlotEvaluation.{SlotScope, slot_at, loaded, slot_value, slot_values, placed, led}

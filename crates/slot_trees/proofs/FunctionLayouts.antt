@@ -1,18 +1,18 @@
 -- A function's variables lie as its declarations tell.
 use Rattle.std.proofs.Common.{◌≡◌, false, List, [], ◌∷◌, ◌++◌, None, map, refl, ap, ◌∙◌}
-use Rattle.st_words.specs.declared.kind.Kind.{Kind}
-use Rattle.st_words.specs.Paths.{Path}
-use Rattle.st_types.specs.NameTypes.{Declared}
-use Rattle.st_types.specs.Slots.{Slot}
-use Rattle.st_types.specs.Stores.{Store, shape_of}
-use Rattle.st_layouts.specs.LayoutVariables.{owned_variable}
-use Rattle.st_layouts.specs.Libraries.{fresh_values}
-use Rattle.st_layouts.specs.Shapes.{Leaf}
-use Rattle.st_layouts.specs.Standing.{slot}
-use Rattle.st_layouts.specs.TextLayouts.{slots_of, slot_of_leaf, leaves_of_variable, types_of_slots}
-use Rattle.st_layouts.specs.TextLayouts.{variable_slots}
-use Rattle.st_layouts.specs.Types.{NamedSite}
-use Rattle.st_layouts.proofs.StoreLemmas.{types_of_plan_variables}
+use Rattle.st_types.specs.declared.kind.Kind.{Kind}
+use Rattle.st_types.specs.Paths.{Path}
+use Rattle.st_meaning.specs.NameTypes.{Declared}
+use Rattle.st_meaning.specs.Slots.{Slot}
+use Rattle.st_meaning.specs.Stores.{Store, shape_of}
+use Rattle.layout.specs.LayoutVariables.{owned_variable}
+use Rattle.layout.specs.Libraries.{fresh_values}
+use Rattle.layout.specs.Shapes.{Leaf}
+use Rattle.layout.specs.Standing.{slot}
+use Rattle.layout.specs.TextLayouts.{slots_of, slot_of_leaf, leaves_of_variable, types_of_slots}
+use Rattle.layout.specs.TextLayouts.{variable_slots}
+use Rattle.layout.specs.Types.{NamedSite}
+use Rattle.layout.proofs.StoreLemmas.{types_of_plan_variables}
 use Rattle.slot_trees.specs.LinkedTexts.{layout_of_fresh}
 
 -- the slot of a variable with this path and type

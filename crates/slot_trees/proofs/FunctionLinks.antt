@@ -2,20 +2,20 @@
 use Rattle.std.proofs.Common.{◌≡◌, ℕ, ◌+◌, Bool, true, false, if◌then◌else◌, List, [], ◌∷◌, map, Option, Some, None}
 use Rattle.std.proofs.Common.{option_map, option_and_then, refl, sym, subst, arith}
 use Rattle.std.specs.Prelude.{bytes_eq}
-use Rattle.st_trees.specs.declared.data_type.SimpleType.{SimpleType}
-use Rattle.st_trees.specs.Statements.{Stmts, stmts_of}
-use Rattle.st_trees.specs.Units.{OrganisationUnit}
-use Rattle.st_types.specs.NameTypes.{Declared}
-use Rattle.st_types.specs.Scopes.{Name, of_call, own_path, unowned, contains_name}
-use Rattle.st_types.specs.Slots.{Slot, IsLayout}
-use Rattle.st_layouts.specs.LayoutVariables.{Owned, owned_variable}
-use Rattle.st_layouts.specs.Libraries.{fresh_values, body_of_unit, input_names, function_of_unit}
-use Rattle.st_layouts.specs.Shapes.{Shape, plain, array, parts}
-use Rattle.st_layouts.specs.Standing.{Stands, are_declared_once, variable_at}
-use Rattle.st_layouts.specs.TextLayouts.{variable_shape}
-use Rattle.st_layouts.specs.Types.{NamedSite}
-use Rattle.st_layouts.proofs.ListLemmas.{map_some, some_is, same_name}
-use Rattle.st_layouts.proofs.VariableLemmas.{variable_stands, variables_layout}
+use Rattle.st_types.specs.declared.data_type.SimpleType.{SimpleType}
+use Rattle.st_types.specs.Statements.{Stmts, stmts_of}
+use Rattle.st_types.specs.Units.{OrganisationUnit}
+use Rattle.st_meaning.specs.NameTypes.{Declared}
+use Rattle.st_meaning.specs.Scopes.{Name, of_call, own_path, unowned, contains_name}
+use Rattle.st_meaning.specs.Slots.{Slot, IsLayout}
+use Rattle.layout.specs.LayoutVariables.{Owned, owned_variable}
+use Rattle.layout.specs.Libraries.{fresh_values, body_of_unit, input_names, function_of_unit}
+use Rattle.layout.specs.Shapes.{Shape, plain, array, parts}
+use Rattle.layout.specs.Standing.{Stands, are_declared_once, variable_at}
+use Rattle.layout.specs.TextLayouts.{variable_shape}
+use Rattle.layout.specs.Types.{NamedSite}
+use Rattle.layout.proofs.ListLemmas.{map_some, some_is, same_name}
+use Rattle.layout.proofs.VariableLemmas.{variable_stands, variables_layout}
 use Rattle.slot_trees.specs.SlotTrees.{Anchor, SlotStmts, SlotFunction}
 use Rattle.slot_trees.specs.SlotEvaluation.{slot_at}
 use Rattle.slot_trees.specs.Tables.{Symbol, symbol_of}

@@ -3,27 +3,27 @@ use Rattle.std.proofs.Common.{◌≡◌, ℕ, suc, Bool, true, false, not, if◌
 use Rattle.std.proofs.Common.{Some, None, option_map, refl, sym, ap, ap₂, ◌∙◌, subst, arith}
 use Rattle.std.specs.Prelude.{bytes_eq, is_none}
 use Rattle.std.specs.List.{list_all}
-use Rattle.st_trees.specs.declared.data_type.SimpleType.TheVariants.{Elementary, Named}
-use Rattle.st_trees.specs.declared.data_type.VariableType.{VariableType}
-use Rattle.st_trees.specs.declared.data_type.VariableType.TheVariants as types
-use Rattle.st_trees.specs.declared.unit.UnitSort.{UnitSort}
-use Rattle.st_trees.specs.declared.unit.UnitSort.TheVariants as sorts
-use Rattle.st_trees.specs.Units.{OrganisationUnit}
-use Rattle.st_types.specs.NameTypes.{Declared, type_named, unit_named}
-use Rattle.st_types.specs.Scopes.{Name, contains_name, block_named}
-use Rattle.st_types.specs.StandardBlocks.{StandardBlock, BlockMember, block_of, members_of}
-use Rattle.st_statics.specs.declared.limits.TheConstants.{MAX_TYPE_DEPTH}
-use Rattle.st_layouts.specs.Shapes.{Shape, of_instance, plain, parts, part_then, size}
-use Rattle.st_layouts.specs.Types.{Site, NamedSite, site_named, site_of_member, BlockType, block_type_of}
-use Rattle.st_layouts.specs.Types.{own_block_type}
-use Rattle.st_layouts.specs.Types.{block_type_named, instance_of, parts_of}
-use Rattle.st_layouts.specs.Types.{sites_of_blocks, composed_shape, shape_within, shape_of_type, parts_within}
-use Rattle.st_layouts.specs.Types.{is_within_depth}
-use Rattle.st_layouts.specs.Names.{are_different, names_of_sites}
-use Rattle.st_layouts.specs.Libraries.{instance_then, instances_among}
-use Rattle.st_layouts.proofs.DepthLemmas.{expanded_whole}
-use Rattle.st_layouts.proofs.LibraryLemmas.{instance_made}
-use Rattle.st_layouts.proofs.ListLemmas.{both, turned, neither, same_name, if_some, some_is, map_some}
+use Rattle.st_types.specs.declared.data_type.SimpleType.TheVariants.{Elementary, Named}
+use Rattle.st_types.specs.declared.data_type.VariableType.{VariableType}
+use Rattle.st_types.specs.declared.data_type.VariableType.TheVariants as types
+use Rattle.st_types.specs.declared.unit.UnitSort.{UnitSort}
+use Rattle.st_types.specs.declared.unit.UnitSort.TheVariants as sorts
+use Rattle.st_types.specs.Units.{OrganisationUnit}
+use Rattle.st_meaning.specs.NameTypes.{Declared, type_named, unit_named}
+use Rattle.st_meaning.specs.Scopes.{Name, contains_name, block_named}
+use Rattle.st_meaning.specs.StandardBlocks.{StandardBlock, BlockMember, block_of, members_of}
+use Rattle.st_rules.specs.declared.limits.TheConstants.{MAX_TYPE_DEPTH}
+use Rattle.layout.specs.Shapes.{Shape, of_instance, plain, parts, part_then, size}
+use Rattle.layout.specs.Types.{Site, NamedSite, site_named, site_of_member, BlockType, block_type_of}
+use Rattle.layout.specs.Types.{own_block_type}
+use Rattle.layout.specs.Types.{block_type_named, instance_of, parts_of}
+use Rattle.layout.specs.Types.{sites_of_blocks, composed_shape, shape_within, shape_of_type, parts_within}
+use Rattle.layout.specs.Types.{is_within_depth}
+use Rattle.layout.specs.Names.{are_different, names_of_sites}
+use Rattle.layout.specs.Libraries.{instance_then, instances_among}
+use Rattle.layout.proofs.DepthLemmas.{expanded_whole}
+use Rattle.layout.proofs.LibraryLemmas.{instance_made}
+use Rattle.layout.proofs.ListLemmas.{both, turned, neither, same_name, if_some, some_is, map_some}
 use Rattle.slot_trees.specs.Tables.{Part, part_at, part_beyond, named_in}
 use Rattle.slot_trees.specs.LinkedTexts.{parts_of_members}
 use Rattle.slot_trees.specs.TextNumbers.{members_of_block, members_then, own_members, standard_members, numbers_of}

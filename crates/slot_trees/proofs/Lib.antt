@@ -18,3 +18,4 @@ pub mod BlockLinks
 pub mod LibraryLinks
 pub mod ProgramLinks
 pub mod LookedUp
+pub mod Bridge

@@ -3,24 +3,24 @@ use Rattle.std.proofs.Common.{◌≡◌, inl, inr, ℕ, suc, ◌+◌, Bool, true
 use Rattle.std.proofs.Common.{slice_get, Option, Some, None, option_map, refl, sym, ap, ◌∙◌, subst, arith}
 use Rattle.std.specs.Prelude.{bytes_eq}
 use Rattle.std.specs.List.{list_all}
-use Rattle.st_trees.specs.declared.data_type.SimpleType.{SimpleType}
-use Rattle.st_trees.specs.declared.unit.UnitSort.{UnitSort}
-use Rattle.st_trees.specs.declared.unit.UnitSort.TheVariants as sorts
-use Rattle.st_trees.specs.Units.{OrganisationUnit}
-use Rattle.st_types.specs.NameTypes.{Declared}
-use Rattle.st_types.specs.Scopes.{Name, Function, Block, function_in, block_in}
-use Rattle.st_types.specs.StandardBlocks.{StandardBlock, block_of, members_of}
-use Rattle.st_layouts.specs.LayoutVariables.{Owned}
-use Rattle.st_layouts.specs.Libraries.{function_of_unit, function_then, functions_among, block_of_unit, block_then}
-use Rattle.st_layouts.specs.Libraries.{blocks_among, library_of}
-use Rattle.st_layouts.specs.Names.{are_different, names_of_sites, variable_names, has_different_variables}
-use Rattle.st_layouts.specs.Names.{has_different_fields, are_types_and_units_different}
-use Rattle.st_layouts.specs.Shapes.{Parts}
-use Rattle.st_layouts.specs.Standing.{are_declared_once}
-use Rattle.st_layouts.specs.TextLayouts.{slots_of}
-use Rattle.st_layouts.specs.Types.{sites_of_blocks}
-use Rattle.st_layouts.proofs.ListLemmas.{both, map_some, some_is}
-use Rattle.st_layouts.proofs.NameLemmas.{variables_once}
+use Rattle.st_types.specs.declared.data_type.SimpleType.{SimpleType}
+use Rattle.st_types.specs.declared.unit.UnitSort.{UnitSort}
+use Rattle.st_types.specs.declared.unit.UnitSort.TheVariants as sorts
+use Rattle.st_types.specs.Units.{OrganisationUnit}
+use Rattle.st_meaning.specs.NameTypes.{Declared}
+use Rattle.st_meaning.specs.Scopes.{Name, Function, Block, function_in, block_in}
+use Rattle.st_meaning.specs.StandardBlocks.{StandardBlock, block_of, members_of}
+use Rattle.layout.specs.LayoutVariables.{Owned}
+use Rattle.layout.specs.Libraries.{function_of_unit, function_then, functions_among, block_of_unit, block_then}
+use Rattle.layout.specs.Libraries.{blocks_among, library_of}
+use Rattle.layout.specs.Names.{are_different, names_of_sites, variable_names, has_different_variables}
+use Rattle.layout.specs.Names.{has_different_fields, are_types_and_units_different}
+use Rattle.layout.specs.Shapes.{Parts}
+use Rattle.layout.specs.Standing.{are_declared_once}
+use Rattle.layout.specs.TextLayouts.{slots_of}
+use Rattle.layout.specs.Types.{sites_of_blocks}
+use Rattle.layout.proofs.ListLemmas.{both, map_some, some_is}
+use Rattle.layout.proofs.NameLemmas.{variables_once}
 use Rattle.slot_trees.specs.SlotTrees.{own_block, standard_block, SlotStmts, SlotFunction, SlotLibrary}
 use Rattle.slot_trees.specs.Tables.{named_in}
 use Rattle.slot_trees.specs.LinkedTexts.{parts_of_members, HasFunction, HasBlock, IsStandard}

@@ -3,15 +3,15 @@ use Rattle.std.proofs.Common.{◌≡◌, ℕ, suc, ◌+◌, Bool, true, false, �
 use Rattle.std.proofs.Common.{Some, None, option_map, refl, sym, ap, ◌∙◌, arith}
 use Rattle.std.specs.Prelude.{bytes_eq}
 use Rattle.std.specs.List.{position_from}
-use Rattle.st_types.specs.NameTypes.{Declared}
-use Rattle.st_types.specs.Runs.{Program}
-use Rattle.st_types.specs.Scopes.{Name, contains_name}
-use Rattle.st_types.specs.StandardBlocks.{StandardBlock, block_of}
-use Rattle.st_layouts.specs.LayoutVariables.{Owned, owned_variable}
-use Rattle.st_layouts.specs.Shapes.{Parts}
-use Rattle.st_layouts.specs.Standing.{variable_at}
-use Rattle.st_layouts.specs.Types.{NamedSite}
-use Rattle.st_layouts.proofs.ListLemmas.{map_some, same_name, name_itself}
+use Rattle.st_meaning.specs.NameTypes.{Declared}
+use Rattle.st_meaning.specs.Runs.{Program}
+use Rattle.st_meaning.specs.Scopes.{Name, contains_name}
+use Rattle.st_meaning.specs.StandardBlocks.{StandardBlock, block_of}
+use Rattle.layout.specs.LayoutVariables.{Owned, owned_variable}
+use Rattle.layout.specs.Shapes.{Parts}
+use Rattle.layout.specs.Standing.{variable_at}
+use Rattle.layout.specs.Types.{NamedSite}
+use Rattle.layout.proofs.ListLemmas.{map_some, same_name, name_itself}
 use Rattle.slot_trees.specs.SlotTrees.{own_block, standard_block}
 use Rattle.slot_trees.specs.Tables.{Symbol, symbol_of, part_at, named_in}
 use Rattle.slot_trees.specs.ProgramTables.{owner_of_name, symbol_at, symbol_then, program_symbols}

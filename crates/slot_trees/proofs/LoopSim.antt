@@ -1,9 +1,9 @@
 -- Ends of statements and loops over two states that are related.
 use Rattle.std.proofs.Common.{ℕ, zero, suc, Bool, true, false, if◌then◌else◌, Option, Some, None}
-use Rattle.st_words.specs.declared.fault.Fault.TheVariants.{Budget}
-use Rattle.st_types.specs.Ticks.{Run}
-use Rattle.st_types.specs.Loops.{EndOf, goes_on, exits, returns, behind, TurnOf, again, over, turned, resumed, go_back}
-use Rattle.st_types.specs.Loops.{turns, looped, guarded, asked, until}
+use Rattle.st_types.specs.declared.fault.Fault.TheVariants.{Budget}
+use Rattle.st_meaning.specs.Ticks.{Run}
+use Rattle.st_meaning.specs.Loops.{EndOf, goes_on, exits, returns, behind, TurnOf, again, over, turned, resumed, go_back}
+use Rattle.st_meaning.specs.Loops.{turns, looped, guarded, asked, until}
 use Rattle.slot_trees.specs.Alike.{RunAlike, EndsAlike}
 use Rattle.slot_trees.proofs.Sim.{Same, sim_give, sim_fault, sim_then, sim_same, sim_tick, sim_if}
 

@@ -2,8 +2,8 @@
 use Rattle.std.proofs.Common.{◌≡◌, ◌⊎◌, inl, inr, Bool, true, false, if◌then◌else◌, List, [], ◌∷◌, ◌++◌, map}
 use Rattle.std.proofs.Common.{Some, None, option_map, refl, ap, ◌∙◌}
 use Rattle.std.specs.Prelude.{bytes_eq}
-use Rattle.st_types.specs.Scopes.{Name}
-use Rattle.st_types.specs.StandardBlocks.{block_of, members_of}
+use Rattle.st_meaning.specs.Scopes.{Name}
+use Rattle.st_meaning.specs.StandardBlocks.{block_of, members_of}
 use Rattle.slot_trees.specs.SlotTrees.{standard_block}
 use Rattle.slot_trees.specs.Tables.{named_in}
 use Rattle.slot_trees.specs.LinkedTexts.{parts_of_members}

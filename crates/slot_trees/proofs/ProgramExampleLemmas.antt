@@ -2,15 +2,15 @@
 use Rattle.std.proofs.Common.{◌≡◌, ℕ, Bool, true, false, if◌then◌else◌, List, [], ◌∷◌, Some, None, refl, sym}
 use Rattle.std.proofs.Common.{ap, ◌∙◌, subst, codes}
 use Rattle.std.specs.Prelude.{bytes_eq}
-use Rattle.st_types.specs.CallExamples.{T}
-use Rattle.st_types.specs.Scopes.{Name, Library, of_program, path_in}
-use Rattle.st_types.specs.Slots.{Slot}
-use Rattle.st_types.specs.StandardBlocks.{StandardBlock, TON, block_of, members_of}
-use Rattle.st_layouts.specs.Shapes.{of_instance, parts, Parts}
-use Rattle.st_layouts.specs.Standing.{Stands, are_declared_once}
-use Rattle.st_layouts.specs.Types.{shape_within}
-use Rattle.st_layouts.proofs.ListLemmas.{some_is, same_name}
-use Rattle.st_layouts.proofs.VariableLemmas.{variables_layout}
+use Rattle.st_meaning.specs.CallExamples.{T}
+use Rattle.st_meaning.specs.Scopes.{Name, Library, of_program, path_in}
+use Rattle.st_meaning.specs.Slots.{Slot}
+use Rattle.st_meaning.specs.StandardBlocks.{StandardBlock, TON, block_of, members_of}
+use Rattle.layout.specs.Shapes.{of_instance, parts, Parts}
+use Rattle.layout.specs.Standing.{Stands, are_declared_once}
+use Rattle.layout.specs.Types.{shape_within}
+use Rattle.layout.proofs.ListLemmas.{some_is, same_name}
+use Rattle.layout.proofs.VariableLemmas.{variables_layout}
 use Rattle.slot_trees.specs.SlotTrees.{own_block, standard_block}
 use Rattle.slot_trees.specs.SlotEvaluation.{slot_at}
 use Rattle.slot_trees.specs.Tables.{Symbol, symbol_of}

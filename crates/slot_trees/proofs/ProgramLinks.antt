@@ -4,31 +4,31 @@ use Rattle.std.proofs.Common.{◌++◌, map, slice_get, Option, Some, None, opti
 use Rattle.std.proofs.Common.{append_assoc}
 use Rattle.std.specs.Prelude.{bytes_eq}
 use Rattle.std.specs.List.{list_all}
-use Rattle.st_words.specs.declared.path.Owner.{Owner}
-use Rattle.st_trees.specs.declared.configuration.Instance.{Instance}
-use Rattle.st_trees.specs.declared.unit.UnitSort.{UnitSort}
-use Rattle.st_trees.specs.declared.unit.UnitSort.TheVariants as sorts
-use Rattle.st_trees.specs.Configurations.{Resource, Configuration}
-use Rattle.st_trees.specs.Units.{OrganisationUnit}
-use Rattle.st_trees.specs.Sources.{Source}
-use Rattle.st_types.specs.NameTypes.{Declared, unit_named}
-use Rattle.st_types.specs.Runs.{Program}
-use Rattle.st_types.specs.Scopes.{Name}
-use Rattle.st_types.specs.Slots.{Slot}
-use Rattle.st_layouts.specs.LayoutVariables.{Owned, owned_variable, sites_of_program, program_sites, owner_in}
-use Rattle.st_layouts.specs.LayoutVariables.{variables_of_globals, variables_of_instances, variables_of_resources}
-use Rattle.st_layouts.specs.LayoutVariables.{variables_of_configuration, declared_of, configuration_of}
-use Rattle.st_layouts.specs.Libraries.{program_of_unit, program_by_sort, program_if_there, programs_of_instances}
-use Rattle.st_layouts.specs.Libraries.{programs_of_resources, programs_of_configuration, programs_of_text}
-use Rattle.st_layouts.specs.Names.{are_different, names_of_sites, variable_names, has_different_variables}
-use Rattle.st_layouts.specs.Names.{has_different_fields, are_types_and_units_different, is_configuration_different}
-use Rattle.st_layouts.specs.Standing.{is_named_so, has_variable, are_declared_once, variable_at}
-use Rattle.st_layouts.specs.TextLayouts.{slots_of, slots_of_text, variable_shape, variable_path}
-use Rattle.st_layouts.specs.Types.{Site, NamedSite, site_named, sites_of_blocks}
-use Rattle.st_layouts.specs.Shapes.{is_sound, size}
-use Rattle.st_layouts.proofs.ListLemmas.{both, turned, map_some, some_is, same_name, or_here, or_later}
-use Rattle.st_layouts.proofs.NameLemmas.{found_unit, configuration_once}
-use Rattle.st_layouts.proofs.VariableLemmas.{variable_is, variable_itself, variables_layout}
+use Rattle.st_types.specs.declared.path.Owner.{Owner}
+use Rattle.st_types.specs.declared.configuration.Instance.{Instance}
+use Rattle.st_types.specs.declared.unit.UnitSort.{UnitSort}
+use Rattle.st_types.specs.declared.unit.UnitSort.TheVariants as sorts
+use Rattle.st_types.specs.Configurations.{Resource, Configuration}
+use Rattle.st_types.specs.Units.{OrganisationUnit}
+use Rattle.st_types.specs.Sources.{Source}
+use Rattle.st_meaning.specs.NameTypes.{Declared, unit_named}
+use Rattle.st_meaning.specs.Runs.{Program}
+use Rattle.st_meaning.specs.Scopes.{Name}
+use Rattle.st_meaning.specs.Slots.{Slot}
+use Rattle.layout.specs.LayoutVariables.{Owned, owned_variable, sites_of_program, program_sites, owner_in}
+use Rattle.layout.specs.LayoutVariables.{variables_of_globals, variables_of_instances, variables_of_resources}
+use Rattle.layout.specs.LayoutVariables.{variables_of_configuration, declared_of, configuration_of}
+use Rattle.layout.specs.Libraries.{program_of_unit, program_by_sort, program_if_there, programs_of_instances}
+use Rattle.layout.specs.Libraries.{programs_of_resources, programs_of_configuration, programs_of_text}
+use Rattle.layout.specs.Names.{are_different, names_of_sites, variable_names, has_different_variables}
+use Rattle.layout.specs.Names.{has_different_fields, are_types_and_units_different, is_configuration_different}
+use Rattle.layout.specs.Standing.{is_named_so, has_variable, are_declared_once, variable_at}
+use Rattle.layout.specs.TextLayouts.{slots_of, slots_of_text, variable_shape, variable_path}
+use Rattle.layout.specs.Types.{Site, NamedSite, site_named, sites_of_blocks}
+use Rattle.layout.specs.Shapes.{is_sound, size}
+use Rattle.layout.proofs.ListLemmas.{both, turned, map_some, some_is, same_name, or_here, or_later}
+use Rattle.layout.proofs.NameLemmas.{found_unit, configuration_once}
+use Rattle.layout.proofs.VariableLemmas.{variable_is, variable_itself, variables_layout}
 use Rattle.slot_trees.specs.SlotTrees.{SlotStmts, SlotLibrary}
 use Rattle.slot_trees.specs.LinkedTexts.{IsProgramLink}
 use Rattle.slot_trees.specs.TextNumbers.{numbers_of}

@@ -1,18 +1,18 @@
 -- A linked program does to the slots what the program does to the variables.
 use Rattle.std.proofs.Common.{◌≡◌, ◌≤◌, ℕ, suc, List, Result, Ok, Err, refl, sym, ap, subst, arith}
-use Rattle.st_words.specs.declared.fault.Fault.{Fault}
-use Rattle.st_words.specs.Values.{Datum}
-use Rattle.st_types.specs.declared.outcome.Outcome.{Outcome}
-use Rattle.st_types.specs.Failures.{StandIns, in_runs}
-use Rattle.st_types.specs.Stores.{Store}
-use Rattle.st_types.specs.Slots.{Slot}
-use Rattle.st_types.specs.Scopes.{of_program, path_in}
-use Rattle.st_types.specs.Loops.{End}
-use Rattle.st_types.specs.Execution.{exec_all}
-use Rattle.st_types.specs.Runs.{Program, scope_where, ran_where, ran, units_within, outcome_in, store_in}
-use Rattle.st_types.specs.Runs.{outcome_of, store_after}
-use Rattle.st_types.proofs.Agrees.{Agrees, agrees_closed, units_agree}
-use Rattle.st_types.proofs.Related.{stand_themselves, exec_all_q}
+use Rattle.st_types.specs.declared.fault.Fault.{Fault}
+use Rattle.st_types.specs.Values.{Datum}
+use Rattle.st_meaning.specs.declared.outcome.Outcome.{Outcome}
+use Rattle.st_meaning.specs.Failures.{StandIns, in_runs}
+use Rattle.st_meaning.specs.Stores.{Store}
+use Rattle.st_meaning.specs.Slots.{Slot}
+use Rattle.st_meaning.specs.Scopes.{of_program, path_in}
+use Rattle.st_meaning.specs.Loops.{End}
+use Rattle.st_meaning.specs.Execution.{exec_all}
+use Rattle.st_meaning.specs.Runs.{Program, scope_where, ran_where, ran, units_within, outcome_in, store_in}
+use Rattle.st_meaning.specs.Runs.{outcome_of, store_after}
+use Rattle.st_meaning.proofs.Agrees.{Agrees, agrees_closed, units_agree}
+use Rattle.st_meaning.proofs.Related.{stand_themselves, exec_all_q}
 use Rattle.slot_trees.specs.SlotTrees.{SlotStmts, SlotLibrary}
 use Rattle.slot_trees.specs.SlotEvaluation.{SlotScope, slot_at}
 use Rattle.slot_trees.specs.SlotExecution.{SlotEnd}

@@ -2,15 +2,15 @@
 use Rattle.std.proofs.Common.{◌≡◌, ℕ, Bool, true, false, if◌then◌else◌, List, [], ◌∷◌, Option, Some, None, refl, sym}
 use Rattle.std.proofs.Common.{subst}
 use Rattle.std.specs.Prelude.{bytes_eq}
-use Rattle.st_words.specs.declared.path.Owner.{Owner}
-use Rattle.st_types.specs.NameTypes.{Declared}
-use Rattle.st_types.specs.Runs.{Program}
-use Rattle.st_types.specs.Scopes.{Name, of_program, own_path, path_in, unowned, contains_name}
-use Rattle.st_layouts.specs.LayoutVariables.{Owned}
-use Rattle.st_layouts.specs.Standing.{Stands, path_to, are_declared_once, variable_at}
-use Rattle.st_layouts.specs.TextLayouts.{slots_of}
-use Rattle.st_layouts.proofs.ListLemmas.{some_is, same_name}
-use Rattle.st_layouts.proofs.VariableLemmas.{variable_stands}
+use Rattle.st_types.specs.declared.path.Owner.{Owner}
+use Rattle.st_meaning.specs.NameTypes.{Declared}
+use Rattle.st_meaning.specs.Runs.{Program}
+use Rattle.st_meaning.specs.Scopes.{Name, of_program, own_path, path_in, unowned, contains_name}
+use Rattle.layout.specs.LayoutVariables.{Owned}
+use Rattle.layout.specs.Standing.{Stands, path_to, are_declared_once, variable_at}
+use Rattle.layout.specs.TextLayouts.{slots_of}
+use Rattle.layout.proofs.ListLemmas.{some_is, same_name}
+use Rattle.layout.proofs.VariableLemmas.{variable_stands}
 use Rattle.slot_trees.specs.SlotEvaluation.{slot_at}
 use Rattle.slot_trees.specs.Tables.{Symbol, symbol_of}
 use Rattle.slot_trees.specs.ProgramTables.{owner_of_name, symbol_at, symbol_then, program_symbols}

@@ -2,14 +2,14 @@
 use Rattle.std.proofs.Common.{◌≡◌, ℕ, zero, suc, Bool, true, false, ◌||◌, if◌then◌else◌, List, [], ◌∷◌, length}
 use Rattle.std.proofs.Common.{slice_get}
 use Rattle.std.proofs.Common.{slice_set, Option, Some, None, Ok, Err, refl, sym, ap, ap₂, ◌∙◌, subst, length-set, arith}
-use Rattle.st_words.specs.Values.{Datum}
-use Rattle.st_words.specs.Paths.{Path, is_within}
-use Rattle.st_types.specs.Failures.{ill_typed}
-use Rattle.st_types.specs.Stores.{Store, get, may_replace, assigned, has_part}
-use Rattle.st_types.specs.Scopes.{seen}
-use Rattle.st_types.specs.Slots.{Slot, IsLayout, variables_in, inputs_in}
-use Rattle.st_types.proofs.SlotLemmas.{seen_slot, get_variable, assigned_slot}
-use Rattle.st_layouts.specs.Standing.{slot, has_slot_within}
+use Rattle.st_types.specs.Values.{Datum}
+use Rattle.st_types.specs.Paths.{Path, is_within}
+use Rattle.st_meaning.specs.Failures.{ill_typed}
+use Rattle.st_meaning.specs.Stores.{Store, get, may_replace, assigned, has_part}
+use Rattle.st_meaning.specs.Scopes.{seen}
+use Rattle.st_meaning.specs.Slots.{Slot, IsLayout, variables_in, inputs_in}
+use Rattle.st_meaning.proofs.SlotLemmas.{seen_slot, get_variable, assigned_slot}
+use Rattle.layout.specs.Standing.{slot, has_slot_within}
 use Rattle.slot_trees.specs.SlotExecution.{stored_over, stored_at}
 use Rattle.slot_trees.specs.Seeing.{Sees, IsSlotOf}
 use Rattle.slot_trees.proofs.Sim.{ResultAlike}

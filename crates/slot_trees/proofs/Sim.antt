@@ -1,9 +1,9 @@
 -- Runs that end alike, put together.
 use Rattle.std.proofs.Common.{◌≡◌, ℕ, zero, suc, Bool, true, false, if◌then◌else◌, Result, Ok, Err}
 use Rattle.std.proofs.Common.{refl, sym, subst}
-use Rattle.st_words.specs.declared.fault.Fault.{Fault}
-use Rattle.st_types.specs.Failures.{Failure, StandIns, fault_for}
-use Rattle.st_types.specs.Ticks.{Run, follow, ◌>>=◌, ◌>>◌, give, fault, attempt, proceed, tick}
+use Rattle.st_types.specs.declared.fault.Fault.{Fault}
+use Rattle.st_meaning.specs.Failures.{Failure, StandIns, fault_for}
+use Rattle.st_meaning.specs.Ticks.{Run, follow, ◌>>=◌, ◌>>◌, give, fault, attempt, proceed, tick}
 use Rattle.slot_trees.specs.Alike.{EndAlike, RunAlike}
 
 -- the same result

@@ -3,18 +3,18 @@ use Rattle.std.proofs.Common.{◌≡◌, ℕ, ◌+◌, ◌*◌, ℤ, Bool, true,
 use Rattle.std.proofs.Common.{Option, Some, None, option_map, refl, sym, ap, ◌∙◌, subst, append_assoc, append-nil}
 use Rattle.std.proofs.Common.{add_assoc, add-zero, arith}
 use Rattle.std.specs.Prelude.{bytes_eq}
-use Rattle.st_words.specs.declared.kind.Kind.{Kind}
-use Rattle.st_words.specs.declared.path.Step.{Step}
-use Rattle.st_words.specs.declared.path.Step.TheVariants.{Member, Element}
-use Rattle.st_words.specs.Paths.{Path}
-use Rattle.st_types.specs.Scopes.{Name, member_at}
-use Rattle.st_types.specs.Evaluation.{element_at}
-use Rattle.st_types.specs.Slots.{Slot}
-use Rattle.st_layouts.specs.Shapes.{Whole, Shape, plain, array, parts, Parts, no_parts, part_then, size, in_bounds}
-use Rattle.st_layouts.specs.Shapes.{distance, Position, beyond, position_of, position_in, leads_on, leads_in}
-use Rattle.st_layouts.specs.Standing.{Stands, has_slot_within}
-use Rattle.st_layouts.specs.TextLayouts.{further}
-use Rattle.st_layouts.proofs.ListLemmas.{some_is}
+use Rattle.st_types.specs.declared.kind.Kind.{Kind}
+use Rattle.st_types.specs.declared.path.Step.{Step}
+use Rattle.st_types.specs.declared.path.Step.TheVariants.{Member, Element}
+use Rattle.st_types.specs.Paths.{Path}
+use Rattle.st_meaning.specs.Scopes.{Name, member_at}
+use Rattle.st_meaning.specs.Evaluation.{element_at}
+use Rattle.st_meaning.specs.Slots.{Slot}
+use Rattle.layout.specs.Shapes.{Whole, Shape, plain, array, parts, Parts, no_parts, part_then, size, in_bounds}
+use Rattle.layout.specs.Shapes.{distance, Position, beyond, position_of, position_in, leads_on, leads_in}
+use Rattle.layout.specs.Standing.{Stands, has_slot_within}
+use Rattle.layout.specs.TextLayouts.{further}
+use Rattle.layout.proofs.ListLemmas.{some_is}
 use Rattle.slot_trees.specs.Tables.{Part, part_beyond, part_at}
 use Rattle.slot_trees.specs.Seeing.{IsSlotOf}
 

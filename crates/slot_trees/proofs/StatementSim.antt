@@ -3,25 +3,25 @@ use Rattle.std.proofs.Common.{◌≡◌, ℕ, zero, ◌+◌, ℤ, pos, Bool, fal
 use Rattle.std.proofs.Common.{Option, Some, None, option_map, option_and_then, Ok, refl, sym, ap, ◌∙◌}
 use Rattle.std.proofs.Common.{subst}
 use Rattle.std.specs.List.{list_any}
-use Rattle.st_words.specs.declared.fault.Fault.TheVariants.{ZeroStep}
-use Rattle.st_words.specs.Values.{Datum}
-use Rattle.st_words.specs.Paths.{Path}
-use Rattle.st_trees.specs.Expressions.{Expr, Variable}
-use Rattle.st_trees.specs.Statements as text
-use Rattle.st_trees.specs.Statements.{Argument, Stmt, Stmts, Arms, CaseArms}
-use Rattle.st_types.specs.Failures.{ill_typed, or_failure}
-use Rattle.st_types.specs.Stores.{Store, assigned}
-use Rattle.st_types.specs.Ticks.{Run, ◌>>◌, give, attempt, proceed, tick}
-use Rattle.st_types.specs.Scopes.{Name, Scope, path_in, member_at, block_named}
-use Rattle.st_types.specs.Loops.{End, goes_on, exits, returns, runs_on, step_on, stepped_on}
-use Rattle.st_types.specs.Loops.{stored}
-use Rattle.st_types.specs.Loops.{no_step, nonzero}
-use Rattle.st_types.specs.Execution.{label_holds, given_inputs, assigned_inputs, copied_outputs, step_of, counting}
-use Rattle.st_types.specs.Execution.{assigning, invoking, exec, exec_all, exec_arms, exec_case}
-use Rattle.st_types.specs.Slots.{Slot, IsLayout}
-use Rattle.st_layouts.specs.Shapes.{Whole, Shape, plain, array, parts, Parts}
-use Rattle.st_layouts.specs.Standing.{Stands}
-use Rattle.st_layouts.proofs.ListLemmas.{map_some, some_is}
+use Rattle.st_types.specs.declared.fault.Fault.TheVariants.{ZeroStep}
+use Rattle.st_types.specs.Values.{Datum}
+use Rattle.st_types.specs.Paths.{Path}
+use Rattle.st_types.specs.Expressions.{Expr, Variable}
+use Rattle.st_types.specs.Statements as text
+use Rattle.st_types.specs.Statements.{Argument, Stmt, Stmts, Arms, CaseArms}
+use Rattle.st_meaning.specs.Failures.{ill_typed, or_failure}
+use Rattle.st_meaning.specs.Stores.{Store, assigned}
+use Rattle.st_meaning.specs.Ticks.{Run, ◌>>◌, give, attempt, proceed, tick}
+use Rattle.st_meaning.specs.Scopes.{Name, Scope, path_in, member_at, block_named}
+use Rattle.st_meaning.specs.Loops.{End, goes_on, exits, returns, runs_on, step_on, stepped_on}
+use Rattle.st_meaning.specs.Loops.{stored}
+use Rattle.st_meaning.specs.Loops.{no_step, nonzero}
+use Rattle.st_meaning.specs.Execution.{label_holds, given_inputs, assigned_inputs, copied_outputs, step_of, counting}
+use Rattle.st_meaning.specs.Execution.{assigning, invoking, exec, exec_all, exec_arms, exec_case}
+use Rattle.st_meaning.specs.Slots.{Slot, IsLayout}
+use Rattle.layout.specs.Shapes.{Whole, Shape, plain, array, parts, Parts}
+use Rattle.layout.specs.Standing.{Stands}
+use Rattle.layout.proofs.ListLemmas.{map_some, some_is}
 use Rattle.slot_trees.specs.SlotTrees.{Anchor, SlotExpr, Place, BlockCode, SlotArgument, given, copied, SlotStmt}
 use Rattle.slot_trees.specs.SlotTrees.{assign, invoke, IF, CASE, FOR, WHILE, REPEAT, SlotStmts, stmt_then, SlotArms}
 use Rattle.slot_trees.specs.SlotTrees.{arm_then}

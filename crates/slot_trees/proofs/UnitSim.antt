@@ -2,22 +2,22 @@
 use Rattle.std.proofs.Common.{◌≡◌, ℕ, zero, suc, ◌+◌, Bool, true, false, if◌then◌else◌, List, [], ◌∷◌, length}
 use Rattle.std.proofs.Common.{slice_get, Some, option_map, option_and_then, refl, sym, ap, ap₂, subst}
 use Rattle.std.proofs.Common.{add-zero, add-suc, arith}
-use Rattle.st_words.specs.declared.fault.Fault.TheVariants.{Budget}
-use Rattle.st_words.specs.Values.{Datum}
-use Rattle.st_words.specs.Paths.{Path}
-use Rattle.st_types.specs.Failures.{StandIns, ill_typed, or_failure}
-use Rattle.st_types.specs.Stores.{Store, get, assigned}
-use Rattle.st_types.specs.Slots.{Slot, IsLayout, variables_in, inputs_in}
-use Rattle.st_types.specs.Ticks.{attempt}
-use Rattle.st_types.specs.StandardBlocks as standard
-use Rattle.st_types.specs.StandardBlocks.{StandardBlock, BlockMember, block_of, members_of, stepped}
-use Rattle.st_types.specs.Scopes.{Name, of_block, of_call, Function, Block, Library, Units, Scope, unowned, member_at}
-use Rattle.st_types.specs.Scopes.{contains_name, path_in}
-use Rattle.st_types.specs.Loops.{EndOf, End, goes_on, exits, returns}
-use Rattle.st_types.specs.Runs.{store_of, begun, function_value, member_values, members_assigned, standard_call}
-use Rattle.st_types.specs.Runs.{block_call, instance_call, units_within}
-use Rattle.st_layouts.specs.Shapes.{Whole, plain, parts, Parts}
-use Rattle.st_layouts.specs.Standing.{Stands}
+use Rattle.st_types.specs.declared.fault.Fault.TheVariants.{Budget}
+use Rattle.st_types.specs.Values.{Datum}
+use Rattle.st_types.specs.Paths.{Path}
+use Rattle.st_meaning.specs.Failures.{StandIns, ill_typed, or_failure}
+use Rattle.st_meaning.specs.Stores.{Store, get, assigned}
+use Rattle.st_meaning.specs.Slots.{Slot, IsLayout, variables_in, inputs_in}
+use Rattle.st_meaning.specs.Ticks.{attempt}
+use Rattle.st_meaning.specs.StandardBlocks as standard
+use Rattle.st_meaning.specs.StandardBlocks.{StandardBlock, BlockMember, block_of, members_of, stepped}
+use Rattle.st_meaning.specs.Scopes.{Name, of_block, of_call, Function, Block, Library, Units, Scope, unowned, member_at}
+use Rattle.st_meaning.specs.Scopes.{contains_name, path_in}
+use Rattle.st_meaning.specs.Loops.{EndOf, End, goes_on, exits, returns}
+use Rattle.st_meaning.specs.Runs.{store_of, begun, function_value, member_values, members_assigned, standard_call}
+use Rattle.st_meaning.specs.Runs.{block_call, instance_call, units_within}
+use Rattle.layout.specs.Shapes.{Whole, plain, parts, Parts}
+use Rattle.layout.specs.Standing.{Stands}
 use Rattle.slot_trees.specs.SlotTrees.{BlockCode, own_block, standard_block, SlotStmts, SlotFunction, SlotLibrary}
 use Rattle.slot_trees.specs.SlotEvaluation.{SlotUnits, SlotScope, slot_at}
 use Rattle.slot_trees.specs.SlotExecution.{SlotEnd, stored_at}

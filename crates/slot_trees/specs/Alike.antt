@@ -1,8 +1,8 @@
 -- When two runs end alike: with the same fault, or with as many ticks left and results that are related.
 use Rattle.std.specs.Prelude.{◌≡◌, ℕ, Result, Ok, Err}
-use Rattle.st_words.specs.declared.fault.Fault.{Fault}
-use Rattle.st_types.specs.Ticks.{Run}
-use Rattle.st_types.specs.Loops.{EndOf, goes_on, exits, returns}
+use Rattle.st_types.specs.declared.fault.Fault.{Fault}
+use Rattle.st_meaning.specs.Ticks.{Run}
+use Rattle.st_meaning.specs.Loops.{EndOf, goes_on, exits, returns}
 
 abbrev pub EndAlike : {A B : Type 0} → (A → B → Type 0) → Result (A × ℕ) Fault → Result (B × ℕ) Fault → Type 0
 EndAlike R (Ok r) (Ok t) = R r.0 t.0 × (r.1 ≡ t.1)

@@ -1,11 +1,11 @@
 -- The names of a block's body as declarations tell: externals at slots of the whole layout, its own variables so many
 -- slots behind the first one of the instance.
 use Rattle.std.specs.Prelude.{List, [], ◌∷◌, false, if◌then◌else◌, Option, Some, None, option_map}
-use Rattle.st_types.specs.NameTypes.{Declared}
-use Rattle.st_types.specs.Scopes.{Name, contains_name}
-use Rattle.st_layouts.specs.LayoutVariables.{Owned}
-use Rattle.st_layouts.specs.Shapes.{Parts}
-use Rattle.st_layouts.specs.Standing.{variable_at}
+use Rattle.st_meaning.specs.NameTypes.{Declared}
+use Rattle.st_meaning.specs.Scopes.{Name, contains_name}
+use Rattle.layout.specs.LayoutVariables.{Owned}
+use Rattle.layout.specs.Shapes.{Parts}
+use Rattle.layout.specs.Standing.{variable_at}
 use Rattle.slot_trees.specs.SlotTrees.{own}
 use Rattle.slot_trees.specs.Tables.{Symbol, Part, part_at}
 use Rattle.slot_trees.specs.ProgramTables.{symbol_at}

@@ -1,12 +1,12 @@
 -- The names of a function's body as its declarations tell: each call has values of its own, and so many of them stand
 -- before those of a variable.
 use Rattle.std.specs.Prelude.{ℕ, List, [], ◌∷◌, map, None, option_map}
-use Rattle.st_types.specs.NameTypes.{Declared}
-use Rattle.st_types.specs.Scopes.{Name}
-use Rattle.st_layouts.specs.LayoutVariables.{Owned, owned_variable}
-use Rattle.st_layouts.specs.Standing.{variable_at}
-use Rattle.st_layouts.specs.TextLayouts.{variable_shape}
-use Rattle.st_layouts.specs.Types.{NamedSite}
+use Rattle.st_meaning.specs.NameTypes.{Declared}
+use Rattle.st_meaning.specs.Scopes.{Name}
+use Rattle.layout.specs.LayoutVariables.{Owned, owned_variable}
+use Rattle.layout.specs.Standing.{variable_at}
+use Rattle.layout.specs.TextLayouts.{variable_shape}
+use Rattle.layout.specs.Types.{NamedSite}
 use Rattle.slot_trees.specs.SlotTrees.{own}
 use Rattle.slot_trees.specs.Tables.{Symbol}
 use Rattle.slot_trees.specs.BlockTables.{if_there}

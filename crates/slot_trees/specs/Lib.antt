@@ -19,3 +19,7 @@ pub mod TextLinks
 pub mod Orderly
 pub mod LinkedPrograms
 pub mod TextExample
+pub mod Chains
+pub mod ExpressionViews
+pub mod StatementViews
+pub mod LibraryViews

@@ -1,8 +1,8 @@
 -- Words for worked examples of linked trees.
 use Rattle.std.specs.Prelude.{ℕ, pos, [], ◌∷◌, false, codes}
-use Rattle.st_words.specs.declared.kind.Kind.TheVariants.{Int}
-use Rattle.st_types.specs.Scopes.{Name}
-use Rattle.st_layouts.specs.Shapes.{Shape, plain, array, parts, of_structure, no_parts, part_then}
+use Rattle.st_types.specs.declared.kind.Kind.TheVariants.{Int}
+use Rattle.st_meaning.specs.Scopes.{Name}
+use Rattle.layout.specs.Shapes.{Shape, plain, array, parts, of_structure, no_parts, part_then}
 use Rattle.slot_trees.specs.SlotTrees.{own}
 use Rattle.slot_trees.specs.Tables.{Symbol, Table}
 

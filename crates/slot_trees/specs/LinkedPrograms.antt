@@ -1,10 +1,10 @@
 -- A text with its linked form, and when this has a program.
 use Rattle.std.specs.Prelude.{◌≡◌, ℕ, List, true, Some, slice_get}
-use Rattle.st_trees.specs.Sources.{Source}
-use Rattle.st_types.specs.Runs.{Program}
-use Rattle.st_types.specs.Slots.{Slot}
-use Rattle.st_layouts.specs.LayoutVariables.{declared_of}
-use Rattle.st_layouts.specs.Names.{has_different_names}
+use Rattle.st_types.specs.Sources.{Source}
+use Rattle.st_meaning.specs.Runs.{Program}
+use Rattle.st_meaning.specs.Slots.{Slot}
+use Rattle.layout.specs.LayoutVariables.{declared_of}
+use Rattle.layout.specs.Names.{has_different_names}
 use Rattle.slot_trees.specs.SlotTrees.{SlotStmts}
 use Rattle.slot_trees.specs.LinkedTexts.{IsProgramLink}
 use Rattle.slot_trees.specs.TextLinks.{LinkedText, linked_source}

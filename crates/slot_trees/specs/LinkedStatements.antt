@@ -1,10 +1,10 @@
 -- From statements with names to statements with slots.
 use Rattle.std.specs.Prelude.{ℕ, List, [], ◌∷◌, if◌then◌else◌, Option, Some, None, option_map, option_and_then}
-use Rattle.st_trees.specs.Expressions.{Expr}
-use Rattle.st_trees.specs.Statements as text
-use Rattle.st_trees.specs.Statements.{Argument, Stmt, Stmts, Arms, CaseArms}
-use Rattle.st_types.specs.Scopes.{Name, block_named}
-use Rattle.st_layouts.specs.Shapes.{Shape, plain, array, parts, Parts}
+use Rattle.st_types.specs.Expressions.{Expr}
+use Rattle.st_types.specs.Statements as text
+use Rattle.st_types.specs.Statements.{Argument, Stmt, Stmts, Arms, CaseArms}
+use Rattle.st_meaning.specs.Scopes.{Name, block_named}
+use Rattle.layout.specs.Shapes.{Shape, plain, array, parts, Parts}
 use Rattle.slot_trees.specs.SlotTrees.{Anchor, SlotExpr, BlockCode, SlotArgument, given, copied, SlotStmt, empty}
 use Rattle.slot_trees.specs.SlotTrees.{assign, invoke, IF, CASE, FOR, WHILE, REPEAT, EXIT, RETURN, SlotStmts, no_stmts}
 use Rattle.slot_trees.specs.SlotTrees.{stmt_then, SlotArms, no_arms, arm_then, SlotCaseArms, no_case_arms}

@@ -1,14 +1,14 @@
 -- When the units of a text are linked.
 use Rattle.std.specs.Prelude.{◌≡◌, ℕ, List, [], ◌∷◌, map, true, false, Some, None, slice_get}
-use Rattle.st_words.specs.Values.{Datum}
-use Rattle.st_types.specs.Stores.{Store}
-use Rattle.st_types.specs.Slots.{Slot, IsLayout}
-use Rattle.st_types.specs.StandardBlocks.{StandardBlock, BlockMember, block_of, members_of}
-use Rattle.st_types.specs.Scopes.{Name, Function, Block, Library, of_program, of_call, unowned, path_in}
-use Rattle.st_types.specs.Scopes.{contains_name, block_named, function_in, block_in}
-use Rattle.st_types.specs.Runs.{Program}
-use Rattle.st_layouts.specs.Shapes.{Whole, plain, Parts, no_parts, part_then, parts}
-use Rattle.st_layouts.specs.Standing.{Stands, slot}
+use Rattle.st_types.specs.Values.{Datum}
+use Rattle.st_meaning.specs.Stores.{Store}
+use Rattle.st_meaning.specs.Slots.{Slot, IsLayout}
+use Rattle.st_meaning.specs.StandardBlocks.{StandardBlock, BlockMember, block_of, members_of}
+use Rattle.st_meaning.specs.Scopes.{Name, Function, Block, Library, of_program, of_call, unowned, path_in}
+use Rattle.st_meaning.specs.Scopes.{contains_name, block_named, function_in, block_in}
+use Rattle.st_meaning.specs.Runs.{Program}
+use Rattle.layout.specs.Shapes.{Whole, plain, Parts, no_parts, part_then, parts}
+use Rattle.layout.specs.Standing.{Stands, slot}
 use Rattle.slot_trees.specs.SlotTrees.{own, absolute, BlockCode, own_block, standard_block, SlotStmts, SlotFunction}
 use Rattle.slot_trees.specs.SlotTrees.{SlotLibrary}
 use Rattle.slot_trees.specs.SlotEvaluation.{slot_at}

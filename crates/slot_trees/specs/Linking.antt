@@ -1,12 +1,12 @@
 -- From expressions with names to expressions with slots. None stands where a name is not there, or where it does not
 -- lead to an elementary variable.
 use Rattle.std.specs.Prelude.{ℕ, ◌+◌, ◌*◌, nat_lt, ℤ, if◌then◌else◌, Option, Some, None, option_map, option_and_then}
-use Rattle.st_trees.specs.Expressions as named
-use Rattle.st_trees.specs.Expressions.{Expr, literal, read, parenthesis, Exprs, Variable, variable, member, subscript}
-use Rattle.st_trees.specs.Expressions.{Selectors, no_selectors, selector_then}
-use Rattle.st_types.specs.StandardFunctions.{Standard, standard_of}
-use Rattle.st_types.specs.Scopes.{Name}
-use Rattle.st_layouts.specs.Shapes.{Shape, plain, array, parts, size}
+use Rattle.st_types.specs.Expressions as named
+use Rattle.st_types.specs.Expressions.{Expr, literal, read, parenthesis, Exprs, Variable, variable, member, subscript}
+use Rattle.st_types.specs.Expressions.{Selectors, no_selectors, selector_then}
+use Rattle.st_meaning.specs.StandardFunctions.{Standard, standard_of}
+use Rattle.st_meaning.specs.Scopes.{Name}
+use Rattle.layout.specs.Shapes.{Shape, plain, array, parts, size}
 use Rattle.slot_trees.specs.SlotTrees.{Anchor, SlotExpr, constant, load, compute, call, unary, binary, SlotExprs}
 use Rattle.slot_trees.specs.SlotTrees.{no_exprs, expr_then, Place, place, Subscripts, no_subscripts, subscript_then}
 use Rattle.slot_trees.specs.Tables.{Symbol, Table, symbol_of, named_in, moved, part_at}

@@ -2,12 +2,12 @@
 -- of its externals, and the type of none is too deep.
 use Rattle.std.specs.Prelude.{List, Bool, not, ◌&&◌}
 use Rattle.std.specs.List.{list_all}
-use Rattle.st_trees.specs.Units.{OrganisationUnit}
-use Rattle.st_types.specs.Bodies.{externals_in}
-use Rattle.st_types.specs.NameTypes.{Declared}
-use Rattle.st_types.specs.Scopes.{Name, contains_name}
-use Rattle.st_statics.specs.declared.limits.TheConstants.{MAX_TYPE_DEPTH}
-use Rattle.st_layouts.specs.Types.{NamedSite, sites_of_blocks, is_within_depth}
+use Rattle.st_types.specs.Units.{OrganisationUnit}
+use Rattle.st_meaning.specs.Bodies.{externals_in}
+use Rattle.st_meaning.specs.NameTypes.{Declared}
+use Rattle.st_meaning.specs.Scopes.{Name, contains_name}
+use Rattle.st_rules.specs.declared.limits.TheConstants.{MAX_TYPE_DEPTH}
+use Rattle.layout.specs.Types.{NamedSite, sites_of_blocks, is_within_depth}
 
 abbrev pub is_orderly : Declared → List Name → NamedSite → Bool
 is_orderly text externals d =

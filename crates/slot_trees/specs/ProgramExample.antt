@@ -1,32 +1,32 @@
 -- A worked example: a program of elements, a loop, a timer and a global, with the slots that it is linked to.
 use Rattle.std.specs.Prelude.{ℕ, pos, List, [], ◌∷◌, map, false, None, Some, codes}
-use Rattle.st_words.specs.declared.kind.Kind.TheVariants.{Int, Time, Bool as Boolean}
-use Rattle.st_words.specs.declared.literal.Literal.TheVariants as literals
-use Rattle.st_words.specs.declared.operator.BinaryOperator.TheVariants.{Add}
-use Rattle.st_words.specs.Values.{Datum}
-use Rattle.st_trees.specs.declared.data_type.SimpleType.TheVariants.{Elementary}
-use Rattle.st_trees.specs.declared.declaration.Section.TheVariants as sections
-use Rattle.st_trees.specs.declared.unit.UnitSort.TheVariants as sorts
-use Rattle.st_trees.specs.Expressions as named
-use Rattle.st_trees.specs.Expressions.{literal}
-use Rattle.st_trees.specs.Statements as text
-use Rattle.st_trees.specs.Statements.{stmts_of}
-use Rattle.st_trees.specs.Units.{OrganisationUnit}
-use Rattle.st_types.specs.CallExamples.{indexed, giving, invoked, T}
-use Rattle.st_types.specs.Examples.{identifier, declared, name, number, set, owner, A, I}
-use Rattle.st_types.specs.NameTypes.{Declared}
-use Rattle.st_types.specs.ResolutionExamples.{of_type}
-use Rattle.st_types.specs.Runs.{Program}
-use Rattle.st_types.specs.Scopes.{Name}
-use Rattle.st_types.specs.Slots.{Slot}
-use Rattle.st_types.specs.StandardBlocks.{TON, members_of}
-use Rattle.st_layouts.specs.LayoutExamples.{array_of, plain, without_initial, variables_in, unit_with, datum, int}
-use Rattle.st_layouts.specs.LayoutVariables.{Owned, owned_variable}
-use Rattle.st_layouts.specs.Libraries.{program_of_unit}
-use Rattle.st_layouts.specs.Shapes as shapes
-use Rattle.st_layouts.specs.Shapes.{array, parts, of_instance, Parts}
-use Rattle.st_layouts.specs.TextLayouts.{slots_of}
-use Rattle.st_layouts.specs.Types.{sites_of_blocks}
+use Rattle.st_types.specs.declared.kind.Kind.TheVariants.{Int, Time, Bool as Boolean}
+use Rattle.st_types.specs.declared.literal.Literal.TheVariants as literals
+use Rattle.st_types.specs.declared.operator.BinaryOperator.TheVariants.{Add}
+use Rattle.st_types.specs.Values.{Datum}
+use Rattle.st_types.specs.declared.data_type.SimpleType.TheVariants.{Elementary}
+use Rattle.st_types.specs.declared.declaration.Section.TheVariants as sections
+use Rattle.st_types.specs.declared.unit.UnitSort.TheVariants as sorts
+use Rattle.st_types.specs.Expressions as named
+use Rattle.st_types.specs.Expressions.{literal}
+use Rattle.st_types.specs.Statements as text
+use Rattle.st_types.specs.Statements.{stmts_of}
+use Rattle.st_types.specs.Units.{OrganisationUnit}
+use Rattle.st_meaning.specs.CallExamples.{indexed, giving, invoked, T}
+use Rattle.st_meaning.specs.ProgramExamples.{identifier, declared, name, number, set, owner, A, I}
+use Rattle.st_meaning.specs.NameTypes.{Declared}
+use Rattle.st_meaning.specs.ResolutionExamples.{of_type}
+use Rattle.st_meaning.specs.Runs.{Program}
+use Rattle.st_meaning.specs.Scopes.{Name}
+use Rattle.st_meaning.specs.Slots.{Slot}
+use Rattle.st_meaning.specs.StandardBlocks.{TON, members_of}
+use Rattle.layout.specs.LayoutExamples.{array_of, plain, without_initial, variables_in, unit_with, datum, int}
+use Rattle.layout.specs.LayoutVariables.{Owned, owned_variable}
+use Rattle.layout.specs.Libraries.{program_of_unit}
+use Rattle.layout.specs.Shapes as shapes
+use Rattle.layout.specs.Shapes.{array, parts, of_instance, Parts}
+use Rattle.layout.specs.TextLayouts.{slots_of}
+use Rattle.layout.specs.Types.{sites_of_blocks}
 use Rattle.slot_trees.specs.SlotTrees.{absolute, SlotExpr, constant, load, binary, place, Place, no_subscripts}
 use Rattle.slot_trees.specs.SlotTrees.{subscript_then, standard_block, given, assign, invoke, FOR, SlotStmts}
 use Rattle.slot_trees.specs.SlotTrees.{no_stmts, stmt_then, SlotLibrary}

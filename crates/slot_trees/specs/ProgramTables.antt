@@ -1,12 +1,12 @@
 -- The names of a program's instance as its declarations tell: each stands at slots of the whole layout.
 use Rattle.std.specs.Prelude.{ℕ, List, [], ◌∷◌, if◌then◌else◌, Option, Some, None}
-use Rattle.st_words.specs.declared.path.Owner.{Owner}
-use Rattle.st_types.specs.NameTypes.{Declared}
-use Rattle.st_types.specs.Runs.{Program}
-use Rattle.st_types.specs.Scopes.{Name, contains_name}
-use Rattle.st_layouts.specs.LayoutVariables.{Owned}
-use Rattle.st_layouts.specs.Standing.{variable_at}
-use Rattle.st_layouts.specs.TextLayouts.{variable_shape}
+use Rattle.st_types.specs.declared.path.Owner.{Owner}
+use Rattle.st_meaning.specs.NameTypes.{Declared}
+use Rattle.st_meaning.specs.Runs.{Program}
+use Rattle.st_meaning.specs.Scopes.{Name, contains_name}
+use Rattle.layout.specs.LayoutVariables.{Owned}
+use Rattle.layout.specs.Standing.{variable_at}
+use Rattle.layout.specs.TextLayouts.{variable_shape}
 use Rattle.slot_trees.specs.SlotTrees.{absolute}
 use Rattle.slot_trees.specs.Tables.{Symbol}
 

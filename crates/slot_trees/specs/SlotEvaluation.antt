@@ -1,14 +1,14 @@
 -- The value of an expression over slots. All operands are evaluated, the left before the right.
 -- F3 is a subscript out of bounds.
 use Rattle.std.specs.Prelude.{ℕ, ◌+◌, ◌*◌, List, [], ◌∷◌, Bool, if◌then◌else◌, slice_get}
-use Rattle.st_words.specs.declared.fault.Fault.TheVariants.{Index}
-use Rattle.st_words.specs.Values.{Datum}
-use Rattle.st_types.specs.Failures.{StandIns, valueless, or_failure, failing}
-use Rattle.st_types.specs.Ticks.{Run, ◌>>=◌, give, fault, attempt}
-use Rattle.st_types.specs.Operators.{value_of_literal, apply, apply_unary, truth}
-use Rattle.st_types.specs.StandardFunctions.{standard_value}
-use Rattle.st_types.specs.Evaluation.{known}
-use Rattle.st_layouts.specs.Shapes.{in_bounds, distance}
+use Rattle.st_types.specs.declared.fault.Fault.TheVariants.{Index}
+use Rattle.st_types.specs.Values.{Datum}
+use Rattle.st_meaning.specs.Failures.{StandIns, valueless, or_failure, failing}
+use Rattle.st_meaning.specs.Ticks.{Run, ◌>>=◌, give, fault, attempt}
+use Rattle.st_meaning.specs.Operators.{value_of_literal, apply, apply_unary, truth}
+use Rattle.st_meaning.specs.StandardFunctions.{standard_value}
+use Rattle.st_meaning.specs.Evaluation.{known}
+use Rattle.layout.specs.Shapes.{in_bounds, distance}
 use Rattle.slot_trees.specs.SlotTrees.{Anchor, own, absolute, SlotExpr, constant, load, compute, call, unary, binary}
 use Rattle.slot_trees.specs.SlotTrees.{SlotExprs, no_exprs, expr_then, Place, place, Subscripts, no_subscripts}
 use Rattle.slot_trees.specs.SlotTrees.{subscript_then, BlockCode}

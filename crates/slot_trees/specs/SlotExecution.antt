@@ -2,13 +2,13 @@
 use Rattle.std.specs.Prelude.{ℕ, ◌+◌, ℤ, pos, int_lt, int_le, List, [], ◌∷◌, Bool, if◌then◌else◌, Option, Some, None}
 use Rattle.std.specs.Prelude.{slice_get, slice_set, Result, Ok, Err}
 use Rattle.std.specs.List.{list_any}
-use Rattle.st_words.specs.Values.{Datum}
-use Rattle.st_types.specs.Failures.{Failure, StandIns, ill_typed, or_failure}
-use Rattle.st_types.specs.Stores.{may_replace}
-use Rattle.st_types.specs.Ticks.{Run, ◌>>=◌, ◌>>◌, give, attempt, proceed, tick}
-use Rattle.st_types.specs.Loops.{EndOf, goes_on, exits, returns, behind, looped, guarded, until, stepped_on, no_step}
-use Rattle.st_types.specs.Loops.{nonzero}
-use Rattle.st_types.specs.Execution.{label_holds}
+use Rattle.st_types.specs.Values.{Datum}
+use Rattle.st_meaning.specs.Failures.{Failure, StandIns, ill_typed, or_failure}
+use Rattle.st_meaning.specs.Stores.{may_replace}
+use Rattle.st_meaning.specs.Ticks.{Run, ◌>>=◌, ◌>>◌, give, attempt, proceed, tick}
+use Rattle.st_meaning.specs.Loops.{EndOf, goes_on, exits, returns, behind, looped, guarded, until, stepped_on, no_step}
+use Rattle.st_meaning.specs.Loops.{nonzero}
+use Rattle.st_meaning.specs.Execution.{label_holds}
 use Rattle.slot_trees.specs.SlotTrees.{SlotExpr, Place, BlockCode, SlotArgument, given, copied, SlotStmt, empty, assign}
 use Rattle.slot_trees.specs.SlotTrees.{invoke, IF, CASE, FOR, WHILE, REPEAT, EXIT, RETURN, SlotStmts, no_stmts}
 use Rattle.slot_trees.specs.SlotTrees.{stmt_then, SlotArms, no_arms, arm_then, SlotCaseArms, no_case_arms}

@@ -1,15 +1,15 @@
 -- What a run of a program over slots gives.
 use Rattle.std.specs.Prelude.{ℕ, zero, suc, List, [], ◌∷◌, Option, Some, option_map, option_and_then, slice_get}
 use Rattle.std.specs.Prelude.{Result, Ok, Err}
-use Rattle.st_words.specs.declared.fault.Fault.{Fault}
-use Rattle.st_words.specs.declared.fault.Fault.TheVariants.{Budget}
-use Rattle.st_words.specs.Values.{Datum}
-use Rattle.st_types.specs.declared.outcome.Outcome.{Outcome}
-use Rattle.st_types.specs.declared.outcome.Outcome.TheVariants.{Done, Faulted}
-use Rattle.st_types.specs.Failures.{Failure, StandIns, ill_typed, or_failure}
-use Rattle.st_types.specs.Ticks.{Run, ◌>>=◌, give, fault, attempt, proceed}
-use Rattle.st_types.specs.StandardBlocks.{StandardBlock, BlockMember, members_of, stepped}
-use Rattle.st_types.specs.Loops.{EndOf, goes_on, exits, returns}
+use Rattle.st_types.specs.declared.fault.Fault.{Fault}
+use Rattle.st_types.specs.declared.fault.Fault.TheVariants.{Budget}
+use Rattle.st_types.specs.Values.{Datum}
+use Rattle.st_meaning.specs.declared.outcome.Outcome.{Outcome}
+use Rattle.st_meaning.specs.declared.outcome.Outcome.TheVariants.{Done, Faulted}
+use Rattle.st_meaning.specs.Failures.{Failure, StandIns, ill_typed, or_failure}
+use Rattle.st_meaning.specs.Ticks.{Run, ◌>>=◌, give, fault, attempt, proceed}
+use Rattle.st_meaning.specs.StandardBlocks.{StandardBlock, BlockMember, members_of, stepped}
+use Rattle.st_meaning.specs.Loops.{EndOf, goes_on, exits, returns}
 use Rattle.slot_trees.specs.SlotTrees.{BlockCode, own_block, standard_block, SlotStmts, SlotFunction, SlotLibrary}
 use Rattle.slot_trees.specs.SlotEvaluation.{SlotUnits}
 use Rattle.slot_trees.specs.SlotExecution.{Slots, SlotEnd, stored_at, slot_exec_all}

@@ -1,12 +1,12 @@
 -- Programs whose names are slots, as trees.
 use Rattle.std.specs.Prelude.{ℕ, ℤ, List, Option}
-use Rattle.st_words.specs.declared.literal.Literal.{Literal}
-use Rattle.st_words.specs.declared.operator.UnaryOperator.{UnaryOperator}
-use Rattle.st_words.specs.declared.operator.BinaryOperator.{BinaryOperator}
-use Rattle.st_words.specs.Values.{Datum}
-use Rattle.st_trees.specs.declared.statement.Label.{Label}
-use Rattle.st_types.specs.StandardFunctions.{Standard}
-use Rattle.st_types.specs.StandardBlocks.{StandardBlock}
+use Rattle.st_types.specs.declared.literal.Literal.{Literal}
+use Rattle.st_types.specs.declared.operator.UnaryOperator.{UnaryOperator}
+use Rattle.st_types.specs.declared.operator.BinaryOperator.{BinaryOperator}
+use Rattle.st_types.specs.Values.{Datum}
+use Rattle.st_types.specs.declared.statement.Label.{Label}
+use Rattle.st_meaning.specs.StandardFunctions.{Standard}
+use Rattle.st_meaning.specs.StandardBlocks.{StandardBlock}
 
 -- a slot: so many behind the first one of the unit's own variables, or one of the whole layout
 pub data Anchor : Type 0 where

@@ -1,7 +1,7 @@
 -- Tables of names: what a body's names stand for.
 use Rattle.std.specs.Prelude.{ℕ, ◌+◌, List, [], ◌∷◌, Bool, if◌then◌else◌, Option, Some, None, option_map, bytes_eq}
-use Rattle.st_types.specs.Scopes.{Name}
-use Rattle.st_layouts.specs.Shapes.{Shape, size, Parts, no_parts, part_then}
+use Rattle.st_meaning.specs.Scopes.{Name}
+use Rattle.layout.specs.Shapes.{Shape, size, Parts, no_parts, part_then}
 use Rattle.slot_trees.specs.SlotTrees.{Anchor, own, absolute, BlockCode}
 
 -- a variable: where it begins, whether it is an input of the plant, and what it is made of

@@ -1,13 +1,13 @@
 -- A worked example: the text of calls, with functions, blocks in a block and externals, and what it is linked to.
 use Rattle.std.specs.Prelude.{ℕ, pos, List, [], ◌∷◌, ◌++◌, map, Option, option_map, option_and_then, slice_get}
-use Rattle.st_words.specs.declared.kind.Kind.TheVariants.{Dint, Time, Bool as Boolean}
-use Rattle.st_words.specs.declared.operator.BinaryOperator.TheVariants.{Add}
-use Rattle.st_words.specs.Values.{Datum}
-use Rattle.st_trees.specs.Sources.{Source}
-use Rattle.st_types.specs.Examples.{number}
-use Rattle.st_types.specs.Failures.{in_runs}
-use Rattle.st_layouts.specs.InitialExamples.{mode}
-use Rattle.st_layouts.specs.LayoutExamples.{datum, int}
+use Rattle.st_types.specs.declared.kind.Kind.TheVariants.{Dint, Time, Bool as Boolean}
+use Rattle.st_types.specs.declared.operator.BinaryOperator.TheVariants.{Add}
+use Rattle.st_types.specs.Values.{Datum}
+use Rattle.st_types.specs.Sources.{Source}
+use Rattle.st_meaning.specs.ProgramExamples.{number}
+use Rattle.st_meaning.specs.Failures.{in_runs}
+use Rattle.layout.specs.InitialExamples.{mode}
+use Rattle.layout.specs.LayoutExamples.{datum, int}
 use Rattle.slot_trees.specs.SlotTrees.{Anchor, own, absolute, SlotExpr, load, call, binary, no_exprs, expr_then, Place}
 use Rattle.slot_trees.specs.SlotTrees.{place}
 use Rattle.slot_trees.specs.SlotTrees.{no_subscripts, own_block, given, copied, SlotStmt, assign, invoke, SlotStmts}

@@ -1,22 +1,22 @@
 -- The linked form of a whole text: its functions and blocks once each, and the body of each program's instance. None
 -- stands where a body is not linked.
 use Rattle.std.specs.Prelude.{ℕ, List, [], ◌∷◌, ◌++◌, Option, Some, None, option_map, option_and_then}
-use Rattle.st_words.specs.declared.path.Owner.{Owner}
-use Rattle.st_trees.specs.declared.configuration.Instance.{Instance}
-use Rattle.st_trees.specs.declared.data_type.SimpleType.{SimpleType}
-use Rattle.st_trees.specs.declared.unit.UnitSort.{UnitSort}
-use Rattle.st_trees.specs.declared.unit.UnitSort.TheVariants as units
-use Rattle.st_trees.specs.Configurations.{Resource, Configuration}
-use Rattle.st_trees.specs.Declarations.{VariableBlock}
-use Rattle.st_trees.specs.Sources.{Source}
-use Rattle.st_trees.specs.Statements.{Stmts, stmts_of}
-use Rattle.st_trees.specs.Units.{OrganisationUnit}
-use Rattle.st_types.specs.Bodies.{declared_names, externals_in}
-use Rattle.st_types.specs.NameTypes.{Declared, unit_named}
-use Rattle.st_types.specs.Scopes.{Name, Body}
-use Rattle.st_layouts.specs.LayoutVariables.{Owned, owner_in, declared_of, layout_variables, configuration_of}
-use Rattle.st_layouts.specs.Libraries.{result_site, input_names, fresh_values, body_of_unit, program_of_unit}
-use Rattle.st_layouts.specs.Types.{NamedSite, sites_of_blocks}
+use Rattle.st_types.specs.declared.path.Owner.{Owner}
+use Rattle.st_types.specs.declared.configuration.Instance.{Instance}
+use Rattle.st_types.specs.declared.data_type.SimpleType.{SimpleType}
+use Rattle.st_types.specs.declared.unit.UnitSort.{UnitSort}
+use Rattle.st_types.specs.declared.unit.UnitSort.TheVariants as units
+use Rattle.st_types.specs.Configurations.{Resource, Configuration}
+use Rattle.st_types.specs.Declarations.{VariableBlock}
+use Rattle.st_types.specs.Sources.{Source}
+use Rattle.st_types.specs.Statements.{Stmts, stmts_of}
+use Rattle.st_types.specs.Units.{OrganisationUnit}
+use Rattle.st_meaning.specs.Bodies.{declared_names, externals_in}
+use Rattle.st_meaning.specs.NameTypes.{Declared, unit_named}
+use Rattle.st_meaning.specs.Scopes.{Name, Body}
+use Rattle.layout.specs.LayoutVariables.{Owned, owner_in, declared_of, layout_variables, configuration_of}
+use Rattle.layout.specs.Libraries.{result_site, input_names, fresh_values, body_of_unit, program_of_unit}
+use Rattle.layout.specs.Types.{NamedSite, sites_of_blocks}
 use Rattle.slot_trees.specs.SlotTrees.{SlotStmts, SlotFunction, SlotLibrary}
 use Rattle.slot_trees.specs.SlotEvaluation.{slot_at}
 use Rattle.slot_trees.specs.Tables.{Symbol, symbol_of}

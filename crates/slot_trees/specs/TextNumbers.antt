@@ -1,14 +1,14 @@
 -- The numbers of a text's functions and blocks: their positions among those that the text declares.
 use Rattle.std.specs.Prelude.{ℕ, suc, List, [], ◌∷◌, ◌++◌, map, codes, Option, Some, None, option_map}
-use Rattle.st_trees.specs.declared.unit.UnitSort.{UnitSort}
-use Rattle.st_trees.specs.declared.unit.UnitSort.TheVariants as units
-use Rattle.st_trees.specs.Units.{OrganisationUnit}
-use Rattle.st_types.specs.NameTypes.{Declared}
-use Rattle.st_types.specs.Scopes.{Name}
-use Rattle.st_types.specs.StandardBlocks.{StandardBlock, members_of, SR, RS, R_TRIG, F_TRIG, CTU, CTD, CTUD, TON, TOF}
-use Rattle.st_types.specs.StandardBlocks.{TP}
-use Rattle.st_layouts.specs.Shapes.{Parts}
-use Rattle.st_layouts.specs.Types.{shape_of_type, parts_of, sites_of_blocks}
+use Rattle.st_types.specs.declared.unit.UnitSort.{UnitSort}
+use Rattle.st_types.specs.declared.unit.UnitSort.TheVariants as units
+use Rattle.st_types.specs.Units.{OrganisationUnit}
+use Rattle.st_meaning.specs.NameTypes.{Declared}
+use Rattle.st_meaning.specs.Scopes.{Name}
+use Rattle.st_meaning.specs.StandardBlocks.{StandardBlock, members_of, SR, RS, R_TRIG, F_TRIG, CTU, CTD, CTUD, TON, TOF}
+use Rattle.st_meaning.specs.StandardBlocks.{TP}
+use Rattle.layout.specs.Shapes.{Parts}
+use Rattle.layout.specs.Types.{shape_of_type, parts_of, sites_of_blocks}
 use Rattle.slot_trees.specs.SlotTrees.{BlockCode, own_block, standard_block}
 use Rattle.slot_trees.specs.Tables.{named_in}
 use Rattle.slot_trees.specs.LinkedTexts.{Numbers, parts_of_members}

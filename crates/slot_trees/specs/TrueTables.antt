@@ -1,10 +1,10 @@
 -- When a table says the truth of a body: where its names stand, and what its calls do.
 use Rattle.std.specs.Prelude.{◌≡◌, ℕ, List, Some}
-use Rattle.st_words.specs.Values.{Datum}
-use Rattle.st_types.specs.Stores.{Store}
-use Rattle.st_types.specs.Slots.{Slot}
-use Rattle.st_types.specs.Scopes.{Name, Scope, path_in, block_named}
-use Rattle.st_layouts.specs.Standing.{Stands}
+use Rattle.st_types.specs.Values.{Datum}
+use Rattle.st_meaning.specs.Stores.{Store}
+use Rattle.st_meaning.specs.Slots.{Slot}
+use Rattle.st_meaning.specs.Scopes.{Name, Scope, path_in, block_named}
+use Rattle.layout.specs.Standing.{Stands}
 use Rattle.slot_trees.specs.SlotTrees.{BlockCode}
 use Rattle.slot_trees.specs.SlotEvaluation.{SlotScope, slot_at}
 use Rattle.slot_trees.specs.Tables.{Symbol, Table, symbol_of, named_in}

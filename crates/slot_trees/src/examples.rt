@@ -1,14 +1,14 @@
 //! Worked examples of linked trees, each proved by computation.
 
 ghost use Rattle.std.specs.Prelude.{◌≡◌, ◌∷◌, [], Some, None, pos, codes, length, Ok, Err};
-ghost use Rattle.st_words.specs.declared.fault.Fault.{Fault};
-ghost use Rattle.st_trees.specs.Expressions.{read, variable, member, subscript, selectors_of};
-ghost use Rattle.st_types.specs.Examples.{identifier, target, name};
-ghost use Rattle.st_types.specs.Failures.{in_runs};
-ghost use Rattle.st_types.specs.Loops.{goes_on};
-ghost use Rattle.st_layouts.specs.Libraries.{programs_of_text};
-ghost use Rattle.st_layouts.specs.LibraryExamples.{text_of_calls};
-ghost use Rattle.st_layouts.specs.PartExamples.{text_of_parts};
+ghost use Rattle.st_types.specs.declared.fault.Fault.{Fault};
+ghost use Rattle.st_types.specs.Expressions.{read, variable, member, subscript, selectors_of};
+ghost use Rattle.st_meaning.specs.ProgramExamples.{identifier, target, name};
+ghost use Rattle.st_meaning.specs.Failures.{in_runs};
+ghost use Rattle.st_meaning.specs.Loops.{goes_on};
+ghost use Rattle.layout.specs.Libraries.{programs_of_text};
+ghost use Rattle.layout.specs.LibraryExamples.{text_of_calls};
+ghost use Rattle.layout.specs.PartExamples.{text_of_parts};
 ghost use Rattle.slot_trees.specs.LinkedPrograms.{IsLinkOf};
 ghost use Rattle.slot_trees.specs.LinkedTexts.{IsProgramLink};
 ghost use Rattle.slot_trees.specs.TextExample.{its_library, its_link, main_code, its_values, instance_values};

@@ -1,3 +1,5 @@
 mod ProgressLemmas
 mod ReportLemmas
 mod SettleLemmas
+pub mod FindingLemmas
+mod CodeLemmas

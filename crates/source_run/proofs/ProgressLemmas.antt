@@ -1,20 +1,20 @@
 -- How a life goes on.
 use Rattle.std.proofs.Common.{◌≡◌, ◌∙◌, ap, sym, refl, subst, ℕ, List, ◌++◌, Some, None}
-use Rattle.st_plans.specs.Rows.{Latch}
-use Rattle.st_plans.specs.Logs.{past_of, IsLegal}
-use Rattle.config.specs.declared.plan.Plan.{Plan}
-use Rattle.config.specs.PlanViews.{plan_view}
+use Rattle.st_types.specs.Rows.{Latch}
+use Rattle.st_meaning.specs.Logs.{past_of, IsLegal}
+use Rattle.plan.specs.declared.plan.Plan.{Plan}
+use Rattle.plan.specs.PlanViews.{plan_view}
 use Rattle.serial_core.specs.Steps.{State, made}
-use Rattle.commit_lock.specs.Starting.{IsNew}
-use Rattle.commit_lock.specs.Starting.{started}
-use Rattle.commit_lock.specs.Restart.{begun, warm}
-use Rattle.kept_lines.specs.Told.{told}
-use Rattle.commit_lock.specs.declared.starting.StartMode.TheVariants as modes
+use Rattle.durable_core.specs.Starting.{IsNew}
+use Rattle.durable_core.specs.Starting.{started}
+use Rattle.durable_core.specs.Restart.{begun, warm}
+use Rattle.retain_records.specs.Told.{told}
+use Rattle.durable_core.specs.declared.starting.StartMode.TheVariants as modes
 use Rattle.run_lock.specs.Lives.{life_of}
-use Rattle.retain_areas.specs.Recovered.{Recovered, TooLong, Refused, Nothing, Found}
-use Rattle.st_plans.specs.Restarts.{warm_start}
-use Rattle.plant_jobs.specs.declared.job.Start.{Start}
-use Rattle.plant_jobs.specs.declared.job.Start.TheVariants.{Warm, Cold}
+use Rattle.retain_store.specs.Recovered.{Recovered, TooLong, Refused, Nothing, Found}
+use Rattle.st_meaning.specs.Restarts.{warm_start}
+use Rattle.source_run.specs.declared.job.Start.{Start}
+use Rattle.source_run.specs.declared.job.Start.TheVariants.{Warm, Cold}
 use Rattle.source_run.specs.Progress.{GoesOn, BeginsAs, IsRunOf, mode_of}
 
 -- a life that is the same but for its log, and has these rows more

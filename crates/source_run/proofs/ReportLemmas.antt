@@ -2,9 +2,9 @@
 use Rattle.std.proofs.Common.{◌≡◌, ◌∙◌, ap, sym, subst, ℕ, zero, suc, List, [], ◌∷◌, ◌++◌, length, drop, min, arith}
 use Rattle.std.proofs.Common.{Option, append-nil}
 use Rattle.std.specs.Io.KnownBytes.{Appends}
-use Rattle.st_words.specs.Values.{Datum}
-use Rattle.st_plans.specs.declared.plan.PlanVariable.{PlanVariable}
-use Rattle.st_plans.specs.Layouts.{Enumerations}
+use Rattle.st_types.specs.Values.{Datum}
+use Rattle.st_meaning.specs.declared.plan.PlanVariable.{PlanVariable}
+use Rattle.st_meaning.specs.Layouts.{Enumerations}
 use Rattle.source_run.specs.Reports.{variables_text}
 
 -- no line is left where the shorter list ends

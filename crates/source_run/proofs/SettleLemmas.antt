@@ -1,16 +1,16 @@
 -- When a life has nothing left to do.
 use Rattle.std.proofs.Common.{◌≡◌, subst, ℕ, List, ◌++◌, Result, Ok, Err, OnOk, IfOk, Some}
 use Rattle.serial_core.specs.Steps.{State, made}
-use Rattle.commit_lock.specs.Cores.{CoreView}
-use Rattle.config.specs.declared.plan.Plan.{Plan}
-use Rattle.st_plans.specs.Rows.{Latch}
+use Rattle.durable_core.specs.Cores.{CoreView}
+use Rattle.plan.specs.declared.plan.Plan.{Plan}
+use Rattle.st_types.specs.Rows.{Latch}
 use Rattle.image.specs.Plants.{AreRowsOf}
-use Rattle.commit_lock.specs.Starting.{IsNew}
+use Rattle.durable_core.specs.Starting.{IsNew}
 use Rattle.source_run.specs.Lives.{IsReport, start_of}
 use Rattle.source_run.specs.Runs.{IsReportOf}
-use Rattle.st_plans.specs.Logs.{IsLegal}
-use Rattle.config.specs.PlanViews.{plan_view}
-use Rattle.plant_jobs.specs.declared.job.Start.{Start}
+use Rattle.st_meaning.specs.Logs.{IsLegal}
+use Rattle.plan.specs.PlanViews.{plan_view}
+use Rattle.source_run.specs.declared.job.Start.{Start}
 use Rattle.source_run.specs.Progress.{BeginsAs, IsRunOf}
 use Rattle.run_lock.specs.Lives.{life_of}
 use Rattle.source_run.proofs.ProgressLemmas.{goes_by_run, run_of}

@@ -1,3 +1,4 @@
+pub mod Jobs
 pub mod Lives
 pub mod Progress
 pub mod Reports
@@ -5,3 +6,8 @@ pub mod Runs
 pub mod Settling
 pub mod Sources
 pub mod Statuses
+pub mod ToldCodes
+pub mod Spelling
+pub mod Codes
+pub mod Causes
+pub mod Lines

@@ -1,13 +1,13 @@
 -- What is told of a life.
 use Rattle.std.specs.Prelude.{◌≡◌, ℕ, List, map, Option, None}
 use Rattle.std.specs.Vec.{vec_items}
-use Rattle.st_words.specs.Values.{Datum}
-use Rattle.st_plans.specs.Logs.{Log}
-use Rattle.st_plans.specs.Restarts.{Start}
-use Rattle.config.specs.declared.plan.Plan.{Plan}
+use Rattle.st_types.specs.Values.{Datum}
+use Rattle.st_meaning.specs.Logs.{Log}
+use Rattle.st_meaning.specs.Restarts.{Start}
+use Rattle.plan.specs.declared.plan.Plan.{Plan}
 use Rattle.serial_core.specs.Steps.{State}
-use Rattle.traces.specs.declared.findings.Replayed.{Replayed}
-use Rattle.traces.specs.Replays.{AreFindings}
+use Rattle.commit_lock.specs.declared.findings.Replayed.{Replayed}
+use Rattle.commit_lock.specs.Replays.{AreFindings}
 use Rattle.source_run.specs.declared.report.Counts.{Counts}
 use Rattle.source_run.specs.Reports.{report_text}
 

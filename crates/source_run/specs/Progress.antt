@@ -1,14 +1,14 @@
 -- How a life goes on, and of what it is the run.
 use Rattle.std.specs.Prelude.{◌≡◌, ◌++◌, List, Option, None}
-use Rattle.st_plans.specs.Rows.{Latch}
-use Rattle.st_plans.specs.Logs.{IsLegal}
-use Rattle.st_plans.specs.Restarts.{Kept, warm_start}
-use Rattle.config.specs.declared.plan.Plan.{Plan}
-use Rattle.config.specs.PlanViews.{plan_view}
-use Rattle.commit_lock.specs.declared.starting.StartMode.{StartMode}
-use Rattle.commit_lock.specs.declared.starting.StartMode.TheVariants as modes
-use Rattle.plant_jobs.specs.declared.job.Start.{Start}
-use Rattle.plant_jobs.specs.declared.job.Start.TheVariants.{Warm, Cold}
+use Rattle.st_types.specs.Rows.{Latch}
+use Rattle.st_meaning.specs.Logs.{IsLegal}
+use Rattle.st_meaning.specs.Restarts.{Kept, warm_start}
+use Rattle.plan.specs.declared.plan.Plan.{Plan}
+use Rattle.plan.specs.PlanViews.{plan_view}
+use Rattle.durable_core.specs.declared.starting.StartMode.{StartMode}
+use Rattle.durable_core.specs.declared.starting.StartMode.TheVariants as modes
+use Rattle.source_run.specs.declared.job.Start.{Start}
+use Rattle.source_run.specs.declared.job.Start.TheVariants.{Warm, Cold}
 use Rattle.serial_core.specs.Steps.{State, made}
 
 -- the start that the words ask for

@@ -1,10 +1,10 @@
 -- The report of a run.
 use Rattle.std.specs.Prelude.{ℕ, List, [], ◌∷◌, ◌++◌, Option, Some, None, codes}
 use Rattle.std.specs.Fmt.{decimal}
-use Rattle.st_words.specs.Values.{Datum}
-use Rattle.st_words.specs.Paths.{Path}
-use Rattle.st_plans.specs.Layouts.{Enumerations, path_text}
-use Rattle.st_plans.specs.declared.plan.PlanVariable.{PlanVariable}
+use Rattle.st_types.specs.Values.{Datum}
+use Rattle.st_types.specs.Paths.{Path}
+use Rattle.st_meaning.specs.Layouts.{Enumerations, path_text}
+use Rattle.st_meaning.specs.declared.plan.PlanVariable.{PlanVariable}
 use Rattle.st_print.specs.Spelling.{value_text}
 use Rattle.source_run.specs.declared.report.Counts.{Counts}
 

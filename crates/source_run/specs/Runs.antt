@@ -1,10 +1,10 @@
 -- The report of a run.
 use Rattle.std.specs.Prelude.{ℕ, List, Some}
-use Rattle.st_plans.specs.Rows.{Latch}
-use Rattle.config.specs.declared.plan.Plan.{Plan}
+use Rattle.st_types.specs.Rows.{Latch}
+use Rattle.plan.specs.declared.plan.Plan.{Plan}
 use Rattle.image.specs.Plants.{AreRowsOf}
-use Rattle.commit_lock.specs.Cores.{CoreView}
-use Rattle.plant_jobs.specs.declared.job.Start.{Start}
+use Rattle.durable_core.specs.Cores.{CoreView}
+use Rattle.source_run.specs.declared.job.Start.{Start}
 use Rattle.source_run.specs.Lives.{IsReport, start_of}
 use Rattle.source_run.specs.Progress.{IsRunOf}
 use Rattle.source_run.specs.Settling.{IsSettled}

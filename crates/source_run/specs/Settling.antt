@@ -1,7 +1,7 @@
 -- When a life has nothing left to do.
 use Rattle.std.specs.Prelude.{ℕ}
-use Rattle.commit_lock.specs.Cores.{CoreView}
-use Rattle.commit_lock.specs.Flushing.{IsAcknowledged}
+use Rattle.durable_core.specs.Cores.{CoreView}
+use Rattle.durable_core.specs.Flushing.{IsAcknowledged}
 use Rattle.run_lock.specs.Lives.{NothingIsDue}
 
 -- nothing waits on so many resources, and all of the log is acknowledged

@@ -1,12 +1,12 @@
 -- The plan of a text, and why a source is refused.
 use Rattle.std.specs.Prelude.{◌≡◌, ◌⊎◌, ℕ, List}
-use Rattle.st_trees.specs.Sources.{Source}
-use Rattle.config.specs.declared.plan.Plan.{Plan}
-use Rattle.config.specs.PlanViews.{plan_view}
-use Rattle.text_paths.specs.Texts.{IsTextOf}
-use Rattle.st_build.specs.Refusals.{TextLacksPlan}
-use Rattle.st_build.specs.TextPlans.{IsPlanOf}
-use Rattle.st_build.specs.declared.build_error.BuildError.TheVariants as errors
+use Rattle.st_types.specs.Sources.{Source}
+use Rattle.plan.specs.declared.plan.Plan.{Plan}
+use Rattle.plan.specs.PlanViews.{plan_view}
+use Rattle.config.specs.Texts.{IsTextOf}
+use Rattle.config.specs.Refusals.{TextLacksPlan}
+use Rattle.config.specs.TextPlans.{IsPlanOf}
+use Rattle.config.specs.declared.build_error.BuildError.TheVariants as errors
 use Rattle.source_run.specs.declared.fault.Fault.{Fault}
 use Rattle.source_run.specs.declared.fault.Fault.TheVariants as faults
 

@@ -2,14 +2,14 @@
 
 ghost use Rattle.std.specs.Prelude.{◌≡◌};
 
-use commit_lock::StartFault;
+use commit_lock::ReplayError;
+use config::BuildError;
+use durable_core::StartFault;
 use image::PlantError;
 use run_lock::RunFault;
-use st_build::BuildError;
 use std::alloc::{AllocError, AllocFailed};
-use traces::ReplayError;
 
-/// Why a job ends early. What is told of it goes by its code (`fault_codes`).
+/// Why a job ends early. What is told of it goes by its code (`source_run`).
 #[derive(Clone, Copy, Debug, PartialEq, Eq)]
 pub enum Fault {
     /// The source can't be read.

@@ -1,13 +1,13 @@
 //! What a warm start over a record of another layout takes over.
 
 ghost use Rattle.std.specs.Prelude.{◌≡◌, IfErr, IfOk, None, Ok};
-ghost use Rattle.retain_areas.specs.Recovered.{recovered};
+ghost use Rattle.retain_store.specs.Recovered.{recovered};
 ghost use Rattle.retain_show.specs.Against.{changes_against};
 ghost use Rattle.retain_store.specs.Opening.{RefusesFor};
 
-use config::Plan;
+use crate::job::Start;
 use disk::Disk;
-use plant_jobs::Start;
+use plan::Plan;
 use retain_show::{Changes, changes_against};
 use retain_store::{FILE_BYTES, StoreFault};
 use std::alloc::Global;

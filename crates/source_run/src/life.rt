@@ -1,15 +1,15 @@
 //! What is told of a life.
 
 ghost use Rattle.std.specs.Prelude.{◌≡◌, IfOk, Some, option_map, slice_get, unwrap_or, false, count_by};
-ghost use Rattle.st_plans.specs.Logs.{IsLegal, outcomes_of, row_count, done_count};
-ghost use Rattle.config.specs.PlanViews.{plan_view};
-ghost use Rattle.traces.specs.Replays.{HasOverrunsInAll, is_faulted};
+ghost use Rattle.st_meaning.specs.Logs.{IsLegal, outcomes_of, row_count, done_count};
+ghost use Rattle.plan.specs.PlanViews.{plan_view};
+ghost use Rattle.commit_lock.specs.Replays.{HasOverrunsInAll, is_faulted};
 ghost use Rattle.source_run.specs.Lives.{IsReport, start_of};
 
 use crate::report::{Counts, report_with};
-use commit_lock::Core;
 use disk::Disk;
-use st_types::Outcome;
+use durable_core::Core;
+use st_meaning::Outcome;
 use std::alloc::{AllocError, Global};
 
 /// Whether the execution of that entry ended with a fault.

@@ -6,9 +6,9 @@ ghost use Rattle.image.specs.Plants.{AreRowsOf};
 
 use crate::fault::Fault;
 use crate::files::Files;
-use config::Plan;
 use image::{PlantError, read_plant};
-use st_plans::Row;
+use plan::Plan;
+use st_types::Row;
 use std::alloc::Global;
 use std::io;
 

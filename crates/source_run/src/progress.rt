@@ -1,9 +1,9 @@
 //! How far a run is, and by which machine its executions went.
 
-use commit_lock::Answer;
-use plant_jobs::Machine as AskedMachine;
+use crate::job::Machine as AskedMachine;
+use durable_core::Answer;
 use plc_threads::{Extent, Gate, Machine};
-use st_plans::Activation;
+use st_types::Activation;
 use std::sync::atomic::{AtomicU64, Ordering};
 
 /// A run is told of about a hundred times.

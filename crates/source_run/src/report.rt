@@ -5,9 +5,9 @@ ghost use Rattle.std.specs.Vec.{vec_items};
 ghost use Rattle.std.specs.Io.KnownBytes.{Appends};
 ghost use Rattle.source_run.specs.Reports.{counts_text, report_text, variable_line, variables_text};
 
-use st_plans::PlanVariable;
+use st_meaning::PlanVariable;
 use st_print::{write_path, write_value};
-use st_words::{Name, Path, Value};
+use st_types::{Name, Path, Value};
 use std::alloc::{AllocError, Global};
 use std::io;
 use std::io::Write;

@@ -1,11 +1,11 @@
 //! The run of a plan.
 
 ghost use Rattle.std.specs.Prelude.{◌≡◌, ◌++◌, IfOk, OnOk, Some};
-ghost use Rattle.commit_lock.specs.Starting.{IsNew};
+ghost use Rattle.durable_core.specs.Starting.{IsNew};
 ghost use Rattle.source_run.specs.Runs.{IsReportOf};
 ghost use Rattle.source_run.specs.Lives.{IsReport, start_of};
-ghost use Rattle.st_plans.specs.Logs.{IsLegal};
-ghost use Rattle.config.specs.PlanViews.{plan_view};
+ghost use Rattle.st_meaning.specs.Logs.{IsLegal};
+ghost use Rattle.plan.specs.PlanViews.{plan_view};
 ghost use Rattle.source_run.specs.Progress.{BeginsAs, mode_of};
 ghost use Rattle.run_lock.specs.Lives.{life_of};
 ghost use Rattle.serial_core.specs.Steps.{made};
@@ -13,19 +13,19 @@ ghost use Rattle.source_run.specs.Settling.{IsSettled};
 
 use crate::fault::Fault;
 use crate::files::Files;
+use crate::job::{Pace, RunJob, Start};
 use crate::layouts::{changes_by, tell};
 use crate::life::report_of;
 use crate::plants::read_rows;
 use crate::progress::Progress;
 use crate::tracing::traced;
-use commit_lock::{Core, StartFault, StartMode};
-use config::Plan;
 use disk::Disk;
-use plant_jobs::{Pace, RunJob, Start};
+use durable_core::{Core, StartFault, StartMode};
+use plan::Plan;
 use plc_threads::{Pace as RunPace, Report, RunError, run_plant};
 use retain_store::StoreFault;
-use st_plans::Row;
-use st_words::limits::MAX_LOG_ROOM;
+use st_types::Row;
+use st_types::limits::MAX_LOG_ROOM;
 use std::alloc::Global;
 use std::sync::{Arc, Wait};
 use std::thread::Threads;

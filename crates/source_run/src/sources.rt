@@ -5,9 +5,9 @@ ghost use Rattle.source_run.specs.Sources.{IsPlanIn, IsUnread, RefusesSource};
 
 use crate::fault::Fault;
 use crate::files::Files;
-use config::Plan;
-use st_build::{BuildError, build};
-use st_words::limits::MAX_SOURCE_BYTES;
+use config::{BuildError, build};
+use plan::Plan;
+use st_types::limits::MAX_SOURCE_BYTES;
 use std::alloc::Global;
 use std::io;
 use std::io::Read;

@@ -1,16 +1,16 @@
 //! The trace of a run.
 
 ghost use Rattle.std.specs.Prelude.{◌≡◌, IfOk, IfErr, Ok};
-ghost use Rattle.trace_lines.specs.Texts.{trace_of};
+ghost use Rattle.trace.specs.Texts.{trace_of};
 
 use crate::fault::Fault;
 use crate::files::Files;
+use crate::job::RunJob;
 use crate::writing::put_text;
-use commit_lock::Core;
+use commit_lock::{ReplayError, write_trace};
 use disk::Disk;
-use plant_jobs::RunJob;
+use durable_core::Core;
 use std::alloc::Global;
-use traces::{ReplayError, write_trace};
 
 /// The trace of a core as a text; the only error is out of memory.
 fn trace_text<D: Disk>(alloc: Global, core: &Core<D>) -> Result<Vec<u8>, ReplayError>

@@ -4,22 +4,22 @@ use Rattle.std.proofs.Common.{drop, length, map, slice_index_or}
 use Rattle.std.specs.Prelude.{is_some}
 use Rattle.std.specs.List.{Contains}
 use Rattle.std.proofs.lemmas.List.Elements.{Contains-append_left}
-use Rattle.st_words.specs.declared.literal.Literal.{Literal}
-use Rattle.st_trees.specs.declared.data_type.VariableType.{VariableType}
-use Rattle.st_trees.specs.declared.initial.InitialMember as code_member
-use Rattle.st_trees.specs.Initials.{Elements, Members, list, members_of, structure}
-use Rattle.st_trees.specs.InitialViews.{member_view}
-use Rattle.st_types.specs.NameTypes.{Declared}
-use Rattle.st_types.specs.ResolvedUnits.{field_of}
-use Rattle.st_statics.specs.declared.rule.Rule.TheVariants.{UnknownName, WrongType}
-use Rattle.st_statics.specs.declared.rule.Broken.{Broken}
-use Rattle.st_statics.specs.declared.typings.Typing.{Typing}
-use Rattle.st_statics.specs.ExpressionRules.{place_of_literal, wrong_literal}
-use Rattle.st_statics.specs.Faults.{breaking, unless, Finds}
-use Rattle.st_statics.specs.InitialRules.{array_in, definition_at, is_structure, is_unknown, unread_value}
-use Rattle.st_statics.specs.InitialRules.{wrong_constant, wrong_counts, wrong_fields, wrong_start_of}
-use Rattle.st_statics.specs.Roots.{demand_of_typing}
-use Rattle.st_statics.specs.Typings.{is_nothing, kind_of, meets, settled, typing_of_literal}
+use Rattle.st_types.specs.declared.literal.Literal.{Literal}
+use Rattle.st_types.specs.declared.data_type.VariableType.{VariableType}
+use Rattle.st_types.specs.declared.initial.InitialMember as code_member
+use Rattle.st_types.specs.Initials.{Elements, Members, list, members_of, structure}
+use Rattle.st_types.specs.InitialViews.{member_view}
+use Rattle.st_meaning.specs.NameTypes.{Declared}
+use Rattle.st_meaning.specs.ResolvedUnits.{field_of}
+use Rattle.st_rules.specs.declared.rule.Rule.TheVariants.{UnknownName, WrongType}
+use Rattle.st_rules.specs.declared.rule.Broken.{Broken}
+use Rattle.st_rules.specs.declared.typings.Typing.{Typing}
+use Rattle.st_rules.specs.ExpressionRules.{place_of_literal, wrong_literal}
+use Rattle.st_rules.specs.Faults.{breaking, unless, Finds}
+use Rattle.st_rules.specs.InitialRules.{array_in, definition_at, is_structure, is_unknown, unread_value}
+use Rattle.st_rules.specs.InitialRules.{wrong_constant, wrong_counts, wrong_fields, wrong_start_of}
+use Rattle.st_rules.specs.Roots.{demand_of_typing}
+use Rattle.st_rules.specs.Typings.{is_nothing, kind_of, meets, settled, typing_of_literal}
 use Rattle.st_typing.specs.Verdicts.{or_broken}
 use Rattle.st_typing.proofs.Finding.{finds_either, left_viewed}
 

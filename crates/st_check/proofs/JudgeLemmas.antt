@@ -3,18 +3,18 @@ use Rattle.std.proofs.Common.{◌≡◌, refl, sym, subst, ℕ, List, [], ◌∷
 use Rattle.std.specs.Prelude.{Result}
 use Rattle.std.specs.List.{flat_map, Contains}
 use Rattle.std.proofs.lemmas.List.Elements.{Contains-append_left}
-use Rattle.st_statics.specs.declared.rule.Broken.{Broken}
+use Rattle.st_rules.specs.declared.rule.Broken.{Broken}
 use Rattle.st_decl.specs.declared.judging.CheckError.{CheckError}
 use Rattle.st_decl.specs.declared.judging.CheckError.TheVariants as errors
 use Rattle.st_decl.specs.Judgements.{Judges, Refuses}
-use Rattle.st_trees.specs.Sources.{Source}
-use Rattle.st_types.specs.NameTypes.{declared_in}
-use Rattle.st_statics.specs.declared.rule.Rule.TheVariants.{TooManyNames, OutOfRange}
-use Rattle.st_statics.specs.DeclaredTypes.{declarings_in, arrays_in, results_in}
-use Rattle.st_statics.specs.Faults.{breaking}
-use Rattle.st_statics.specs.Rules.{wrong_types, wrong_starts, wrong_bodies}
-use Rattle.st_statics.specs.TypeRules.{wrong_declaring, wrong_element, wrong_result, wrong_bound_numbers}
-use Rattle.st_statics.specs.TypeRules.{wrong_priorities_of}
+use Rattle.st_types.specs.Sources.{Source}
+use Rattle.st_meaning.specs.NameTypes.{declared_in}
+use Rattle.st_rules.specs.declared.rule.Rule.TheVariants.{TooManyNames, OutOfRange}
+use Rattle.st_rules.specs.DeclaredTypes.{declarings_in, arrays_in, results_in}
+use Rattle.st_rules.specs.Faults.{breaking}
+use Rattle.st_rules.specs.Rules.{wrong_types, wrong_starts, wrong_bodies}
+use Rattle.st_rules.specs.TypeRules.{wrong_declaring, wrong_element, wrong_result, wrong_bound_numbers}
+use Rattle.st_rules.specs.TypeRules.{wrong_priorities_of}
 use Rattle.st_check.specs.Surplus.{surplus_names, HasNoSurplus}
 
 pub judges_behind : (ds ts ss bs : List Broken) (r : Result (Unit {0}) CheckError) → ds ≡ []

@@ -1,3 +1,9 @@
+pub mod BodyLemmas
+pub mod ChoiceLemmas
+pub mod FlatLemmas
+pub mod InvocationLemmas
+pub mod PassLemmas
+pub mod TargetLemmas
 pub mod InitialLemmas
 pub mod TypeLemmas
 pub mod JudgeLemmas

@@ -1,17 +1,17 @@
 -- What is wrong in declared types, from its parts.
 use Rattle.std.proofs.Common.{◌≡◌, refl, ap, subst, ℕ, Bool, false, ◌++◌, ◌&&◌, Option, Some, None}
 use Rattle.std.specs.Prelude.{is_some, option_map}
-use Rattle.st_trees.specs.declared.data_type.SimpleType.{SimpleType}
-use Rattle.st_trees.specs.declared.data_type.VariableType.TheVariants as types
-use Rattle.st_types.specs.NameTypes.{Declared}
-use Rattle.st_statics.specs.declared.rule.Rule.TheVariants.{WrongType}
-use Rattle.st_statics.specs.declared.rule.Broken.{Broken}
-use Rattle.st_statics.specs.DeclaredTypes.{Declaring}
-use Rattle.st_statics.specs.Environments.{is_block_type}
-use Rattle.st_statics.specs.Faults.{breaking, in_case, Finds}
-use Rattle.st_statics.specs.Typings.{is_composite, typing_of_type}
-use Rattle.st_statics.specs.TypeRules.{is_without_parts, may_be_instance, place_of_simple, place_of_type}
-use Rattle.st_statics.specs.TypeRules.{wrong_declaring, wrong_name, wrong_result, wrong_simple}
+use Rattle.st_types.specs.declared.data_type.SimpleType.{SimpleType}
+use Rattle.st_types.specs.declared.data_type.VariableType.TheVariants as types
+use Rattle.st_meaning.specs.NameTypes.{Declared}
+use Rattle.st_rules.specs.declared.rule.Rule.TheVariants.{WrongType}
+use Rattle.st_rules.specs.declared.rule.Broken.{Broken}
+use Rattle.st_rules.specs.DeclaredTypes.{Declaring}
+use Rattle.st_rules.specs.Environments.{is_block_type}
+use Rattle.st_rules.specs.Faults.{breaking, in_case, Finds}
+use Rattle.st_rules.specs.Typings.{is_composite, typing_of_type}
+use Rattle.st_rules.specs.TypeRules.{is_without_parts, may_be_instance, place_of_simple, place_of_type}
+use Rattle.st_rules.specs.TypeRules.{wrong_declaring, wrong_name, wrong_result, wrong_simple}
 use Rattle.st_typing.specs.Verdicts.{or_broken}
 use Rattle.st_typing.proofs.Finding.{finds_front}
 

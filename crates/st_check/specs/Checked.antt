@@ -1,8 +1,8 @@
 -- Texts that break no rule, as they go on: resolved.
 use Rattle.std.specs.Prelude.{◌≡◌}
-use Rattle.st_trees.specs.Sources.{Source}
-use Rattle.st_types.specs.ResolvedUnits.{resolved_source}
-use Rattle.st_statics.specs.Rules.{IsWellTyped}
+use Rattle.st_types.specs.Sources.{Source}
+use Rattle.st_meaning.specs.ResolvedUnits.{resolved_source}
+use Rattle.st_rules.specs.Rules.{IsWellTyped}
 
 -- the tree is the resolved one of a text that breaks no rule
 pub record IsCheckedFrom (parsed tree : Source) : Type 0 where

@@ -1,13 +1,13 @@
 -- What is looked up in a text to judge it.
 use Rattle.std.specs.Prelude.{◌≡◌, map}
-use Rattle.st_trees.specs.Sources.{Source}
-use Rattle.st_trees.specs.SourceViews.{source_view}
-use Rattle.st_trees.specs.UnitViews.{unit_view}
-use Rattle.st_types.specs.NameTypes.{declared_in, units_in}
-use Rattle.st_statics.specs.DeclaredTypes.{declarings_in}
-use Rattle.st_names.specs.Fields.{ServesFields}
-use Rattle.st_names.specs.Tables.{ServesTables}
-use Rattle.st_names.specs.Texts.{ServesText}
+use Rattle.st_types.specs.Sources.{Source}
+use Rattle.st_types.specs.SourceViews.{source_view}
+use Rattle.st_types.specs.UnitViews.{unit_view}
+use Rattle.st_meaning.specs.NameTypes.{declared_in, units_in}
+use Rattle.st_rules.specs.DeclaredTypes.{declarings_in}
+use Rattle.symbols.specs.Fields.{ServesFields}
+use Rattle.symbols.specs.Tables.{ServesTables}
+use Rattle.symbols.specs.Texts.{ServesText}
 use Rattle.st_decl.specs.DeclaringViews.{declaring_view}
 use Rattle.st_check.specs.declared.lookups.Lookups.{Lookups}
 

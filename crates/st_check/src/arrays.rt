@@ -2,22 +2,22 @@
 
 ghost use Rattle.std.specs.Prelude.{◌≡◌, ◌++◌, map, IfOk};
 ghost use Rattle.std.specs.List.{flat_map};
-ghost use Rattle.st_trees.specs.SourceViews.{source_view};
-ghost use Rattle.st_types.specs.NameTypes.{Declared};
-ghost use Rattle.st_statics.specs.DeclaredTypes.{arrays_in, declarings_in};
-ghost use Rattle.st_statics.specs.Faults.{Finds};
-ghost use Rattle.st_statics.specs.TypeRules.{wrong_bound_numbers, wrong_element};
-ghost use Rattle.st_names.specs.Tables.{ServesTables};
-ghost use Rattle.st_names.specs.Texts.{ServesText};
+ghost use Rattle.st_types.specs.SourceViews.{source_view};
+ghost use Rattle.st_meaning.specs.NameTypes.{Declared};
+ghost use Rattle.st_rules.specs.DeclaredTypes.{arrays_in, declarings_in};
+ghost use Rattle.st_rules.specs.Faults.{Finds};
+ghost use Rattle.st_rules.specs.TypeRules.{wrong_bound_numbers, wrong_element};
+ghost use Rattle.symbols.specs.Tables.{ServesTables};
+ghost use Rattle.symbols.specs.Texts.{ServesText};
 ghost use Rattle.st_decl.specs.DeclaringViews.{declaring_view};
 
 use crate::declared_types::wrong_element;
 use st_decl::{Declaring, named_arrays, unnamed_arrays};
-use st_names::{TextNames, TextTables};
-use st_statics::Broken;
-use st_trees::{ArrayType, Source};
+use st_rules::Broken;
+use st_types::{ArrayType, Source};
 use st_typing::{either, wrong_number};
 use std::alloc::{AllocError, Global};
+use symbols::{TextNames, TextTables};
 
 /// Appends some arrays.
 fn push_arrays<'a>(

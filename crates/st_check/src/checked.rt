@@ -1,16 +1,16 @@
 //! Texts that break no rule.
 
 ghost use Rattle.std.specs.Prelude.{◌≡◌, IfOk, IfErr};
-ghost use Rattle.st_trees.specs.SourceViews.{source_view};
-ghost use Rattle.st_types.specs.ResolvedUnits.{resolved_source};
-ghost use Rattle.st_statics.specs.Rules.{IsWellTyped, broken};
+ghost use Rattle.st_types.specs.SourceViews.{source_view};
+ghost use Rattle.st_meaning.specs.ResolvedUnits.{resolved_source};
+ghost use Rattle.st_rules.specs.Rules.{IsWellTyped, broken};
 ghost use Rattle.st_decl.specs.Judgements.{Refuses};
 ghost use Rattle.st_check.specs.Checked.{IsChecked, IsCheckedFrom};
 
 use crate::checking::judge;
 use st_decl::CheckError;
 use st_resolved::resolved_source;
-use st_trees::Source;
+use st_types::Source;
 use std::alloc::Global;
 
 /// A text that breaks no rule, resolved: each literal has its type, and each name of a value of an enumerated type is a

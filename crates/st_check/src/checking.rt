@@ -1,20 +1,20 @@
 //! Texts, judged by all rules.
 
 ghost use Rattle.std.specs.Prelude.{◌++◌, IfOk};
-ghost use Rattle.st_trees.specs.SourceViews.{source_view};
-ghost use Rattle.st_statics.specs.Faults.{Finds};
-ghost use Rattle.st_statics.specs.Rules.{broken, wrong_types, wrong_starts, wrong_bodies};
+ghost use Rattle.st_types.specs.SourceViews.{source_view};
+ghost use Rattle.st_rules.specs.Faults.{Finds};
+ghost use Rattle.st_rules.specs.Rules.{broken, wrong_types, wrong_starts, wrong_bodies};
 ghost use Rattle.st_decl.specs.Judgements.{Judges};
 ghost use Rattle.st_check.specs.Surplus.{HasNoSurplus};
 
+use crate::bodies::wrong_bodies;
 use crate::enumerations::surplus_names;
 use crate::lookups::Lookups;
 use crate::starts::wrong_starts;
 use crate::types::wrong_types;
-use st_bodies::wrong_bodies;
 use st_decl::{CheckError, declare};
-use st_statics::{Broken, Rule};
-use st_trees::Source;
+use st_rules::{Broken, Rule};
+use st_types::Source;
 use st_typing::broken_at;
 use std::alloc::{AllocError, Global};
 

@@ -2,23 +2,22 @@
 
 ghost use Rattle.std.specs.Prelude.{◌≡◌, ◌&&◌, map, Some, is_some};
 ghost use Rattle.std.specs.List.{flat_map};
-ghost use Rattle.st_types.specs.NameTypes.{Declared};
-ghost use Rattle.st_statics.specs.Environments.{is_block_type};
-ghost use Rattle.st_statics.specs.Faults.{Finds};
-ghost use Rattle.st_statics.specs.Typings.{is_composite, typing_of_type};
-ghost use Rattle.st_statics.specs.TypeRules.{place_of_type, wrong_named, wrong_simple, wrong_name, may_be_instance};
-ghost use Rattle.st_statics.specs.TypeRules.{is_program_or_block, is_without_parts, wrong_declaring, wrong_element};
-ghost use Rattle.st_statics.specs.TypeRules.{place_of_simple, wrong_result};
-ghost use Rattle.st_names.specs.Tables.{ServesTables};
-ghost use Rattle.st_names.specs.Texts.{ServesText};
+ghost use Rattle.st_meaning.specs.NameTypes.{Declared};
+ghost use Rattle.st_rules.specs.Environments.{is_block_type};
+ghost use Rattle.st_rules.specs.Faults.{Finds};
+ghost use Rattle.st_rules.specs.Typings.{is_composite, typing_of_type};
+ghost use Rattle.st_rules.specs.TypeRules.{place_of_type, wrong_named, wrong_simple, wrong_name, may_be_instance};
+ghost use Rattle.st_rules.specs.TypeRules.{is_program_or_block, is_without_parts, wrong_declaring, wrong_element};
+ghost use Rattle.st_rules.specs.TypeRules.{place_of_simple, wrong_result};
+ghost use Rattle.symbols.specs.Tables.{ServesTables};
+ghost use Rattle.symbols.specs.Texts.{ServesText};
 ghost use Rattle.st_decl.specs.DeclaringViews.{role_view, declaring_view};
 
 use st_decl::{Declaring, Role};
-use st_names::{PlaceType, TextNames, TextTables, place_type, standard_function};
-use st_statics::{Broken, Rule, Typing};
-use st_trees::{ArrayType, Section, SimpleType, UnitSort, VariableType};
+use st_rules::{Broken, Rule, Typing};
+use st_types::{ArrayType, Identifier, Section, SimpleType, UnitSort, VariableType};
 use st_typing::{either, in_case};
-use st_words::Identifier;
+use symbols::{PlaceType, TextNames, TextTables, place_type, standard_function};
 
 /// Where the name of a type stands.
 fn place_of_simple(declared: &SimpleType) -> usize

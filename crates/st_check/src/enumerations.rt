@@ -2,16 +2,15 @@
 
 ghost use Rattle.std.specs.Prelude.{◌≡◌, ◌++◌, map, IfOk};
 ghost use Rattle.std.specs.List.{flat_map};
-ghost use Rattle.st_trees.specs.DeclarationViews.{type_declaration_view, type_definition_view};
-ghost use Rattle.st_trees.specs.SourceViews.{element_view, source_view};
-ghost use Rattle.st_statics.specs.DeclaredTypes.{names_of_definition, enumerations_of_element, enumerations_in};
-ghost use Rattle.st_statics.specs.TypeRules.{surplus_name};
-ghost use Rattle.st_names.specs.Searches.{FindsPlace};
+ghost use Rattle.st_types.specs.DeclarationViews.{type_declaration_view, type_definition_view};
+ghost use Rattle.st_types.specs.SourceViews.{element_view, source_view};
+ghost use Rattle.st_rules.specs.DeclaredTypes.{names_of_definition, enumerations_of_element, enumerations_in};
+ghost use Rattle.st_rules.specs.TypeRules.{surplus_name};
+ghost use Rattle.symbols.specs.Searches.{FindsPlace};
 ghost use Rattle.st_check.specs.Surplus.{surplus_names};
 
-use st_statics::limits::MAX_NAMES;
-use st_trees::{LibraryElement, Source, TypeDeclaration, TypeDefinition};
-use st_words::Identifier;
+use st_rules::limits::MAX_NAMES;
+use st_types::{Identifier, LibraryElement, Source, TypeDeclaration, TypeDefinition};
 use std::alloc::{AllocError, Global};
 
 fn push_definition<'a>(

@@ -2,34 +2,35 @@
 
 ghost use Rattle.std.specs.Prelude.{◌≡◌, ◌||◌, [], map, option_map, is_some, if◌then◌else◌};
 ghost use Rattle.std.specs.List.{flat_map};
-ghost use Rattle.st_trees.specs.Initials.{elements_of, list, members_of, structure};
-ghost use Rattle.st_trees.specs.InitialViews.{initial_view, element_view, member_view};
-ghost use Rattle.st_types.specs.NameTypes.{Declared};
-ghost use Rattle.st_types.specs.ResolvedUnits.{field_of};
-ghost use Rattle.st_statics.specs.declared.rule.Rule.TheVariants.{UnknownName};
-ghost use Rattle.st_statics.specs.ExpressionRules.{wrong_literal};
-ghost use Rattle.st_statics.specs.Faults.{breaking, Finds, unless};
-ghost use Rattle.st_statics.specs.InitialRules.{array_in, definition_at, is_structure, is_unknown, unread_value};
-ghost use Rattle.st_statics.specs.InitialRules.{wrong_constant, wrong_count, wrong_counts, wrong_fields, wrong_start};
-ghost use Rattle.st_statics.specs.InitialRules.{wrong_start_of};
-ghost use Rattle.st_statics.specs.Roots.{demand_of_typing};
-ghost use Rattle.st_statics.specs.Typings.{is_nothing, kind_of, meets, settled, typing_of_literal, typing_of_reading};
-ghost use Rattle.st_names.specs.Enumerated.{reading_view};
-ghost use Rattle.st_names.specs.Fields.{ServesFields};
-ghost use Rattle.st_names.specs.PlaceTypes.{place_type_view};
-ghost use Rattle.st_names.specs.Tables.{ServesTables};
-ghost use Rattle.st_names.specs.Texts.{ServesText};
+ghost use Rattle.st_types.specs.Initials.{elements_of, list, members_of, structure};
+ghost use Rattle.st_types.specs.InitialViews.{initial_view, element_view, member_view};
+ghost use Rattle.st_meaning.specs.NameTypes.{Declared};
+ghost use Rattle.st_meaning.specs.ResolvedUnits.{field_of};
+ghost use Rattle.st_rules.specs.declared.rule.Rule.TheVariants.{UnknownName};
+ghost use Rattle.st_rules.specs.ExpressionRules.{wrong_literal};
+ghost use Rattle.st_rules.specs.Faults.{breaking, Finds, unless};
+ghost use Rattle.st_rules.specs.InitialRules.{array_in, definition_at, is_structure, is_unknown, unread_value};
+ghost use Rattle.st_rules.specs.InitialRules.{wrong_constant, wrong_count, wrong_counts, wrong_fields, wrong_start};
+ghost use Rattle.st_rules.specs.InitialRules.{wrong_start_of};
+ghost use Rattle.st_rules.specs.Roots.{demand_of_typing};
+ghost use Rattle.st_rules.specs.Typings.{is_nothing, kind_of, meets, settled, typing_of_literal, typing_of_reading};
+ghost use Rattle.symbols.specs.Enumerated.{reading_view};
+ghost use Rattle.symbols.specs.Fields.{ServesFields};
+ghost use Rattle.symbols.specs.PlaceTypes.{place_type_view};
+ghost use Rattle.symbols.specs.Tables.{ServesTables};
+ghost use Rattle.symbols.specs.Texts.{ServesText};
 ghost use Rattle.st_decl.specs.StartViews.{start_view};
 
 use st_decl::{Start, array_at, field_of};
-use st_names::{FieldNames, PlaceType, Reading, TextNames, TextTables};
-use st_statics::{Broken, Rule, Typing};
-use st_trees::{Initial, InitialElement, InitialMember, SimpleType, TypeDefinition};
+use st_rules::{Broken, Rule, Typing};
+use st_types::{
+    Identifier, Initial, InitialElement, InitialMember, Kind, Literal, SimpleType, TypeDefinition,
+};
 use st_typing::{
     demand_of_typing, either, is_nothing, kind_of, meets, place_of_literal, settled,
     typing_of_place, unless, wrong_number, wrong_reading,
 };
-use st_words::{Identifier, Kind, Literal};
+use symbols::{FieldNames, PlaceType, Reading, TextNames, TextTables};
 
 fn typing_of_reading(reading: Reading) -> Typing
     ensures { result ≡ typing_of_reading (reading_view reading) }

@@ -1,21 +1,32 @@
-//! Texts, judged by all rules and resolved.
+//! All rules of the language: a text is judged once, and what goes on is its tree in which each literal has its type.
 //!
-//! Declarations are judged here too, by what is looked up in the text: their types, their numbers and their initial
-//! values.
+//! A text is accepted exactly where it breaks no rule, and a refusal names a rule that is broken and its place. Rules
+//! on declarations come first, then types and initial values, then bodies.
 #![tactic(auto)]
 
 mod arrays;
+mod assignments;
+mod bodies;
 mod checked;
 mod checking;
+mod choices;
 mod declared_types;
 mod enumerations;
+mod exits;
+mod expressions;
 mod initials;
+mod invocations;
+mod listings;
 mod lookups;
 mod priorities;
 mod results;
+mod roots;
+mod selections;
 mod starts;
+mod targets;
 mod types;
 
+pub use bodies::wrong_bodies;
 pub use checked::{Checked, check};
 pub use checking::judge;
 pub use st_decl::CheckError;

@@ -1,13 +1,13 @@
 //! What is looked up in a text to judge it.
 
 ghost use Rattle.std.specs.Prelude.{IfOk};
-ghost use Rattle.st_trees.specs.SourceViews.{source_view};
+ghost use Rattle.st_types.specs.SourceViews.{source_view};
 ghost use Rattle.st_check.specs.Lookups.{ServesSource};
 
 use st_decl::{Declaring, declarings_in, types_in, units_in};
-use st_names::{FieldNames, TextNames, TextTables};
-use st_trees::{Source, Unit};
+use st_types::{Source, Unit};
 use std::alloc::{AllocError, Global};
+use symbols::{FieldNames, TextNames, TextTables};
 
 /// A text with its names, what they stand for, all its declarations, and its units.
 pub struct Lookups<'a> {

@@ -2,13 +2,13 @@
 
 ghost use Rattle.std.specs.Prelude.{◌≡◌, ◌++◌, List, ℕ, map, IfOk};
 ghost use Rattle.std.specs.List.{flat_map};
-ghost use Rattle.st_trees.specs.ConfigurationViews.{resource_view};
-ghost use Rattle.st_trees.specs.SourceViews.{element_view, source_view};
-ghost use Rattle.st_statics.specs.TypeRules.{wrong_priority, wrong_priorities_of};
-ghost use Rattle.st_names.specs.Searches.{FindsPlace};
+ghost use Rattle.st_types.specs.ConfigurationViews.{resource_view};
+ghost use Rattle.st_types.specs.SourceViews.{element_view, source_view};
+ghost use Rattle.st_rules.specs.TypeRules.{wrong_priority, wrong_priorities_of};
+ghost use Rattle.symbols.specs.Searches.{FindsPlace};
 
-use st_trees::{LibraryElement, Resource, Source, Task};
-use st_words::limits::MAX_PRIORITY;
+use st_types::limits::MAX_PRIORITY;
+use st_types::{LibraryElement, Resource, Source, Task};
 use std::alloc::{AllocError, Global};
 
 fn push_tasks(places: &mut Vec<usize>, tasks: &[Task]) -> Result<(), AllocError>

@@ -2,19 +2,19 @@
 
 ghost use Rattle.std.specs.Prelude.{◌≡◌, ◌++◌, map, IfOk};
 ghost use Rattle.std.specs.List.{flat_map};
-ghost use Rattle.st_trees.specs.SourceViews.{element_view, source_view};
-ghost use Rattle.st_types.specs.NameTypes.{Declared};
-ghost use Rattle.st_statics.specs.DeclaredTypes.{result_of_sort, results_of_element, results_in};
-ghost use Rattle.st_statics.specs.Faults.{Finds};
-ghost use Rattle.st_statics.specs.TypeRules.{wrong_result};
-ghost use Rattle.st_names.specs.Tables.{ServesTables};
-ghost use Rattle.st_names.specs.Texts.{ServesText};
+ghost use Rattle.st_types.specs.SourceViews.{element_view, source_view};
+ghost use Rattle.st_meaning.specs.NameTypes.{Declared};
+ghost use Rattle.st_rules.specs.DeclaredTypes.{result_of_sort, results_of_element, results_in};
+ghost use Rattle.st_rules.specs.Faults.{Finds};
+ghost use Rattle.st_rules.specs.TypeRules.{wrong_result};
+ghost use Rattle.symbols.specs.Tables.{ServesTables};
+ghost use Rattle.symbols.specs.Texts.{ServesText};
 
 use crate::declared_types::wrong_result;
-use st_names::{TextNames, TextTables};
-use st_statics::Broken;
-use st_trees::{LibraryElement, SimpleType, Source, UnitSort};
+use st_rules::Broken;
+use st_types::{LibraryElement, SimpleType, Source, UnitSort};
 use std::alloc::{AllocError, Global};
+use symbols::{TextNames, TextTables};
 
 fn push_sort<'a>(results: &mut Vec<&'a SimpleType>, sort: &'a UnitSort) -> Result<(), AllocError>
     ensures { IfOk result (λ done. map (λ x. x.now) results.new.items

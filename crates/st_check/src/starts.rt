@@ -1,15 +1,15 @@
 //! The initial values of a text (C1, C3, C4).
 
 ghost use Rattle.std.specs.Prelude.{IfOk};
-ghost use Rattle.st_trees.specs.Sources as tree;
-ghost use Rattle.st_statics.specs.Faults.{Finds};
-ghost use Rattle.st_statics.specs.Rules.{wrong_starts};
+ghost use Rattle.st_types.specs.Sources as tree;
+ghost use Rattle.st_rules.specs.Faults.{Finds};
+ghost use Rattle.st_rules.specs.Rules.{wrong_starts};
 ghost use Rattle.st_check.specs.Lookups.{ServesSource};
 
 use crate::initials::first_wrong_start;
 use crate::lookups::Lookups;
 use st_decl::starts_of;
-use st_statics::Broken;
+use st_rules::Broken;
 use std::alloc::{AllocError, Global};
 
 /// What is wrong in the initial values of a text.

@@ -1,9 +1,9 @@
 //! The types and the numbers of a text's declarations (C1, C3, C4).
 
 ghost use Rattle.std.specs.Prelude.{IfOk};
-ghost use Rattle.st_trees.specs.Sources as tree;
-ghost use Rattle.st_statics.specs.Faults.{Finds};
-ghost use Rattle.st_statics.specs.Rules.{wrong_types};
+ghost use Rattle.st_types.specs.Sources as tree;
+ghost use Rattle.st_rules.specs.Faults.{Finds};
+ghost use Rattle.st_rules.specs.Rules.{wrong_types};
 ghost use Rattle.st_check.specs.Lookups.{ServesSource};
 ghost use Rattle.st_check.specs.Surplus.{HasNoSurplus};
 
@@ -12,7 +12,7 @@ use crate::declared_types::first_wrong_declaring;
 use crate::lookups::Lookups;
 use crate::priorities::wrong_priority;
 use crate::results::wrong_results;
-use st_statics::{Broken, Rule};
+use st_rules::{Broken, Rule};
 use st_typing::{broken_at, either};
 use std::alloc::{AllocError, Global};
 

@@ -3,17 +3,17 @@ use Rattle.std.proofs.Common.{◌≡◌, ℕ, zero, suc, ◌+◌, [], Option, So
 use Rattle.std.proofs.Common.{refl, sym, subst, ap, ◌∙◌, arith}
 use Rattle.std.specs.Prelude.{slice_get}
 use Rattle.std.proofs.lemmas.Option.{slice_get-map}
-use Rattle.slot_bodies.specs.LibraryViews.{KeptLibrary, IsKeptOf}
+use Rattle.slot_trees.specs.LibraryViews.{KeptLibrary, IsKeptOf}
 use Rattle.slot_trees.specs.SlotTrees.{BlockCode, own_block, standard_block, SlotFunction, SlotStmts, SlotLibrary}
-use Rattle.tree_code.specs.Calls.{units_code, called_code, body_code, instance_code, resets_code}
-use Rattle.tree_code.specs.Codes.{body_ways, stores_code}
-use Rattle.tree_code.specs.Fitting.{CallFitsWithin, UnitCall, of_function, of_block, FunctionFits, IfFunctionFits}
-use Rattle.tree_code.specs.Fitting.{IfBodyFits, InstanceFits, StmtsFit}
-use Rattle.tree_code.specs.Growing.{Code, ◌◂◌}
-use Rattle.tree_code.specs.Programs.{program_code, program_site, ProgramFits}
-use Rattle.tree_code.specs.Sites.{Site, site_from}
+use Rattle.machine_code.specs.Calls.{units_code, called_code, body_code, instance_code, resets_code}
+use Rattle.machine_code.specs.Codes.{body_ways, stores_code}
+use Rattle.machine_code.specs.Fitting.{CallFitsWithin, UnitCall, of_function, of_block, FunctionFits, IfFunctionFits}
+use Rattle.machine_code.specs.Fitting.{IfBodyFits, InstanceFits, StmtsFit}
+use Rattle.machine_code.specs.Growing.{Code, ◌◂◌}
+use Rattle.machine_code.specs.Programs.{program_code, program_site, ProgramFits}
+use Rattle.machine_code.specs.Sites.{Site, site_from}
 use Rattle.machine_code.specs.declared.instr.Instr.TheVariants.{Fetch, Turn}
-use Rattle.code_drafts.specs.Emitting.{or_unfit_function, or_unfit_body, filled}
+use Rattle.st_compile.specs.Emitting.{or_unfit_function, or_unfit_body, filled}
 use Rattle.st_compile.proofs.MoreFits.{stmts_more}
 use Rattle.st_compile.proofs.SameCode.{SameUnits, stmts_same}
 

@@ -4,14 +4,14 @@ use Rattle.std.proofs.Common.{Err, refl, sym, subst, ap, arith}
 use Rattle.std.specs.Prelude.{slice_get}
 use Rattle.std.proofs.Math.ListN.{length-set}
 use Rattle.std.proofs.lemmas.List.{length-append}
-use Rattle.st_words.specs.Values.{Datum}
-use Rattle.st_trees.specs.declared.statement.Label.{Label}
-use Rattle.st_trees.specs.declared.statement.Label.TheVariants.{Single, Range, Enumerated}
-use Rattle.st_types.specs.Failures.{Failure}
-use Rattle.st_types.specs.Operators.{value_of_literal}
+use Rattle.st_types.specs.Values.{Datum}
+use Rattle.st_types.specs.declared.statement.Label.{Label}
+use Rattle.st_types.specs.declared.statement.Label.TheVariants.{Single, Range, Enumerated}
+use Rattle.st_meaning.specs.Failures.{Failure}
+use Rattle.st_meaning.specs.Operators.{value_of_literal}
 use Rattle.machine_code.specs.declared.instr.Instr.{Instr}
 use Rattle.machine_code.specs.declared.instr.Instr.TheVariants.{Back, Fetch}
-use Rattle.slot_bodies.specs.LibraryViews.{KeptLibrary, IsKeptOf}
+use Rattle.slot_trees.specs.LibraryViews.{KeptLibrary, IsKeptOf}
 use Rattle.slot_trees.specs.SlotTrees.{SlotExpr, constant, load, compute, call, unary, binary, SlotExprs}
 use Rattle.slot_trees.specs.SlotTrees.{no_exprs, expr_then, Place, place, Subscripts, no_subscripts, subscript_then}
 use Rattle.slot_trees.specs.SlotTrees.{BlockCode, own_block, standard_block, SlotArgument, given, copied, SlotStmt}
@@ -19,23 +19,23 @@ use Rattle.slot_trees.specs.SlotTrees.{empty, assign, invoke, IF, CASE, FOR, WHI
 use Rattle.slot_trees.specs.SlotTrees.{no_stmts, stmt_then, SlotArms, no_arms, arm_then, SlotCaseArms}
 use Rattle.slot_trees.specs.SlotTrees.{no_case_arms, case_arm_then, SlotFunction, SlotLibrary}
 use Rattle.slot_trees.specs.SlotEvaluation.{slot_at}
-use Rattle.tree_code.specs.declared.ways.Ways.{Ways}
-use Rattle.tree_code.specs.Growing.{Code, ◌◂◌, closed}
-use Rattle.tree_code.specs.Sites.{Site, slot_in, end_of, site_at, site_from}
-use Rattle.tree_code.specs.Codes.{CodeUnits, literal_code, label_code, labels_code, stores_code, expr_code}
-use Rattle.tree_code.specs.Codes.{exprs_code}
-use Rattle.tree_code.specs.Codes.{place_code, led_code, subscripts_code, step_code, inputs_code, outputs_code}
-use Rattle.tree_code.specs.Codes.{invoke_code, stmt_code, stmts_code, arms_code, case_code, given_members, body_ways}
-use Rattle.tree_code.specs.Codes.{loop_ways}
-use Rattle.tree_code.specs.Calls.{resets_code, called_code, body_code, instance_code, units_code}
-use Rattle.tree_code.specs.Programs.{program_code, program_site}
-use Rattle.tree_code.proofs.Growth.{units_grow}
-use Rattle.code_drafts.specs.Lengths.{UnitLengths, literal_length, label_length, labels_length, expr_length}
-use Rattle.code_drafts.specs.Lengths.{exprs_length}
-use Rattle.code_drafts.specs.Lengths.{place_length, led_length, subscripts_length, step_length, inputs_length}
-use Rattle.code_drafts.specs.Lengths.{outputs_length, invoke_length, stmt_length, stmts_length, arms_length}
-use Rattle.code_drafts.specs.Lengths.{case_length}
-use Rattle.code_drafts.specs.Lengths.{function_length, if_function_length, if_body_length, block_length, units_length}
+use Rattle.machine_code.specs.declared.ways.Ways.{Ways}
+use Rattle.machine_code.specs.Growing.{Code, ◌◂◌, closed}
+use Rattle.machine_code.specs.Sites.{Site, slot_in, end_of, site_at, site_from}
+use Rattle.machine_code.specs.Codes.{CodeUnits, literal_code, label_code, labels_code, stores_code, expr_code}
+use Rattle.machine_code.specs.Codes.{exprs_code}
+use Rattle.machine_code.specs.Codes.{place_code, led_code, subscripts_code, step_code, inputs_code, outputs_code}
+use Rattle.machine_code.specs.Codes.{invoke_code, stmt_code, stmts_code, arms_code, case_code, given_members, body_ways}
+use Rattle.machine_code.specs.Codes.{loop_ways}
+use Rattle.machine_code.specs.Calls.{resets_code, called_code, body_code, instance_code, units_code}
+use Rattle.machine_code.specs.Programs.{program_code, program_site}
+use Rattle.machine_code.proofs.Growth.{units_grow}
+use Rattle.st_compile.specs.Lengths.{UnitLengths, literal_length, label_length, labels_length, expr_length}
+use Rattle.st_compile.specs.Lengths.{exprs_length}
+use Rattle.st_compile.specs.Lengths.{place_length, led_length, subscripts_length, step_length, inputs_length}
+use Rattle.st_compile.specs.Lengths.{outputs_length, invoke_length, stmt_length, stmts_length, arms_length}
+use Rattle.st_compile.specs.Lengths.{case_length}
+use Rattle.st_compile.specs.Lengths.{function_length, if_function_length, if_body_length, block_length, units_length}
 
 -- the same number of instructions, counted in another order
 counted : {a b k : ℕ} → a ≤ k → a ≡ b → b ≤ k

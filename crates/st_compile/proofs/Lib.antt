@@ -1,3 +1,10 @@
+pub mod Elements
+pub mod Behind
+pub mod FitElements
+pub mod Sizes
+pub mod Depths
+pub mod Joints
+pub mod Filled
 pub mod MoreFits
 pub mod SameCode
 pub mod Kept

@@ -6,9 +6,9 @@ use Rattle.slot_trees.specs.SlotTrees.{SlotArgument, given, copied, SlotStmt}
 use Rattle.slot_trees.specs.SlotTrees.{empty, assign, invoke, IF, CASE, FOR, WHILE, REPEAT, EXIT, RETURN, SlotStmts}
 use Rattle.slot_trees.specs.SlotTrees.{no_stmts, stmt_then, SlotArms, no_arms, arm_then, SlotCaseArms}
 use Rattle.slot_trees.specs.SlotTrees.{no_case_arms, case_arm_then}
-use Rattle.tree_code.specs.Fitting.{UnitCall, ExprFits, ExprsFit, PlaceFits, SubscriptsFit, StepFits, ArgumentsFit}
-use Rattle.tree_code.specs.Fitting.{StmtFits, StmtsFit, ArmsFit, CaseArmsFit}
-use Rattle.tree_code.specs.Sites.{Site}
+use Rattle.machine_code.specs.Fitting.{UnitCall, ExprFits, ExprsFit, PlaceFits, SubscriptsFit, StepFits, ArgumentsFit}
+use Rattle.machine_code.specs.Fitting.{StmtFits, StmtsFit, ArmsFit, CaseArmsFit}
+use Rattle.machine_code.specs.Sites.{Site}
 
 module _ (P Q : UnitCall → Type 0) (more : (u : UnitCall) → P u → Q u) (s : Site) where
   mutual

@@ -2,11 +2,11 @@
 use Rattle.std.proofs.Common.{◌≡◌, ℕ, zero, suc, ◌+◌, ◌≤◌, ◌<◌, List, [], ◌∷◌, length, Option, Some, None, Result, Ok}
 use Rattle.std.proofs.Common.{Err, refl, sym, subst, ap, ◌∙◌, arith, max}
 use Rattle.std.specs.Prelude.{slice_get, slice_set}
-use Rattle.st_words.specs.Values.{Datum}
-use Rattle.st_trees.specs.declared.statement.Label.{Label}
-use Rattle.st_trees.specs.declared.statement.Label.TheVariants.{Single, Range, Enumerated}
-use Rattle.st_types.specs.Failures.{Failure}
-use Rattle.st_types.specs.Operators.{value_of_literal}
+use Rattle.st_types.specs.Values.{Datum}
+use Rattle.st_types.specs.declared.statement.Label.{Label}
+use Rattle.st_types.specs.declared.statement.Label.TheVariants.{Single, Range, Enumerated}
+use Rattle.st_meaning.specs.Failures.{Failure}
+use Rattle.st_meaning.specs.Operators.{value_of_literal}
 use Rattle.machine_code.specs.declared.instr.Instr.{Instr}
 use Rattle.machine_code.specs.declared.instr.Instr.TheVariants as instrs
 use Rattle.machine_code.specs.declared.instr.Instr.TheVariants.{Load, LoadAt, Store, StoreAt}
@@ -17,18 +17,18 @@ use Rattle.slot_trees.specs.SlotTrees.{empty, assign, invoke, IF, CASE, FOR, WHI
 use Rattle.slot_trees.specs.SlotTrees.{no_stmts, stmt_then, SlotArms, no_arms, arm_then, SlotCaseArms}
 use Rattle.slot_trees.specs.SlotTrees.{no_case_arms, case_arm_then, SlotFunction, SlotLibrary}
 use Rattle.slot_trees.specs.SlotEvaluation.{slot_at}
-use Rattle.tree_code.specs.declared.ways.Ways.{Ways}
-use Rattle.tree_code.specs.Growing.{Code, ◌◂◌, closed}
-use Rattle.tree_code.specs.Sites.{Site, slot_in, end_of, site_at, site_from}
-use Rattle.tree_code.specs.Codes.{CodeUnits, count_of, literal_code, label_code, labels_code, stores_code, expr_code}
-use Rattle.tree_code.specs.Codes.{exprs_code, place_code, led_code, subscripts_code, step_code, inputs_code}
-use Rattle.tree_code.specs.Codes.{outputs_code, invoke_code, stmt_code, stmts_code, arms_code, case_code}
-use Rattle.tree_code.specs.Codes.{given_members, body_ways}
-use Rattle.tree_code.specs.Calls.{resets_code, called_code, body_code, instance_code, units_code}
-use Rattle.tree_code.specs.Fitting.{UnitCall, of_function, of_block, ExprFits, ExprsFit, PlaceFits, SubscriptsFit}
-use Rattle.tree_code.specs.Fitting.{StepFits, ArgumentsFit, StmtFits, StmtsFit, ArmsFit, CaseArmsFit, FunctionFits}
-use Rattle.tree_code.specs.Fitting.{IfFunctionFits, IfBodyFits, InstanceFits, CallFitsWithin}
-use Rattle.tree_code.specs.Programs.{program_code, program_site, ProgramFits}
+use Rattle.machine_code.specs.declared.ways.Ways.{Ways}
+use Rattle.machine_code.specs.Growing.{Code, ◌◂◌, closed}
+use Rattle.machine_code.specs.Sites.{Site, slot_in, end_of, site_at, site_from}
+use Rattle.machine_code.specs.Codes.{CodeUnits, count_of, literal_code, label_code, labels_code, stores_code, expr_code}
+use Rattle.machine_code.specs.Codes.{exprs_code, place_code, led_code, subscripts_code, step_code, inputs_code}
+use Rattle.machine_code.specs.Codes.{outputs_code, invoke_code, stmt_code, stmts_code, arms_code, case_code}
+use Rattle.machine_code.specs.Codes.{given_members, body_ways}
+use Rattle.machine_code.specs.Calls.{resets_code, called_code, body_code, instance_code, units_code}
+use Rattle.machine_code.specs.Fitting.{UnitCall, of_function, of_block, ExprFits, ExprsFit, PlaceFits, SubscriptsFit}
+use Rattle.machine_code.specs.Fitting.{StepFits, ArgumentsFit, StmtFits, StmtsFit, ArmsFit, CaseArmsFit, FunctionFits}
+use Rattle.machine_code.specs.Fitting.{IfFunctionFits, IfBodyFits, InstanceFits, CallFitsWithin}
+use Rattle.machine_code.specs.Programs.{program_code, program_site, ProgramFits}
 use Rattle.st_compile.specs.Resets.{slot_behind_reset, slot_behind_resets}
 
 module _ (m : ℕ) where

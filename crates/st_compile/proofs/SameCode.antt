@@ -12,14 +12,14 @@ use Rattle.slot_trees.specs.SlotTrees.{empty, assign, invoke, IF, CASE, FOR, WHI
 use Rattle.slot_trees.specs.SlotTrees.{no_stmts, stmt_then, SlotArms, no_arms, arm_then, SlotCaseArms}
 use Rattle.slot_trees.specs.SlotTrees.{no_case_arms, case_arm_then}
 use Rattle.slot_trees.specs.SlotEvaluation.{slot_at}
-use Rattle.tree_code.specs.declared.ways.Ways.{Ways}
-use Rattle.tree_code.specs.Growing.{Code, ◌◂◌, closed}
-use Rattle.tree_code.specs.Sites.{Site, slot_in, end_of, site_at}
-use Rattle.tree_code.specs.Codes.{CodeUnits, count_of, number_value, labels_code, stores_code, expr_code, exprs_code}
-use Rattle.tree_code.specs.Codes.{place_code, led_code, subscripts_code, step_code, inputs_code, outputs_code}
-use Rattle.tree_code.specs.Codes.{invoke_code, stmt_code, stmts_code, arms_code, case_code, given_members, loop_ways}
-use Rattle.tree_code.specs.Fitting.{UnitCall, of_function, of_block, ExprFits, ExprsFit, PlaceFits, SubscriptsFit}
-use Rattle.tree_code.specs.Fitting.{StepFits, ArgumentsFit, StmtFits, StmtsFit, ArmsFit, CaseArmsFit}
+use Rattle.machine_code.specs.declared.ways.Ways.{Ways}
+use Rattle.machine_code.specs.Growing.{Code, ◌◂◌, closed}
+use Rattle.machine_code.specs.Sites.{Site, slot_in, end_of, site_at}
+use Rattle.machine_code.specs.Codes.{CodeUnits, count_of, number_value, labels_code, stores_code, expr_code, exprs_code}
+use Rattle.machine_code.specs.Codes.{place_code, led_code, subscripts_code, step_code, inputs_code, outputs_code}
+use Rattle.machine_code.specs.Codes.{invoke_code, stmt_code, stmts_code, arms_code, case_code, given_members, loop_ways}
+use Rattle.machine_code.specs.Fitting.{UnitCall, of_function, of_block, ExprFits, ExprsFit, PlaceFits, SubscriptsFit}
+use Rattle.machine_code.specs.Fitting.{StepFits, ArgumentsFit, StmtFits, StmtsFit, ArmsFit, CaseArmsFit}
 
 -- the code of units is the same where calls fit
 pub record SameUnits (P : UnitCall → Type 0) (U V : CodeUnits) : Type 0 where

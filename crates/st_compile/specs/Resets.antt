@@ -2,7 +2,7 @@
 use Rattle.std.specs.Prelude.{ℕ, suc, List, [], ◌∷◌, max}
 use Rattle.machine_code.specs.declared.instr.Instr.{Instr}
 use Rattle.machine_code.specs.declared.instr.Instr.TheVariants.{Reset}
-use Rattle.tree_code.specs.Growing.{Code}
+use Rattle.machine_code.specs.Growing.{Code}
 
 -- the slot behind the one that an instruction resets, or the first of all
 abbrev pub slot_behind_reset : Instr → ℕ

@@ -4,20 +4,21 @@ ghost use Rattle.std.specs.Prelude.{◌≡◌, ◌≤◌, ◌<◌, ◌+◌, ℕ,
 ghost use Rattle.machine_code.specs.declared.limits.TheConstants.{MAX_INSTRUCTIONS, MAX_MEMORY};
 ghost use Rattle.slot_trees.specs.SlotTrees as tree;
 ghost use Rattle.st_compile.specs.declared.limits.TheConstants.{FUNCTION_PLACES};
-ghost use Rattle.slot_bodies.specs.LibraryViews.{IsKeptOf, slot_library_view};
-ghost use Rattle.slot_bodies.specs.StatementViews.{slot_stmts_view};
-ghost use Rattle.tree_code.specs.Programs.{program_code, ProgramFits};
-ghost use Rattle.code_drafts.specs.Emitting.{filled};
-ghost use Rattle.code_drafts.specs.Linked.{ProgramLinked};
+ghost use Rattle.slot_trees.specs.LibraryViews.{IsKeptOf, slot_library_view};
+ghost use Rattle.slot_trees.specs.StatementViews.{slot_stmts_view};
+ghost use Rattle.machine_code.specs.Programs.{program_code, ProgramFits};
+ghost use Rattle.st_compile.specs.Emitting.{filled};
+ghost use Rattle.st_compile.specs.Linked.{ProgramLinked};
 ghost use Rattle.st_compile.specs.Resets.{slot_behind_resets};
 
+use crate::compile_error::CompileError;
+use crate::draft::Draft;
 use crate::limits::{CALL_DEPTH, FUNCTION_PLACES};
-use code_drafts::{CompileError, Draft, Scope};
-use machine_code::{Instr, MAX_MEMORY};
-use slot_bodies::{SlotLibrary, SlotStmt};
+use crate::scope::Scope;
+use crate::statements::put_statements;
+use machine_code::{Instr, MAX_MEMORY, Ways};
+use slot_trees::{SlotLibrary, SlotStmt};
 use std::alloc::Global;
-use tree_code::Ways;
-use tree_compiler::put_statements;
 
 /// The code of a program, and the memory that it needs.
 #[derive(Drop)]

@@ -5,14 +5,14 @@ use Rattle.std.specs.Prelude.{slice_get, nat_lt, nat_le}
 use Rattle.std.proofs.lemmas.Bool.Decides.{nat_tests}
 use Rattle.std.proofs.lemmas.Option.{slice_get_within}
 use Rattle.std.proofs.lemmas.List.{length-map}
-use Rattle.st_trees.specs.declared.data_type.SimpleType.TheVariants.{Elementary, Named}
-use Rattle.st_types.specs.Scopes.{Name}
-use Rattle.st_types.specs.NameTypes.{Declared}
-use Rattle.st_statics.specs.declared.limits.TheConstants.{MAX_TYPE_DEPTH}
-use Rattle.st_statics.specs.Containment as rules_of
-use Rattle.st_statics.specs.Containment.{Part, has_chain, is_too_deep, contains_itself, leads_to}
-use Rattle.st_statics.specs.Depths.{HasDepth}
-use Rattle.st_statics.proofs.DepthLaws.{cycles_have_chains, chains_are_depths}
+use Rattle.st_types.specs.declared.data_type.SimpleType.TheVariants.{Elementary, Named}
+use Rattle.st_meaning.specs.Scopes.{Name}
+use Rattle.st_meaning.specs.NameTypes.{Declared}
+use Rattle.st_rules.specs.declared.limits.TheConstants.{MAX_TYPE_DEPTH}
+use Rattle.st_rules.specs.Containment as rules_of
+use Rattle.st_rules.specs.Containment.{Part, has_chain, is_too_deep, contains_itself, leads_to}
+use Rattle.st_rules.specs.Depths.{HasDepth}
+use Rattle.st_rules.proofs.DepthLaws.{cycles_have_chains, chains_are_depths}
 use Rattle.st_decl.specs.declared.links.Target.{Target}
 use Rattle.st_decl.specs.declared.links.Target.TheVariants.{Plain, Standard, Node}
 use Rattle.st_decl.specs.declared.links.Link.{Link}

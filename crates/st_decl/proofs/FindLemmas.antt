@@ -7,7 +7,7 @@ use Rattle.std.specs.List.{flat_map, Contains}
 use Rattle.std.proofs.lemmas.List.{map-append, take_more, take-append-drop}
 use Rattle.std.proofs.lemmas.List.Elements.{Contains-append_left, Contains-append_right}
 use Rattle.std.proofs.lemmas.List.Concat.{flat_map-append}
-use Rattle.st_names.specs.Searches.{FindsPlace}
+use Rattle.symbols.specs.Searches.{FindsPlace}
 use Rattle.st_decl.specs.Places.{first}
 
 pub first_finds : (ps : List ℕ) → FindsPlace ps (first ps)

@@ -4,20 +4,20 @@ use Rattle.std.specs.Prelude.{Vec, Result, Ok, Err, IfOk}
 use Rattle.std.specs.declared.alloc.Global.{Global}
 use Rattle.std.specs.List.{flat_map}
 use Rattle.std.proofs.lemmas.List.{map-append, append_assoc}
-use Rattle.st_trees.specs.declared.expression.Expr as code_expr
-use Rattle.st_trees.specs.declared.statement.Stmt as code_stmt
-use Rattle.st_trees.specs.declared.statement.Arm as code_arm
-use Rattle.st_trees.specs.declared.statement.CaseArm as code_case_arm
-use Rattle.st_trees.specs.StatementViews.{stmt_view, stmts_view, arm_view, case_arm_view}
-use Rattle.st_trees.specs.Statements.{arms_of, case_arms_of}
-use Rattle.st_trees.proofs.Bridge.{choose_view, select_view}
-use Rattle.st_trees.specs.Statements.{Stmt, empty, assign, invoke, IF, CASE, FOR, WHILE, REPEAT, EXIT, RETURN, Stmts}
-use Rattle.st_trees.specs.Statements.{no_stmts, stmt_then, Arms, no_arms, arm_then, CaseArms, no_case_arms}
-use Rattle.st_trees.specs.Statements.{case_arm_then, stmts_of}
-use Rattle.st_trees.specs.Units.{OrganisationUnit}
-use Rattle.st_statics.specs.Statements.{Context, Placed, in_for, in_loop, outside, statements_below, statements_of}
-use Rattle.st_statics.specs.Statements.{statements_of_arms, statements_of_case_arms, statements_in}
-use Rattle.st_statics.specs.Containment.{calls_in_statement, calls_of}
+use Rattle.st_types.specs.declared.expression.Expr as code_expr
+use Rattle.st_types.specs.declared.statement.Stmt as code_stmt
+use Rattle.st_types.specs.declared.statement.Arm as code_arm
+use Rattle.st_types.specs.declared.statement.CaseArm as code_case_arm
+use Rattle.st_types.specs.StatementViews.{stmt_view, stmts_view, arm_view, case_arm_view}
+use Rattle.st_types.specs.Statements.{arms_of, case_arms_of}
+use Rattle.st_types.proofs.Bridge.{choose_view, select_view}
+use Rattle.st_types.specs.Statements.{Stmt, empty, assign, invoke, IF, CASE, FOR, WHILE, REPEAT, EXIT, RETURN, Stmts}
+use Rattle.st_types.specs.Statements.{no_stmts, stmt_then, Arms, no_arms, arm_then, CaseArms, no_case_arms}
+use Rattle.st_types.specs.Statements.{case_arm_then, stmts_of}
+use Rattle.st_types.specs.Units.{OrganisationUnit}
+use Rattle.st_rules.specs.Statements.{Context, Placed, in_for, in_loop, outside, statements_below, statements_of}
+use Rattle.st_rules.specs.Statements.{statements_of_arms, statements_of_case_arms, statements_in}
+use Rattle.st_rules.specs.Containment.{calls_in_statement, calls_of}
 use Rattle.st_decl.specs.Flattened.{all_below, all_in, all_in_arms, all_in_case_arms}
 
 abbrev bare : List Placed → List Stmt

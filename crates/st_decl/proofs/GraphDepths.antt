@@ -3,15 +3,15 @@ use Rattle.std.proofs.Common.{◌≡◌, sym, ap, subst, ◌∙◌, ℕ, suc, �
 use Rattle.std.proofs.Common.{Bool, true, false, arith, rules}
 use Rattle.std.specs.Prelude.{slice_get, max, is_some, if◌then◌else◌, option_map}
 use Rattle.std.proofs.lemmas.Option.{slice_get-map}
-use Rattle.st_trees.specs.declared.data_type.SimpleType.{SimpleType}
-use Rattle.st_trees.specs.declared.data_type.SimpleType.TheVariants.{Elementary, Named}
-use Rattle.st_types.specs.Scopes.{Name}
-use Rattle.st_types.specs.StandardBlocks.{block_of}
-use Rattle.st_types.specs.NameTypes.{Declared}
-use Rattle.st_statics.specs.Containment as rules_of
-use Rattle.st_statics.specs.Containment.{Part, parts_of, parts_named, parts_of_standard, part_of_simple}
-use Rattle.st_statics.specs.Depths as depths
-use Rattle.st_statics.specs.Depths.{HasDepth}
+use Rattle.st_types.specs.declared.data_type.SimpleType.{SimpleType}
+use Rattle.st_types.specs.declared.data_type.SimpleType.TheVariants.{Elementary, Named}
+use Rattle.st_meaning.specs.Scopes.{Name}
+use Rattle.st_meaning.specs.StandardBlocks.{block_of}
+use Rattle.st_meaning.specs.NameTypes.{Declared}
+use Rattle.st_rules.specs.Containment as rules_of
+use Rattle.st_rules.specs.Containment.{Part, parts_of, parts_named, parts_of_standard, part_of_simple}
+use Rattle.st_rules.specs.Depths as depths
+use Rattle.st_rules.specs.Depths.{HasDepth}
 use Rattle.st_decl.specs.declared.links.Target.{Target}
 use Rattle.st_decl.specs.declared.links.Target.TheVariants.{Plain, Standard, Node}
 use Rattle.st_decl.specs.declared.links.Link.{Link}

@@ -6,17 +6,17 @@ use Rattle.std.specs.Prelude.{slice_get, option_map, bytes_eq, is_some, if◌the
 use Rattle.std.specs.List.{list_any}
 use Rattle.std.proofs.lemmas.Option.{slice_get-map}
 use Rattle.std.proofs.lemmas.List.{length-map, length-append}
-use Rattle.st_words.specs.declared.identifier.Identifier.{Identifier}
-use Rattle.st_trees.specs.declared.data_type.SimpleType.TheVariants.{Elementary, Named}
-use Rattle.st_types.specs.Scopes.{Name}
-use Rattle.st_types.specs.StandardBlocks.{block_of}
-use Rattle.st_types.specs.NameTypes.{Declared}
-use Rattle.st_statics.specs.Containment as rules_of
-use Rattle.st_statics.specs.Containment.{Part, parts_of, parts_named, parts_of_definition, parts_of_unit}
-use Rattle.st_statics.specs.Containment.{part_of_simple}
-use Rattle.st_statics.specs.Containment.{is_part_named, leads_to, contains_itself}
-use Rattle.st_statics.specs.Depths as depths
-use Rattle.st_statics.specs.Depths.{Holds, holds_part, holds_further}
+use Rattle.st_types.specs.declared.identifier.Identifier.{Identifier}
+use Rattle.st_types.specs.declared.data_type.SimpleType.TheVariants.{Elementary, Named}
+use Rattle.st_meaning.specs.Scopes.{Name}
+use Rattle.st_meaning.specs.StandardBlocks.{block_of}
+use Rattle.st_meaning.specs.NameTypes.{Declared}
+use Rattle.st_rules.specs.Containment as rules_of
+use Rattle.st_rules.specs.Containment.{Part, parts_of, parts_named, parts_of_definition, parts_of_unit}
+use Rattle.st_rules.specs.Containment.{part_of_simple}
+use Rattle.st_rules.specs.Containment.{is_part_named, leads_to, contains_itself}
+use Rattle.st_rules.specs.Depths as depths
+use Rattle.st_rules.specs.Depths.{Holds, holds_part, holds_further}
 use Rattle.st_decl.specs.declared.links.Target.TheVariants.{Plain, Standard, Node}
 use Rattle.st_decl.specs.declared.links.Link.{Link}
 use Rattle.st_decl.specs.Graphs.{Graph, links_at, links_or_none, Among, first, later, Leads, Way, one, further, IsCycle}

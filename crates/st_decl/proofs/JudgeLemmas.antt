@@ -3,15 +3,15 @@ use Rattle.std.proofs.Common.{◌≡◌, sym, ap, subst, ◌∙◌, ℕ, List, �
 use Rattle.std.specs.Prelude.{slice_get, Result, Ok, Err, IfOk}
 use Rattle.std.specs.List.{flat_map}
 use Rattle.std.proofs.lemmas.List.Elements.{Contains-append_left}
-use Rattle.st_trees.specs.Sources.{Source}
-use Rattle.st_trees.specs.declared.data_type.ArrayType.{ArrayType}
-use Rattle.st_types.specs.Scopes.{Name}
-use Rattle.st_trees.specs.Declarations.{TypeDeclaration}
-use Rattle.st_trees.specs.Units.{OrganisationUnit}
-use Rattle.st_types.specs.NameTypes.{Declared, declared_in, types_in, units_in}
-use Rattle.st_statics.specs.DeclaredTypes.{unnamed_arrays_in}
-use Rattle.st_statics.specs.Containment.{too_deep, too_deep_types, too_deep_units, too_deep_array}
-use Rattle.st_names.specs.Searches.{FindsPlace}
+use Rattle.st_types.specs.Sources.{Source}
+use Rattle.st_types.specs.declared.data_type.ArrayType.{ArrayType}
+use Rattle.st_meaning.specs.Scopes.{Name}
+use Rattle.st_types.specs.Declarations.{TypeDeclaration}
+use Rattle.st_types.specs.Units.{OrganisationUnit}
+use Rattle.st_meaning.specs.NameTypes.{Declared, declared_in, types_in, units_in}
+use Rattle.st_rules.specs.DeclaredTypes.{unnamed_arrays_in}
+use Rattle.st_rules.specs.Containment.{too_deep, too_deep_types, too_deep_units, too_deep_array}
+use Rattle.symbols.specs.Searches.{FindsPlace}
 use Rattle.st_decl.specs.declared.depths.Mark.{Mark}
 use Rattle.st_decl.specs.Graphs.{Graph, IsCycle}
 use Rattle.st_decl.specs.Walks.{AllTold}

@@ -4,11 +4,11 @@ use Rattle.std.proofs.Common.{Option, Some, None, Bool, true, false, arith, rule
 use Rattle.std.specs.Prelude.{slice_get, bytes_eq, if◌then◌else◌}
 use Rattle.std.specs.Bool.{Decides}
 use Rattle.std.proofs.lemmas.Slice.Eq.{bytes_eq-Decides}
-use Rattle.st_trees.specs.Declarations.{TypeDefinition, TypeDeclaration}
-use Rattle.st_trees.specs.Units.{OrganisationUnit}
-use Rattle.st_types.specs.Scopes.{Name}
-use Rattle.st_types.specs.NameTypes.{Declared, type_named, unit_named}
-use Rattle.st_statics.specs.Containment.{Part, parts_of_definition, parts_of_unit, parts_of_standard, parts_named}
+use Rattle.st_types.specs.Declarations.{TypeDefinition, TypeDeclaration}
+use Rattle.st_types.specs.Units.{OrganisationUnit}
+use Rattle.st_meaning.specs.Scopes.{Name}
+use Rattle.st_meaning.specs.NameTypes.{Declared, type_named, unit_named}
+use Rattle.st_rules.specs.Containment.{Part, parts_of_definition, parts_of_unit, parts_of_standard, parts_named}
 use Rattle.st_decl.specs.Parts.{node_names, node_parts, number_in, number_of_name}
 
 same_bytes : (r : Bool) (xs ys : List ℕ) → Decides r (xs ≡ ys) → r ≡ true → xs ≡ ys

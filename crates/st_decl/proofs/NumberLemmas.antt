@@ -1,7 +1,7 @@
 -- Names with their numbers.
 use Rattle.std.proofs.Common.{◌≡◌, refl, Option, Some, None, Bool, true, false}
 use Rattle.std.specs.Prelude.{if◌then◌else◌}
-use Rattle.st_names.specs.Found.{or_found}
+use Rattle.symbols.specs.Found.{or_found}
 
 -- what is added behind the others, with what comes behind it
 pub or_step : {T : Type 0} (f : Option T) (b : Bool) (v : T) (r : Option T)

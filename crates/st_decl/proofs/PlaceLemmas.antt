@@ -5,16 +5,16 @@ use Rattle.std.proofs.Common.{Some, None, Bool, true, arith, rules}
 use Rattle.std.specs.Prelude.{slice_get}
 use Rattle.std.specs.List.{flat_map, Contains}
 use Rattle.std.proofs.lemmas.List.Elements.{Contains-append_left, Contains-append_right}
-use Rattle.st_trees.specs.declared.unit.UnitSort.{UnitSort}
-use Rattle.st_trees.specs.declared.unit.UnitSort.TheVariants.{Function, FunctionBlock, Program}
-use Rattle.st_types.specs.Scopes.{Name}
-use Rattle.st_types.specs.NameTypes.{Declared}
-use Rattle.st_statics.specs.Faults.{in_case}
-use Rattle.st_statics.specs.declared.limits.TheConstants.{MAX_TYPE_DEPTH}
-use Rattle.st_statics.specs.Containment as rules_of
-use Rattle.st_statics.specs.Containment.{is_too_deep, contains_itself, is_wrong_unit, too_deep_types, too_deep_units}
-use Rattle.st_statics.specs.Containment.{has_chain}
-use Rattle.st_statics.proofs.DepthLaws.{cycles_have_chains}
+use Rattle.st_types.specs.declared.unit.UnitSort.{UnitSort}
+use Rattle.st_types.specs.declared.unit.UnitSort.TheVariants.{Function, FunctionBlock, Program}
+use Rattle.st_meaning.specs.Scopes.{Name}
+use Rattle.st_meaning.specs.NameTypes.{Declared}
+use Rattle.st_rules.specs.Faults.{in_case}
+use Rattle.st_rules.specs.declared.limits.TheConstants.{MAX_TYPE_DEPTH}
+use Rattle.st_rules.specs.Containment as rules_of
+use Rattle.st_rules.specs.Containment.{is_too_deep, contains_itself, is_wrong_unit, too_deep_types, too_deep_units}
+use Rattle.st_rules.specs.Containment.{has_chain}
+use Rattle.st_rules.proofs.DepthLaws.{cycles_have_chains}
 use Rattle.st_decl.specs.Numbered.{node_places}
 use Rattle.st_decl.proofs.GraphWays.{leads_holds, Cycles}
 

@@ -1,7 +1,7 @@
 -- The mirrors that declarations of the code stand for.
 use Rattle.std.specs.Prelude.{option_map}
-use Rattle.st_trees.specs.InitialViews.{initial_view}
-use Rattle.st_statics.specs.DeclaredTypes.{Role, field, variable_of, global, Declaring}
+use Rattle.st_types.specs.InitialViews.{initial_view}
+use Rattle.st_rules.specs.DeclaredTypes.{Role, field, variable_of, global, Declaring}
 use Rattle.st_decl.specs.declared.declarings.Role as code_role
 use Rattle.st_decl.specs.declared.declarings.Role.TheVariants.{Field, Variable, Global}
 use Rattle.st_decl.specs.declared.declarings.Declaring as code_declaring

@@ -1,7 +1,7 @@
 -- All statements of a body, without the loops that they stand in.
 use Rattle.std.specs.Prelude.{List, [], ◌∷◌, ◌++◌}
-use Rattle.st_trees.specs.Statements.{Stmt, IF, CASE, FOR, WHILE, REPEAT, Stmts, no_stmts, stmt_then, Arms, no_arms}
-use Rattle.st_trees.specs.Statements.{arm_then, CaseArms, no_case_arms, case_arm_then}
+use Rattle.st_types.specs.Statements.{Stmt, IF, CASE, FOR, WHILE, REPEAT, Stmts, no_stmts, stmt_then, Arms, no_arms}
+use Rattle.st_types.specs.Statements.{arm_then, CaseArms, no_case_arms, case_arm_then}
 
 abbrev mutual
   pub all_below : Stmt → List Stmt

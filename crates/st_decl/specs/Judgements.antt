@@ -1,7 +1,7 @@
 -- What judging a text answers of a list of faults.
 use Rattle.std.specs.Prelude.{◌≡◌, List, [], Result, Ok, Err}
 use Rattle.std.specs.List.{Contains}
-use Rattle.st_statics.specs.declared.rule.Broken.{Broken}
+use Rattle.st_rules.specs.declared.rule.Broken.{Broken}
 use Rattle.st_decl.specs.declared.judging.CheckError.{CheckError}
 use Rattle.st_decl.specs.declared.judging.CheckError.TheVariants as errors
 

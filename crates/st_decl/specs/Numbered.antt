@@ -1,8 +1,8 @@
 -- The types and units of a text with their numbers, and the graph that they make.
 use Rattle.std.specs.Prelude.{◌≡◌, ℕ, List, ◌++◌, map, Option, false}
-use Rattle.st_types.specs.Scopes.{Name}
-use Rattle.st_types.specs.NameTypes.{Declared}
-use Rattle.st_statics.specs.Containment.{Part, is_too_deep, contains_itself}
+use Rattle.st_meaning.specs.Scopes.{Name}
+use Rattle.st_meaning.specs.NameTypes.{Declared}
+use Rattle.st_rules.specs.Containment.{Part, is_too_deep, contains_itself}
 use Rattle.st_decl.specs.declared.depths.Mark.{Mark}
 use Rattle.st_decl.specs.Graphs.{Graph}
 use Rattle.st_decl.specs.Parts.{node_parts, number_of_name, link_of}

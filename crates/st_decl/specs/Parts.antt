@@ -1,13 +1,13 @@
 -- The parts of units and types, as numbers of what a text declares.
 use Rattle.std.specs.Prelude.{ℕ, suc, List, [], ◌∷◌, ◌++◌, map, Option, Some, None, is_some, if◌then◌else◌, bytes_eq}
 use Rattle.std.specs.Prelude.{true, false}
-use Rattle.st_trees.specs.declared.data_type.SimpleType.{SimpleType}
-use Rattle.st_trees.specs.declared.data_type.SimpleType.TheVariants.{Elementary, Named}
-use Rattle.st_types.specs.Scopes.{Name}
-use Rattle.st_types.specs.StandardBlocks.{block_of}
-use Rattle.st_types.specs.NameTypes.{Declared}
-use Rattle.st_statics.specs.Containment as rules
-use Rattle.st_statics.specs.Containment.{Part, parts_of_definition, parts_of_unit}
+use Rattle.st_types.specs.declared.data_type.SimpleType.{SimpleType}
+use Rattle.st_types.specs.declared.data_type.SimpleType.TheVariants.{Elementary, Named}
+use Rattle.st_meaning.specs.Scopes.{Name}
+use Rattle.st_meaning.specs.StandardBlocks.{block_of}
+use Rattle.st_meaning.specs.NameTypes.{Declared}
+use Rattle.st_rules.specs.Containment as rules
+use Rattle.st_rules.specs.Containment.{Part, parts_of_definition, parts_of_unit}
 use Rattle.st_decl.specs.declared.parts.Part as code_part
 use Rattle.st_decl.specs.declared.parts.Part.TheVariants as code
 use Rattle.st_decl.specs.declared.links.Target.{Target}

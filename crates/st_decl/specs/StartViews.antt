@@ -1,8 +1,8 @@
 -- The mirrors that initial values with their types stand for.
 use Rattle.std.specs.Prelude.{option_map}
-use Rattle.st_trees.specs.InitialViews.{initial_view}
-use Rattle.st_statics.specs.InitialRules.{Start}
-use Rattle.st_names.specs.PlaceTypes.{place_type_view}
+use Rattle.st_types.specs.InitialViews.{initial_view}
+use Rattle.st_rules.specs.InitialRules.{Start}
+use Rattle.symbols.specs.PlaceTypes.{place_type_view}
 use Rattle.st_decl.specs.declared.starts.Start as code_start
 
 abbrev pub start_view : code_start.Start → Start

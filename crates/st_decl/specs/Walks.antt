@@ -2,7 +2,7 @@
 use Rattle.std.specs.Prelude.{◌≡◌, ℕ, suc, ◌+◌, ◌≤◌, min, length, List, [], take, Bool, true, false}
 use Rattle.std.specs.Prelude.{Option, Some, None, slice_get, nat_lt}
 use Rattle.std.specs.List.{sum_by}
-use Rattle.st_statics.specs.declared.limits.TheConstants.{MAX_TYPE_DEPTH}
+use Rattle.st_rules.specs.declared.limits.TheConstants.{MAX_TYPE_DEPTH}
 use Rattle.st_decl.specs.declared.links.Target.{Target}
 use Rattle.st_decl.specs.declared.links.Target.TheVariants.{Plain, Standard, Node}
 use Rattle.st_decl.specs.declared.links.Link.{Link}

@@ -2,13 +2,13 @@
 
 ghost use Rattle.std.specs.Prelude.{◌≡◌, ◌++◌, map, IfOk};
 ghost use Rattle.std.specs.List.{flat_map};
-ghost use Rattle.st_trees.specs.DeclarationViews.{type_declaration_view, type_definition_view};
-ghost use Rattle.st_trees.specs.SourceViews.{element_view, source_view};
-ghost use Rattle.st_statics.specs.DeclaredTypes.{array_of_definition, array_of_type, named_arrays_of_element};
+ghost use Rattle.st_types.specs.DeclarationViews.{type_declaration_view, type_definition_view};
+ghost use Rattle.st_types.specs.SourceViews.{element_view, source_view};
+ghost use Rattle.st_rules.specs.DeclaredTypes.{array_of_definition, array_of_type, named_arrays_of_element};
 ghost use Rattle.st_decl.specs.DeclaringViews.{declaring_view};
 
 use crate::declarings::Declaring;
-use st_trees::{ArrayType, LibraryElement, Source, TypeDeclaration, TypeDefinition, VariableType};
+use st_types::{ArrayType, LibraryElement, Source, TypeDeclaration, TypeDefinition, VariableType};
 use std::alloc::{AllocError, Global};
 
 fn push_definition<'a>(

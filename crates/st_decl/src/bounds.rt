@@ -2,14 +2,13 @@
 
 ghost use Rattle.std.specs.Prelude.{◌≡◌, ◌++◌, ◌≤ℤ◌, ◌^◌, neg_ℤ, pos, map, IfOk};
 ghost use Rattle.std.specs.List.{flat_map};
-ghost use Rattle.st_types.specs.Operators.{number_of};
-ghost use Rattle.st_statics.specs.TypeRules.{elements_of_array, has_wrong_bounds, wrong_bounds};
+ghost use Rattle.st_meaning.specs.Operators.{number_of};
+ghost use Rattle.st_rules.specs.TypeRules.{elements_of_array, has_wrong_bounds, wrong_bounds};
 
 use crate::places::push_in_case;
-use st_statics::limits::MAX_ELEMENTS;
-use st_trees::ArrayType;
-use st_types::number_of;
-use st_words::Number;
+use st_meaning::number_of;
+use st_rules::limits::MAX_ELEMENTS;
+use st_types::{ArrayType, Number};
 use std::alloc::AllocError;
 
 /// The number of a bound, of at most 64 bits.

@@ -2,18 +2,17 @@
 
 ghost use Rattle.std.specs.Prelude.{◌≡◌, ◌∷◌, ◌++◌, [], map, option_map, IfOk};
 ghost use Rattle.std.specs.List.{flat_map};
-ghost use Rattle.st_trees.specs.Expressions.{exprs_of, selectors_of};
-ghost use Rattle.st_trees.specs.Statements.{arms_of};
-ghost use Rattle.st_trees.specs.ExpressionViews.{expr_view, variable_view, selector_view};
-ghost use Rattle.st_trees.specs.StatementViews.{argument_view, stmt_view, arm_view};
-ghost use Rattle.st_trees.specs.UnitViews.{unit_view};
-ghost use Rattle.st_statics.specs.Containment.{calls_in, calls_in_all, calls_in_variable, calls_in_selectors};
-ghost use Rattle.st_statics.specs.Containment.{calls_in_selector, calls_in_argument, calls_in_conditions};
-ghost use Rattle.st_statics.specs.Containment.{calls_in_step, calls_in_statement, calls_of};
+ghost use Rattle.st_types.specs.Expressions.{exprs_of, selectors_of};
+ghost use Rattle.st_types.specs.Statements.{arms_of};
+ghost use Rattle.st_types.specs.ExpressionViews.{expr_view, variable_view, selector_view};
+ghost use Rattle.st_types.specs.StatementViews.{argument_view, stmt_view, arm_view};
+ghost use Rattle.st_types.specs.UnitViews.{unit_view};
+ghost use Rattle.st_rules.specs.Containment.{calls_in, calls_in_all, calls_in_variable, calls_in_selectors};
+ghost use Rattle.st_rules.specs.Containment.{calls_in_selector, calls_in_argument, calls_in_conditions};
+ghost use Rattle.st_rules.specs.Containment.{calls_in_step, calls_in_statement, calls_of};
 
 use crate::statements::all_in;
-use st_trees::{Argument, Arm, Expr, Selector, Stmt, Unit, Variable};
-use st_words::Identifier;
+use st_types::{Argument, Arm, Expr, Identifier, Selector, Stmt, Unit, Variable};
 use std::alloc::{AllocError, Global};
 
 #[cycle(push_expr)]

@@ -2,18 +2,18 @@
 
 ghost use Rattle.std.specs.Prelude.{◌≡◌, ◌++◌, ℕ, List, map, IfOk};
 ghost use Rattle.std.specs.List.{flat_map};
-ghost use Rattle.st_trees.specs.SourceViews.{source_view};
-ghost use Rattle.st_types.specs.NameTypes.{Declared, declared_in};
-ghost use Rattle.st_statics.specs.declared.rule.Rule.TheVariants.{DeclaredTwice, TooDeep, WrongBounds, RetainedAddress};
-ghost use Rattle.st_statics.specs.DeclaredTypes.{declarings_in, arrays_in, unnamed_arrays_in};
-ghost use Rattle.st_statics.specs.Faults.{breaking, Finds};
-ghost use Rattle.st_statics.specs.TwiceDeclared.{twice_declared};
-ghost use Rattle.st_statics.specs.Containment.{too_deep};
-ghost use Rattle.st_statics.specs.TypeRules.{wrong_bounds, retained_addresses_of};
-ghost use Rattle.st_statics.specs.InitialRules.{too_long};
-ghost use Rattle.st_statics.specs.Rules.{starts_in, wrong_declarations};
-ghost use Rattle.st_names.specs.Searches.{FindsPlace};
-ghost use Rattle.st_names.specs.Texts.{ServesText};
+ghost use Rattle.st_types.specs.SourceViews.{source_view};
+ghost use Rattle.st_meaning.specs.NameTypes.{Declared, declared_in};
+ghost use Rattle.st_rules.specs.declared.rule.Rule.TheVariants.{DeclaredTwice, TooDeep, WrongBounds, RetainedAddress};
+ghost use Rattle.st_rules.specs.DeclaredTypes.{declarings_in, arrays_in, unnamed_arrays_in};
+ghost use Rattle.st_rules.specs.Faults.{breaking, Finds};
+ghost use Rattle.st_rules.specs.TwiceDeclared.{twice_declared};
+ghost use Rattle.st_rules.specs.Containment.{too_deep};
+ghost use Rattle.st_rules.specs.TypeRules.{wrong_bounds, retained_addresses_of};
+ghost use Rattle.st_rules.specs.InitialRules.{too_long};
+ghost use Rattle.st_rules.specs.Rules.{starts_in, wrong_declarations};
+ghost use Rattle.symbols.specs.Searches.{FindsPlace};
+ghost use Rattle.symbols.specs.Texts.{ServesText};
 ghost use Rattle.st_decl.specs.DeclaringViews.{declaring_view};
 ghost use Rattle.st_decl.specs.Judgements.{Judges};
 ghost use Rattle.st_decl.specs.StartViews.{start_view};
@@ -28,10 +28,10 @@ use crate::retained::retained_addresses;
 use crate::starts::{Start, starts_of};
 use crate::too_deep::first_too_deep;
 use crate::twice_declared::declared_twice;
-use st_names::{FieldNames, TextNames};
-use st_statics::{Broken, Rule};
-use st_trees::{ArrayType, Source};
+use st_rules::{Broken, Rule};
+use st_types::{ArrayType, Source};
 use std::alloc::{AllocError, Global};
+use symbols::{FieldNames, TextNames};
 
 /// One of the places, where there are any.
 fn first_of(places: &[usize]) -> Option<usize>

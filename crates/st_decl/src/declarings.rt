@@ -2,17 +2,17 @@
 
 ghost use Rattle.std.specs.Prelude.{◌≡◌, ◌++◌, map, IfOk};
 ghost use Rattle.std.specs.List.{flat_map};
-ghost use Rattle.st_trees.specs.DeclarationViews.{field_view, type_declaration_view, type_definition_view};
-ghost use Rattle.st_trees.specs.DeclarationViews.{declaration_view, variable_block_view};
-ghost use Rattle.st_trees.specs.UnitViews.{unit_view};
-ghost use Rattle.st_trees.specs.ConfigurationViews.{global_declaration_view, global_block_view, configuration_view};
-ghost use Rattle.st_trees.specs.SourceViews.{element_view, source_view};
-ghost use Rattle.st_statics.specs.DeclaredTypes as rules;
-ghost use Rattle.st_statics.specs.DeclaredTypes.{declarings_of_definition, declarings_of_block, declarings_of_globals};
-ghost use Rattle.st_statics.specs.DeclaredTypes.{declarings_of_element, declarings_in};
+ghost use Rattle.st_types.specs.DeclarationViews.{field_view, type_declaration_view, type_definition_view};
+ghost use Rattle.st_types.specs.DeclarationViews.{declaration_view, variable_block_view};
+ghost use Rattle.st_types.specs.UnitViews.{unit_view};
+ghost use Rattle.st_types.specs.ConfigurationViews.{global_declaration_view, global_block_view, configuration_view};
+ghost use Rattle.st_types.specs.SourceViews.{element_view, source_view};
+ghost use Rattle.st_rules.specs.DeclaredTypes as rules;
+ghost use Rattle.st_rules.specs.DeclaredTypes.{declarings_of_definition, declarings_of_block, declarings_of_globals};
+ghost use Rattle.st_rules.specs.DeclaredTypes.{declarings_of_element, declarings_in};
 ghost use Rattle.st_decl.specs.DeclaringViews.{declaring_view};
 
-use st_trees::{
+use st_types::{
     Configuration, Declaration, Field, GlobalBlock, GlobalDeclaration, Initial, LibraryElement,
     Section, Source, TypeDeclaration, TypeDefinition, Unit, UnitSort, VariableBlock, VariableType,
 };

@@ -7,7 +7,7 @@ ghost use Rattle.st_decl.specs.Walks.{seen_of, seen_of_target, deeper, MarksTell
 ghost use Rattle.st_decl.specs.Walks.{is_on_path, is_unseen, AreTold, AreDepths};
 
 use crate::links::{Link, Target};
-use st_statics::limits::MAX_TYPE_DEPTH;
+use st_rules::limits::MAX_TYPE_DEPTH;
 use std::alloc::{AllocError, Global};
 
 /// What the walk knows of a type or unit.

@@ -1,12 +1,12 @@
 //! The types and the units of a text, each as one list.
 
 ghost use Rattle.std.specs.Prelude.{◌≡◌, ◌++◌, map, IfOk};
-ghost use Rattle.st_trees.specs.DeclarationViews.{type_declaration_view};
-ghost use Rattle.st_trees.specs.UnitViews.{unit_view};
-ghost use Rattle.st_trees.specs.SourceViews.{element_view, source_view};
-ghost use Rattle.st_types.specs.NameTypes.{types_in, units_in};
+ghost use Rattle.st_types.specs.DeclarationViews.{type_declaration_view};
+ghost use Rattle.st_types.specs.UnitViews.{unit_view};
+ghost use Rattle.st_types.specs.SourceViews.{element_view, source_view};
+ghost use Rattle.st_meaning.specs.NameTypes.{types_in, units_in};
 
-use st_trees::{LibraryElement, Source, TypeDeclaration, Unit};
+use st_types::{LibraryElement, Source, TypeDeclaration, Unit};
 use std::alloc::{AllocError, Global};
 
 fn push_types<'a>(

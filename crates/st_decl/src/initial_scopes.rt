@@ -1,13 +1,12 @@
 //! The scopes inside initial values: each structure is one, of the fields that it names.
 
 ghost use Rattle.std.specs.Prelude.{◌≡◌, ◌∷◌, ◌++◌, map, option_map, IfOk};
-ghost use Rattle.st_trees.specs.Initials.{elements_of, members_of};
-ghost use Rattle.st_trees.specs.InitialViews.{initial_view, element_view, member_view};
-ghost use Rattle.st_statics.specs.InitialScopes.{names_of_members, scopes_in_initial, scopes_in_list};
-ghost use Rattle.st_statics.specs.InitialScopes.{scopes_in_list_element, scopes_in_members, scopes_in_optional};
+ghost use Rattle.st_types.specs.Initials.{elements_of, members_of};
+ghost use Rattle.st_types.specs.InitialViews.{initial_view, element_view, member_view};
+ghost use Rattle.st_rules.specs.InitialScopes.{names_of_members, scopes_in_initial, scopes_in_list};
+ghost use Rattle.st_rules.specs.InitialScopes.{scopes_in_list_element, scopes_in_members, scopes_in_optional};
 
-use st_trees::{Initial, InitialElement, InitialMember};
-use st_words::Identifier;
+use st_types::{Identifier, Initial, InitialElement, InitialMember};
 use std::alloc::{AllocError, Global};
 
 /// The fields that a structure names.

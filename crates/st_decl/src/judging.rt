@@ -1,10 +1,10 @@
 //! What judging a text answers.
 
 ghost use Rattle.std.specs.Prelude.{◌≡◌, ℕ, List};
-ghost use Rattle.st_statics.specs.Faults.{breaking, Finds};
-ghost use Rattle.st_names.specs.Searches.{FindsPlace};
+ghost use Rattle.st_rules.specs.Faults.{breaking, Finds};
+ghost use Rattle.symbols.specs.Searches.{FindsPlace};
 
-use st_statics::{Broken, Rule};
+use st_rules::{Broken, Rule};
 use thiserror::Error;
 
 /// Why a text is not accepted.

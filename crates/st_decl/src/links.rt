@@ -1,20 +1,19 @@
 //! What a part leads to, by numbers.
 
 ghost use Rattle.std.specs.Prelude.{◌≡◌, ◌++◌, map, IfOk, List, ℕ, bytes_eq};
-ghost use Rattle.st_trees.specs.DeclarationViews.{type_declaration_view, type_definition_view};
-ghost use Rattle.st_trees.specs.UnitViews.{unit_view};
-ghost use Rattle.st_types.specs.NameTypes.{Declared};
-ghost use Rattle.st_statics.specs.Containment.{Part, parts_of_definition, parts_of_unit};
-ghost use Rattle.st_names.specs.Found.{found};
-ghost use Rattle.st_names.specs.Texts.{ServesText};
+ghost use Rattle.st_types.specs.DeclarationViews.{type_declaration_view, type_definition_view};
+ghost use Rattle.st_types.specs.UnitViews.{unit_view};
+ghost use Rattle.st_meaning.specs.NameTypes.{Declared};
+ghost use Rattle.st_rules.specs.Containment.{Part, parts_of_definition, parts_of_unit};
+ghost use Rattle.symbols.specs.Found.{found};
+ghost use Rattle.symbols.specs.Texts.{ServesText};
 ghost use Rattle.st_decl.specs.Parts.{part_view, number_in, number_of_name, target_of_name, target_of_simple, link_of, node_parts};
 
 use crate::parts::{Part, parts_of_definition, parts_of_unit};
 use crate::standard::is_block;
-use st_names::{Index, TextNames};
-use st_trees::{SimpleType, TypeDeclaration, Unit};
-use st_words::Name;
+use st_types::{Name, SimpleType, TypeDeclaration, Unit};
 use std::alloc::{AllocError, Global};
+use symbols::{Index, TextNames};
 
 /// What a name leads to.
 #[derive(Clone, Copy)]

@@ -2,22 +2,21 @@
 
 ghost use Rattle.std.specs.Prelude.{◌≡◌, ◌++◌, map, nat_lt, option_map, IfOk};
 ghost use Rattle.std.specs.List.{flat_map};
-ghost use Rattle.st_trees.specs.Initials.{elements_of};
-ghost use Rattle.st_trees.specs.InitialViews.{initial_view, element_view};
-ghost use Rattle.st_types.specs.NameTypes.{Declared};
-ghost use Rattle.st_types.specs.Operators.{number_of, natural};
-ghost use Rattle.st_statics.specs.InitialRules.{count_of_element, count_of_elements, is_too_long, too_long_list, too_long};
-ghost use Rattle.st_names.specs.Texts.{ServesText};
+ghost use Rattle.st_types.specs.Initials.{elements_of};
+ghost use Rattle.st_types.specs.InitialViews.{initial_view, element_view};
+ghost use Rattle.st_meaning.specs.NameTypes.{Declared};
+ghost use Rattle.st_meaning.specs.Operators.{number_of, natural};
+ghost use Rattle.st_rules.specs.InitialRules.{count_of_element, count_of_elements, is_too_long, too_long_list, too_long};
+ghost use Rattle.symbols.specs.Texts.{ServesText};
 ghost use Rattle.st_decl.specs.StartViews.{start_view};
 
 use crate::bounds::elements_of_array;
 use crate::started::array_at;
 use crate::starts::Start;
-use st_names::TextNames;
-use st_trees::{ArrayType, Initial, InitialElement};
-use st_types::number_of;
-use st_words::Number;
+use st_meaning::number_of;
+use st_types::{ArrayType, Initial, InitialElement, Number};
 use std::alloc::AllocError;
+use symbols::TextNames;
 
 /// A number of elements; a negative one stands for none.
 fn natural(number: &Number) -> u128

@@ -2,7 +2,7 @@
 
 ghost use Rattle.std.specs.Prelude.{◌≡◌, ◌++◌, map, IfOk};
 
-use st_words::Identifier;
+use st_types::Identifier;
 use std::alloc::AllocError;
 
 /// Appends names to a scope.

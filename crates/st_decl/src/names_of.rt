@@ -2,21 +2,20 @@
 
 ghost use Rattle.std.specs.Prelude.{◌≡◌, ◌++◌, map, IfOk};
 ghost use Rattle.std.specs.List.{flat_map};
-ghost use Rattle.st_trees.specs.DeclarationViews.{field_view, type_declaration_view, declaration_view};
-ghost use Rattle.st_trees.specs.DeclarationViews.{variable_block_view};
-ghost use Rattle.st_trees.specs.UnitViews.{unit_view};
-ghost use Rattle.st_trees.specs.ConfigurationViews.{global_declaration_view, global_block_view, resource_view};
-ghost use Rattle.st_trees.specs.ConfigurationViews.{configuration_view};
-ghost use Rattle.st_trees.specs.SourceViews.{element_view};
-ghost use Rattle.st_statics.specs.NameScopes.{names_of_element, variables_of_block, variables_of, variables_of_element};
-ghost use Rattle.st_statics.specs.NameScopes.{listed_names, globals_of_block, globals_of, names_in};
+ghost use Rattle.st_types.specs.DeclarationViews.{field_view, type_declaration_view, declaration_view};
+ghost use Rattle.st_types.specs.DeclarationViews.{variable_block_view};
+ghost use Rattle.st_types.specs.UnitViews.{unit_view};
+ghost use Rattle.st_types.specs.ConfigurationViews.{global_declaration_view, global_block_view, resource_view};
+ghost use Rattle.st_types.specs.ConfigurationViews.{configuration_view};
+ghost use Rattle.st_types.specs.SourceViews.{element_view};
+ghost use Rattle.st_rules.specs.NameScopes.{names_of_element, variables_of_block, variables_of, variables_of_element};
+ghost use Rattle.st_rules.specs.NameScopes.{listed_names, globals_of_block, globals_of, names_in};
 
 use crate::names::push_names;
-use st_trees::{
-    Configuration, Declaration, Field, GlobalBlock, GlobalDeclaration, GlobalNames, Instance,
-    LibraryElement, Resource, Task, TypeDeclaration, Unit, VariableBlock,
+use st_types::{
+    Configuration, Declaration, Field, GlobalBlock, GlobalDeclaration, GlobalNames, Identifier,
+    Instance, LibraryElement, Resource, Task, TypeDeclaration, Unit, VariableBlock,
 };
-use st_words::Identifier;
 use std::alloc::{AllocError, Global};
 
 fn push_type_names<'a>(

@@ -2,25 +2,24 @@
 
 ghost use Rattle.std.specs.Prelude.{◌≡◌, ◌++◌, ◌∷◌, [], map, filter, IfOk, is_some};
 ghost use Rattle.std.specs.List.{flat_map};
-ghost use Rattle.st_trees.specs.DeclarationViews.{field_view, type_definition_view, declaration_view};
-ghost use Rattle.st_trees.specs.DeclarationViews.{variable_block_view};
-ghost use Rattle.st_trees.specs.UnitViews.{unit_view};
-ghost use Rattle.st_types.specs.Bodies.{is_external};
-ghost use Rattle.st_types.specs.NameTypes.{Declared, unit_named};
-ghost use Rattle.st_statics.specs.Containment as rules;
-ghost use Rattle.st_statics.specs.Containment.{part_of_simple, part_of_type, parts_of_block, part_of_result};
-ghost use Rattle.st_statics.specs.Containment.{is_function, parts_of_unit, parts_of_definition};
-ghost use Rattle.st_names.specs.Texts.{ServesText};
+ghost use Rattle.st_types.specs.DeclarationViews.{field_view, type_definition_view, declaration_view};
+ghost use Rattle.st_types.specs.DeclarationViews.{variable_block_view};
+ghost use Rattle.st_types.specs.UnitViews.{unit_view};
+ghost use Rattle.st_meaning.specs.Bodies.{is_external};
+ghost use Rattle.st_meaning.specs.NameTypes.{Declared, unit_named};
+ghost use Rattle.st_rules.specs.Containment as rules;
+ghost use Rattle.st_rules.specs.Containment.{part_of_simple, part_of_type, parts_of_block, part_of_result};
+ghost use Rattle.st_rules.specs.Containment.{is_function, parts_of_unit, parts_of_definition};
+ghost use Rattle.symbols.specs.Texts.{ServesText};
 ghost use Rattle.st_decl.specs.Parts.{part_view};
 
 use crate::calls::calls_of;
-use st_names::TextNames;
-use st_trees::{
-    ArrayType, Field, Section, SimpleType, TypeDefinition, Unit, UnitSort, VariableBlock,
-    VariableType,
+use st_types::{
+    ArrayType, Field, Identifier, Name, Section, SimpleType, TypeDefinition, Unit, UnitSort,
+    VariableBlock, VariableType,
 };
-use st_words::{Identifier, Name};
 use std::alloc::{AllocError, Global};
+use symbols::TextNames;
 
 /// A part of a unit or a type.
 #[derive(Clone, Copy)]

@@ -1,7 +1,7 @@
 //! Places of what is wrong.
 
 ghost use Rattle.std.specs.Prelude.{◌≡◌, ◌++◌, IfOk};
-ghost use Rattle.st_statics.specs.Faults.{in_case};
+ghost use Rattle.st_rules.specs.Faults.{in_case};
 
 use std::alloc::AllocError;
 

@@ -2,11 +2,11 @@
 
 ghost use Rattle.std.specs.Prelude.{◌≡◌, ◌++◌, map, IfOk};
 ghost use Rattle.std.specs.List.{flat_map};
-ghost use Rattle.st_trees.specs.ConfigurationViews.{global_declaration_view, global_block_view, configuration_view};
-ghost use Rattle.st_trees.specs.SourceViews.{element_view, source_view};
-ghost use Rattle.st_statics.specs.TypeRules.{retained_address, retained_addresses_of};
+ghost use Rattle.st_types.specs.ConfigurationViews.{global_declaration_view, global_block_view, configuration_view};
+ghost use Rattle.st_types.specs.SourceViews.{element_view, source_view};
+ghost use Rattle.st_rules.specs.TypeRules.{retained_address, retained_addresses_of};
 
-use st_trees::{
+use st_types::{
     Configuration, GlobalBlock, GlobalDeclaration, GlobalNames, GlobalQualifier, LibraryElement,
     Source,
 };

@@ -2,26 +2,25 @@
 
 ghost use Rattle.std.specs.Prelude.{◌≡◌, ◌∷◌, ◌++◌, [], map, IfOk};
 ghost use Rattle.std.specs.List.{flat_map};
-ghost use Rattle.st_trees.specs.DeclarationViews.{field_view, type_declaration_view, type_definition_view};
-ghost use Rattle.st_trees.specs.DeclarationViews.{declaration_view, variable_block_view};
-ghost use Rattle.st_trees.specs.UnitViews.{unit_view};
-ghost use Rattle.st_trees.specs.ConfigurationViews.{global_declaration_view, global_block_view, resource_view};
-ghost use Rattle.st_trees.specs.ConfigurationViews.{configuration_view};
-ghost use Rattle.st_trees.specs.SourceViews.{element_view, source_view};
-ghost use Rattle.st_statics.specs.InitialScopes.{scopes_in_optional};
-ghost use Rattle.st_statics.specs.NameScopes.{scopes_of_type, scopes_in_variables, scopes_in_globals, names_in};
-ghost use Rattle.st_statics.specs.NameScopes.{scopes_of_element, scopes_of};
+ghost use Rattle.st_types.specs.DeclarationViews.{field_view, type_declaration_view, type_definition_view};
+ghost use Rattle.st_types.specs.DeclarationViews.{declaration_view, variable_block_view};
+ghost use Rattle.st_types.specs.UnitViews.{unit_view};
+ghost use Rattle.st_types.specs.ConfigurationViews.{global_declaration_view, global_block_view, resource_view};
+ghost use Rattle.st_types.specs.ConfigurationViews.{configuration_view};
+ghost use Rattle.st_types.specs.SourceViews.{element_view, source_view};
+ghost use Rattle.st_rules.specs.InitialScopes.{scopes_in_optional};
+ghost use Rattle.st_rules.specs.NameScopes.{scopes_of_type, scopes_in_variables, scopes_in_globals, names_in};
+ghost use Rattle.st_rules.specs.NameScopes.{scopes_of_element, scopes_of};
 
 use crate::initial_scopes::push_optional;
 use crate::names::push_names;
 use crate::names_of::{
     globals_of, names_in, names_of_fields, names_of_resources, names_of_text, variables_of,
 };
-use st_trees::{
-    Configuration, Declaration, Field, GlobalBlock, GlobalDeclaration, LibraryElement, Resource,
-    Source, TypeDeclaration, TypeDefinition, Unit, VariableBlock,
+use st_types::{
+    Configuration, Declaration, Field, GlobalBlock, GlobalDeclaration, Identifier, LibraryElement,
+    Resource, Source, TypeDeclaration, TypeDefinition, Unit, VariableBlock,
 };
-use st_words::Identifier;
 use std::alloc::{AllocError, Global};
 
 /// The scopes in the initial values of fields.

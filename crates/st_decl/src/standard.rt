@@ -1,12 +1,12 @@
 //! Names that the standard takes.
 
 ghost use Rattle.std.specs.Prelude.{◌≡◌, is_some};
-ghost use Rattle.st_types.specs.StandardBlocks.{block_of};
-ghost use Rattle.st_types.specs.StandardFunctions.{standard_of};
-ghost use Rattle.st_statics.specs.TwiceDeclared.{is_standard};
+ghost use Rattle.st_meaning.specs.StandardBlocks.{block_of};
+ghost use Rattle.st_meaning.specs.StandardFunctions.{standard_of};
+ghost use Rattle.st_rules.specs.TwiceDeclared.{is_standard};
 
-use st_names::{standard_block, standard_function};
-use st_words::Name;
+use st_types::Name;
+use symbols::{standard_block, standard_function};
 
 /// Whether the name is one of a standard block.
 #[tactic(auto, using(crate::proofs::StandardLemmas::is_some_seen))]

@@ -1,16 +1,15 @@
 //! The types of what initial values are for: those of elements and fields, found on the way down.
 
 ghost use Rattle.std.specs.Prelude.{◌≡◌, option_map};
-ghost use Rattle.st_types.specs.NameTypes.{Declared, definition_of};
-ghost use Rattle.st_types.specs.ResolvedUnits.{element_of, field_of};
-ghost use Rattle.st_statics.specs.InitialRules.{array_in, definition_at};
-ghost use Rattle.st_names.specs.Texts.{ServesText};
-ghost use Rattle.st_names.specs.Fields.{ServesFields};
-ghost use Rattle.st_names.specs.PlaceTypes.{place_type_view};
+ghost use Rattle.st_meaning.specs.NameTypes.{Declared, definition_of};
+ghost use Rattle.st_meaning.specs.ResolvedUnits.{element_of, field_of};
+ghost use Rattle.st_rules.specs.InitialRules.{array_in, definition_at};
+ghost use Rattle.symbols.specs.Texts.{ServesText};
+ghost use Rattle.symbols.specs.Fields.{ServesFields};
+ghost use Rattle.symbols.specs.PlaceTypes.{place_type_view};
 
-use st_names::{FieldNames, PlaceType, TextNames, place_type};
-use st_trees::{ArrayType, SimpleType, TypeDefinition};
-use st_words::Name;
+use st_types::{ArrayType, Name, SimpleType, TypeDefinition};
+use symbols::{FieldNames, PlaceType, TextNames, place_type};
 
 /// The array that a declared type is.
 fn array_of<'a>(names: &TextNames<'a>, declared: PlaceType<'a>) -> Option<&'a ArrayType>

@@ -2,25 +2,26 @@
 
 ghost use Rattle.std.specs.Prelude.{◌≡◌, ◌++◌, ◌∷◌, map, option_map, Some, if◌then◌else◌, [], IfOk};
 ghost use Rattle.std.specs.List.{flat_map};
-ghost use Rattle.st_trees.specs.Initials.{elements_of, members_of};
-ghost use Rattle.st_trees.specs.InitialViews.{initial_view, element_view, member_view};
-ghost use Rattle.st_types.specs.NameTypes.{Declared, unit_named};
-ghost use Rattle.st_statics.specs.Environments.{is_block_type, is_own_block};
-ghost use Rattle.st_statics.specs.InitialRules.{start, starts_below, starts_of_element, starts_of_elements};
-ghost use Rattle.st_statics.specs.InitialRules.{starts_of_members, starts_of, starts_of_declaring};
-ghost use Rattle.st_names.specs.Texts.{ServesText};
-ghost use Rattle.st_names.specs.Fields.{ServesFields};
+ghost use Rattle.st_types.specs.Initials.{elements_of, members_of};
+ghost use Rattle.st_types.specs.InitialViews.{initial_view, element_view, member_view};
+ghost use Rattle.st_meaning.specs.NameTypes.{Declared, unit_named};
+ghost use Rattle.st_rules.specs.Environments.{is_block_type, is_own_block};
+ghost use Rattle.st_rules.specs.InitialRules.{start, starts_below, starts_of_element, starts_of_elements};
+ghost use Rattle.st_rules.specs.InitialRules.{starts_of_members, starts_of, starts_of_declaring};
+ghost use Rattle.symbols.specs.Texts.{ServesText};
+ghost use Rattle.symbols.specs.Fields.{ServesFields};
 ghost use Rattle.st_decl.specs.DeclaringViews.{declaring_view};
-ghost use Rattle.st_names.specs.PlaceTypes.{place_type_view};
+ghost use Rattle.symbols.specs.PlaceTypes.{place_type_view};
 ghost use Rattle.st_decl.specs.StartViews.{start_view};
 
 use crate::declarings::Declaring;
 use crate::standard::is_block;
 use crate::started::{element_of, field_of};
-use st_names::{FieldNames, PlaceType, TextNames, place_type};
-use st_trees::{Initial, InitialElement, InitialMember, SimpleType, Unit, UnitSort, VariableType};
-use st_words::Name;
+use st_types::{
+    Initial, InitialElement, InitialMember, Name, SimpleType, Unit, UnitSort, VariableType,
+};
 use std::alloc::{AllocError, Global};
+use symbols::{FieldNames, PlaceType, TextNames, place_type};
 
 /// An initial value, or one inside another, with the type of what it is for.
 #[derive(Clone, Copy)]

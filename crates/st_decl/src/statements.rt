@@ -1,11 +1,11 @@
 //! The statements of a body with those inside them, as one list.
 
 ghost use Rattle.std.specs.Prelude.{◌≡◌, ◌∷◌, ◌++◌, map, IfOk};
-ghost use Rattle.st_trees.specs.Statements.{arms_of, case_arms_of};
-ghost use Rattle.st_trees.specs.StatementViews.{stmt_view, stmts_view, arm_view, case_arm_view};
+ghost use Rattle.st_types.specs.Statements.{arms_of, case_arms_of};
+ghost use Rattle.st_types.specs.StatementViews.{stmt_view, stmts_view, arm_view, case_arm_view};
 ghost use Rattle.st_decl.specs.Flattened.{all_below, all_in, all_in_arms, all_in_case_arms};
 
-use st_trees::{Arm, CaseArm, Stmt};
+use st_types::{Arm, CaseArm, Stmt};
 use std::alloc::{AllocError, Global};
 
 /// Appends the statements of a body.

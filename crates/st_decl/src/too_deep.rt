@@ -2,16 +2,16 @@
 
 ghost use Rattle.std.specs.Prelude.{◌≡◌, ◌++◌, map, IfOk, slice_get};
 ghost use Rattle.std.specs.List.{flat_map};
-ghost use Rattle.st_trees.specs.DeclarationViews.{type_declaration_view};
-ghost use Rattle.st_trees.specs.UnitViews.{unit_view};
-ghost use Rattle.st_trees.specs.SourceViews.{source_view};
-ghost use Rattle.st_types.specs.NameTypes.{Declared, declared_in, types_in, units_in};
-ghost use Rattle.st_statics.specs.DeclaredTypes.{unnamed_arrays_in};
-ghost use Rattle.st_statics.specs.Faults.{in_case};
-ghost use Rattle.st_statics.specs.Containment as rules;
-ghost use Rattle.st_statics.specs.Containment.{is_too_deep, is_wrong_unit, too_deep_types, too_deep_units, too_deep_array, too_deep};
-ghost use Rattle.st_names.specs.Found.{found};
-ghost use Rattle.st_names.specs.Searches.{FindsPlace};
+ghost use Rattle.st_types.specs.DeclarationViews.{type_declaration_view};
+ghost use Rattle.st_types.specs.UnitViews.{unit_view};
+ghost use Rattle.st_types.specs.SourceViews.{source_view};
+ghost use Rattle.st_meaning.specs.NameTypes.{Declared, declared_in, types_in, units_in};
+ghost use Rattle.st_rules.specs.DeclaredTypes.{unnamed_arrays_in};
+ghost use Rattle.st_rules.specs.Faults.{in_case};
+ghost use Rattle.st_rules.specs.Containment as rules;
+ghost use Rattle.st_rules.specs.Containment.{is_too_deep, is_wrong_unit, too_deep_types, too_deep_units, too_deep_array, too_deep};
+ghost use Rattle.symbols.specs.Found.{found};
+ghost use Rattle.symbols.specs.Searches.{FindsPlace};
 ghost use Rattle.st_decl.specs.Places.{first};
 ghost use Rattle.st_decl.specs.Parts.{link_of, node_parts};
 ghost use Rattle.st_decl.specs.Walks.{is_deep, AreDepths};
@@ -22,11 +22,10 @@ use crate::elements::{types_in, units_in};
 use crate::links::{Link, link_of, links_in, numbers_of};
 use crate::parts::Part;
 use crate::places::push_in_case;
-use st_names::{Index, TextNames};
-use st_statics::limits::MAX_TYPE_DEPTH;
-use st_trees::{ArrayType, Source, TypeDeclaration, Unit, UnitSort};
-use st_words::Name;
+use st_rules::limits::MAX_TYPE_DEPTH;
+use st_types::{ArrayType, Name, Source, TypeDeclaration, Unit, UnitSort};
 use std::alloc::{AllocError, Global};
+use symbols::{Index, TextNames};
 
 /// Whether what a link leads to is over 64 deep.
 fn is_deep(marks: &[Mark], link: Link) -> bool

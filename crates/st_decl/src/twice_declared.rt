@@ -2,23 +2,22 @@
 
 ghost use Rattle.std.specs.Prelude.{◌≡◌, ◌++◌, ℕ, List, map, is_some, IfOk};
 ghost use Rattle.std.specs.List.{flat_map, list_any};
-ghost use Rattle.st_trees.specs.SourceViews.{source_view};
-ghost use Rattle.st_types.specs.NameTypes.{is_named};
-ghost use Rattle.st_statics.specs.Places.{places_where, repeats};
-ghost use Rattle.st_words.specs.declared.identifier.Identifier.{Identifier};
-ghost use Rattle.st_statics.specs.NameScopes.{names_of_text, variables_of_text};
-ghost use Rattle.st_statics.specs.TwiceDeclared.{is_standard, is_taken, twice_declared};
-ghost use Rattle.st_names.specs.Found.{found};
-ghost use Rattle.st_names.specs.Searches.{FindsPlace};
+ghost use Rattle.st_types.specs.SourceViews.{source_view};
+ghost use Rattle.st_meaning.specs.NameTypes.{is_named};
+ghost use Rattle.st_rules.specs.Places.{places_where, repeats};
+ghost use Rattle.st_types.specs.declared.identifier.Identifier.{Identifier};
+ghost use Rattle.st_rules.specs.NameScopes.{names_of_text, variables_of_text};
+ghost use Rattle.st_rules.specs.TwiceDeclared.{is_standard, is_taken, twice_declared};
+ghost use Rattle.symbols.specs.Found.{found};
+ghost use Rattle.symbols.specs.Searches.{FindsPlace};
 ghost use Rattle.st_decl.specs.Places.{first};
 
 use crate::names_of::{names_of_text, variables_of_text};
 use crate::scopes::scopes_of;
 use crate::standard::is_standard;
-use st_names::{Index, first_repeat, index_of};
-use st_trees::Source;
-use st_words::Identifier;
+use st_types::{Identifier, Source};
 use std::alloc::{AllocError, Global};
+use symbols::{Index, first_repeat, index_of};
 
 /// A name that stands again in one of these scopes.
 fn repeat_in_scopes(alloc: Global, scopes: &[Vec<&Identifier>]) -> Result<Option<usize>, AllocError>

@@ -3,8 +3,8 @@ use Rattle.std.proofs.Common.{◌≡◌, ℕ, ◌+◌, ◌-◌, ◌^◌, List, [
 use Rattle.std.proofs.Common.{Some, None, cond, ltb, true, false, refl, sym, arith, inl, inr}
 use Rattle.std.proofs.lemmas.Bool.{lt-ltb, cases_lt, le-ltb}
 use Rattle.std.proofs.lemmas.List.{take_all}
-use Rattle.st_terminals.specs.declared.time_unit.TimeUnit.{TimeUnit}
-use Rattle.st_terminals.specs.declared.time_unit.TimeUnit.TheVariants.{Day}
+use Rattle.st_lex.specs.declared.time_unit.TimeUnit.{TimeUnit}
+use Rattle.st_lex.specs.declared.time_unit.TimeUnit.TheVariants.{Day}
 use Rattle.st_lex.specs.Durations.{sum, fits, parts, part_milliseconds, is_part_in, behind_part, over_underscore}
 
 -- a sum is too large where a part of it is

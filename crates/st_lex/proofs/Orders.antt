@@ -3,12 +3,12 @@ use Rattle.std.proofs.Common.{◌≡◌, ℕ, ◌+◌, ◌-◌, ◌<◌, ◌≤�
 use Rattle.std.proofs.Common.{subst, ◌∙◌, arith, length-drop}
 use Rattle.std.specs.Prelude.{slice_index}
 use Rattle.std.proofs.lemmas.List.{drop-drop, get_or-drop, drop_all, length-take-le}
-use Rattle.st_words.specs.declared.limits.TheConstants.{MAX_SOURCE_BYTES}
+use Rattle.st_types.specs.declared.limits.TheConstants.{MAX_SOURCE_BYTES}
 use Rattle.st_lex.specs.declared.token.TokenKind.{TokenKind}
 use Rattle.st_lex.specs.declared.token.Token.{Token}
 use Rattle.st_lex.specs.declared.front.Front.{Front}
 use Rattle.st_lex.specs.declared.front.Front.TheVariants as fronts
-use Rattle.st_terminals.specs.Characters.{is_word_character}
+use Rattle.st_lex.specs.Characters.{is_word_character}
 use Rattle.st_lex.specs.Fronts.{front_of, IsWithin}
 use Rattle.st_lex.specs.Texts.{Spells, ends, blank, token, IsSpelledBy}
 use Rattle.st_lex.specs.Laws.{AreInOrder, Each, IsItsSlice, IsParted, IsWhole}

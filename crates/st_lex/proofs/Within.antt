@@ -17,7 +17,7 @@ use Rattle.st_lex.specs.declared.token.TokenKind.TheVariants as kinds
 use Rattle.st_lex.specs.declared.mark.Mark.{Mark}
 use Rattle.st_lex.specs.declared.front.Front.{Front}
 use Rattle.st_lex.specs.declared.front.Front.TheVariants as fronts
-use Rattle.st_terminals.specs.Characters.{begins, is_word_character, is_allowed, is_space}
+use Rattle.st_lex.specs.Characters.{begins, is_word_character, is_allowed, is_space}
 use Rattle.st_lex.specs.Comments.{before, to_close, to_open, comment_front}
 use Rattle.st_lex.specs.Words.{word_length, word_front, read_as, with_percent, must_be_literal, identifier, literal_of}
 use Rattle.st_lex.specs.Marks.{leading, marks, longest_mark, read_mark, mark_front}

@@ -2,11 +2,11 @@
 use Rattle.std.specs.Prelude.{ℕ, ◌^◌, List, ◌∷◌, ◌&&◌, ◌==◌, nat_lt, length, if◌then◌else◌, Option, Some, None}
 use Rattle.std.specs.List.{list_all}
 use Rattle.std.specs.Char.{is_ascii_digit, to_ascii_uppercase}
-use Rattle.st_trees.specs.declared.configuration.Direction.{Direction}
-use Rattle.st_trees.specs.declared.configuration.Direction.TheVariants.{Input, Output}
-use Rattle.st_trees.specs.declared.configuration.AddressWidth.{AddressWidth}
-use Rattle.st_trees.specs.declared.configuration.AddressWidth.TheVariants.{Bit, Word}
-use Rattle.st_trees.specs.declared.configuration.Address.{Address}
+use Rattle.st_types.specs.declared.configuration.Direction.{Direction}
+use Rattle.st_types.specs.declared.configuration.Direction.TheVariants.{Input, Output}
+use Rattle.st_types.specs.declared.configuration.AddressWidth.{AddressWidth}
+use Rattle.st_types.specs.declared.configuration.AddressWidth.TheVariants.{Bit, Word}
+use Rattle.st_types.specs.declared.configuration.Address.{Address}
 use Rattle.st_lex.specs.Numbers.{value_from, below}
 
 -- `I` or `Q`

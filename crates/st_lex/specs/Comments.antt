@@ -4,7 +4,7 @@ use Rattle.std.specs.List.{list_all}
 use Rattle.st_lex.specs.declared.fault.LexFault.TheVariants as faults
 use Rattle.st_lex.specs.declared.front.Front.{Front}
 use Rattle.st_lex.specs.declared.front.Front.TheVariants as fronts
-use Rattle.st_terminals.specs.Characters.{is_allowed, begins}
+use Rattle.st_lex.specs.Characters.{is_allowed, begins}
 
 -- how many bytes stand before the first place where the two begin; all, where they begin nowhere
 abbrev pub before : ℕ → ℕ → List ℕ → ℕ

@@ -4,8 +4,8 @@ use Rattle.std.specs.Prelude.{nat_lt, if◌then◌else◌, Option, Some, None, c
 use Rattle.std.specs.Str.{str_eq_ignore_ascii_case}
 use Rattle.std.specs.List.{take_while}
 use Rattle.std.specs.Char.{is_ascii_digit, is_ascii_alphabetic}
-use Rattle.st_terminals.specs.declared.time_unit.TimeUnit.{TimeUnit}
-use Rattle.st_terminals.specs.TimeUnits.{UnitRow, unit_row, units}
+use Rattle.st_lex.specs.declared.time_unit.TimeUnit.{TimeUnit}
+use Rattle.st_lex.specs.TimeUnits.{UnitRow, unit_row, units}
 use Rattle.st_lex.specs.Numbers.{value_from, below, before_hash, behind_hash}
 
 abbrev pub starts_with_underscore : List ℕ → Bool

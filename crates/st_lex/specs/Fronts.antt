@@ -2,7 +2,7 @@
 use Rattle.std.specs.Prelude.{ℕ, ◌<◌, ◌≤◌, nat_lt, List, [], ◌∷◌, take, drop, if◌then◌else◌}
 use Rattle.st_lex.specs.declared.front.Front.{Front}
 use Rattle.st_lex.specs.declared.front.Front.TheVariants as fronts
-use Rattle.st_terminals.specs.Characters.{is_space, begins}
+use Rattle.st_lex.specs.Characters.{is_space, begins}
 use Rattle.st_lex.specs.Comments.{comment_front}
 use Rattle.st_lex.specs.Words.{word_length, word_front}
 use Rattle.st_lex.specs.Marks.{mark_front}

@@ -1,7 +1,7 @@
 -- What holds of the tokens of every text.
 use Rattle.std.specs.Prelude.{◌≡◌, ℕ, ◌-◌, ◌<◌, ◌≤◌, List, [], ◌∷◌, false, ◌&&◌, slice_index, slice_range}
 use Rattle.st_lex.specs.declared.token.Token.{Token}
-use Rattle.st_terminals.specs.Characters.{is_word_character}
+use Rattle.st_lex.specs.Characters.{is_word_character}
 use Rattle.st_lex.specs.declared.fault.LexFault.{LexFault}
 use Rattle.st_lex.specs.Texts.{Spells, HasFault, IsSpelledBy}
 

@@ -1,3 +1,5 @@
+pub mod Characters
+pub mod TimeUnits
 pub mod Tables
 pub mod ReservedWords
 pub mod Numbers

@@ -4,12 +4,12 @@ use Rattle.std.specs.Prelude.{if◌then◌else◌, Option, Some, None, length, c
 use Rattle.std.specs.List.{list_all, take_while}
 use Rattle.std.specs.Option.{option_map, option_or}
 use Rattle.std.specs.Char.{is_digit, digit_value}
-use Rattle.st_words.specs.declared.kind.Kind.{Kind}
-use Rattle.st_words.specs.declared.kind.Sort.{Sort}
-use Rattle.st_words.specs.declared.kind.Sort.TheVariants as sorts
-use Rattle.st_words.specs.Kinds.{row_of}
+use Rattle.st_types.specs.declared.kind.Kind.{Kind}
+use Rattle.st_types.specs.declared.kind.Sort.{Sort}
+use Rattle.st_types.specs.declared.kind.Sort.TheVariants as sorts
+use Rattle.st_types.specs.Kinds.{row_of}
+use Rattle.st_types.specs.UpperNames.{is_spaced}
 use Rattle.st_lex.specs.declared.token.WholeNumber.{WholeNumber}
-use Rattle.st_terminals.specs.Characters.{is_spaced}
 use Rattle.st_lex.specs.Tables.{lookup}
 use Rattle.st_lex.specs.ReservedWords.{elementary}
 

@@ -1,10 +1,10 @@
 -- Reserved words.
 use Rattle.std.specs.Prelude.{ℕ, List, [], ◌∷◌, map, Bool, true, false, Option, codes}
 use Rattle.std.specs.Option.{option_map, option_or}
-use Rattle.st_words.specs.declared.kind.Kind.{Kind}
-use Rattle.st_words.specs.declared.kind.Kind.TheVariants.{Sint, Int, Dint, Lint, Usint, Uint, Udint, Ulint, Byte, Word}
-use Rattle.st_words.specs.declared.kind.Kind.TheVariants.{Dword, Lword, Time, Bool as Boolean}
-use Rattle.st_words.specs.Kinds.{row_of}
+use Rattle.st_types.specs.declared.kind.Kind.{Kind}
+use Rattle.st_types.specs.declared.kind.Kind.TheVariants.{Sint, Int, Dint, Lint, Usint, Uint, Udint, Ulint, Byte, Word}
+use Rattle.st_types.specs.declared.kind.Kind.TheVariants.{Dword, Lword, Time, Bool as Boolean}
+use Rattle.st_types.specs.Kinds.{row_of}
 use Rattle.st_lex.specs.declared.keyword.Keyword.{Keyword}
 use Rattle.st_lex.specs.declared.keyword.Keyword.TheVariants as k
 use Rattle.st_lex.specs.declared.token.TokenKind.{TokenKind}

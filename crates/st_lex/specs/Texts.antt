@@ -1,7 +1,7 @@
 -- The tokens of a text: what stands in front, and then those of the rest.
 use Rattle.std.specs.Prelude.{◌≡◌, ℕ, ◌+◌, ◌<◌, ◌≤◌, List, [], ◌∷◌, length, drop, Result, Ok, Err}
 use Rattle.std.specs.Global.{Vec}
-use Rattle.st_words.specs.declared.limits.TheConstants.{MAX_SOURCE_BYTES}
+use Rattle.st_types.specs.declared.limits.TheConstants.{MAX_SOURCE_BYTES}
 use Rattle.st_lex.specs.declared.token.TokenKind.{TokenKind}
 use Rattle.st_lex.specs.declared.token.Token.{Token}
 use Rattle.st_lex.specs.declared.fault.LexFault.{LexFault}

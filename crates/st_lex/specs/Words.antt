@@ -4,14 +4,15 @@ use Rattle.std.specs.Prelude.{Option, Some, None, is_none, not, codes, bytes_eq}
 use Rattle.std.specs.Option.{unwrap_or, option_or}
 use Rattle.std.specs.List.{list_any, prefix_len}
 use Rattle.std.specs.Char.{to_ascii_uppercase, is_ascii_digit}
-use Rattle.st_words.specs.declared.limits.TheConstants.{MAX_NAME_LENGTH}
+use Rattle.st_types.specs.declared.limits.TheConstants.{MAX_NAME_LENGTH}
+use Rattle.st_types.specs.UpperNames.{is_spaced}
 use Rattle.st_lex.specs.declared.token.TokenKind.{TokenKind}
 use Rattle.st_lex.specs.declared.token.TokenKind.TheVariants.{Name, Enumerated}
 use Rattle.st_lex.specs.declared.fault.LexFault.{LexFault}
 use Rattle.st_lex.specs.declared.fault.LexFault.TheVariants as faults
 use Rattle.st_lex.specs.declared.front.Front.{Front}
 use Rattle.st_lex.specs.declared.front.Front.TheVariants as fronts
-use Rattle.st_terminals.specs.Characters.{is_word_character, is_spaced}
+use Rattle.st_lex.specs.Characters.{is_word_character}
 use Rattle.st_lex.specs.ReservedWords.{reserved}
 use Rattle.st_lex.specs.Literals.{literal}
 use Rattle.st_lex.specs.Numbers.{before_hash, behind_hash}

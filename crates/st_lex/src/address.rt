@@ -6,7 +6,7 @@ ghost use Rattle.std.specs.Char.{is_ascii_digit};
 ghost use Rattle.st_lex.specs.Addresses as addresses;
 
 use crate::number::value;
-use st_trees::{Address, AddressWidth, Direction};
+use st_types::{Address, AddressWidth, Direction};
 
 fn direction(b: u8) -> Option<Direction>
     ensures { result ≡ addresses.direction b }

@@ -2,12 +2,12 @@
 
 ghost use Rattle.std.specs.Prelude.{◌≡◌, ◌≤◌, ◌<◌, ◌+◌, ◌^◌, length};
 ghost use Rattle.std.specs.List.{list_all};
-ghost use Rattle.st_terminals.specs.Characters.{is_allowed};
+ghost use Rattle.st_lex.specs.Characters.{is_allowed};
 ghost use Rattle.st_lex.specs.Comments as comments;
 
+use crate::character::{begins, is_allowed};
 use crate::fault::LexFault;
 use crate::front::Front;
-use st_terminals::{begins, is_allowed};
 
 /// How many bytes stand before the first place where the two begin; all, where they begin nowhere.
 fn before(first: u8, second: u8, text: &[u8]) -> usize

@@ -2,13 +2,13 @@
 
 ghost use Rattle.std.specs.Prelude.{◌≡◌, ◌≤◌, ◌<◌, ◌^◌, ◌*◌, length, Option};
 ghost use Rattle.std.specs.Str.{str_eq_ignore_ascii_case};
-ghost use Rattle.st_terminals.specs.TimeUnits.{unit_row};
+ghost use Rattle.st_lex.specs.TimeUnits.{unit_row};
 ghost use Rattle.st_lex.specs.Numbers.{below};
 ghost use Rattle.st_lex.specs.Durations as durations;
 
 use crate::number::{before_hash, behind_hash, value};
 use crate::table::same_word;
-use st_terminals::TimeUnit;
+use crate::time_unit::TimeUnit;
 
 /// All units, from great to small.
 const UNITS: [TimeUnit; 5] = [

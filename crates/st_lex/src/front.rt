@@ -3,12 +3,12 @@
 ghost use Rattle.std.specs.Prelude.{◌≡◌, ◌<◌, ◌^◌, length, IfOk};
 ghost use Rattle.st_lex.specs.Fronts as fronts;
 
+use crate::character::{begins, is_space};
 use crate::comment::comment_front;
 use crate::fault::LexFault;
 use crate::mark::mark_front;
 use crate::token::TokenKind;
 use crate::word::{word_front, word_length};
-use st_terminals::{begins, is_space};
 use std::alloc::{AllocError, Global};
 
 /// What comes first, and how many bytes it takes.

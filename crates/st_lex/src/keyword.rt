@@ -5,7 +5,7 @@ ghost use Rattle.st_lex.specs.ReservedWords as words;
 
 use crate::table::lookup;
 use crate::token::TokenKind;
-use st_words::Kind;
+use st_types::Kind;
 
 /// A reserved word that is neither the name of a type nor TRUE nor FALSE.
 #[derive(Clone, Copy, Debug, PartialEq, Eq)]

@@ -7,7 +7,7 @@ ghost use Rattle.st_lex.specs.Texts.{IsSpelledBy, LexErrorApplies, GivesTokens};
 use crate::fault::LexError;
 use crate::front::{Front, read_front};
 use crate::token::Token;
-use st_words::limits::MAX_SOURCE_BYTES;
+use st_types::limits::MAX_SOURCE_BYTES;
 use std::alloc::Global;
 
 /// The tokens of a text, in order.

@@ -1,4 +1,4 @@
-//! Tokens of a text in Structured Text.
+//! Tokens of a text in Structured Text, from its bytes.
 //!
 //! Tokens stand in order, and each is what its slice spells. A text has tokens or a first fault, never both.
 //!
@@ -7,6 +7,7 @@
 #![tactic(auto)]
 
 mod address;
+mod character;
 mod comment;
 mod duration;
 mod fault;
@@ -18,9 +19,11 @@ mod literal;
 mod mark;
 mod number;
 mod table;
+mod time_unit;
 mod token;
 mod word;
 
+pub use character::{begins, is_allowed, is_space, is_word_character};
 pub use fault::{LexError, LexFault};
 pub use keyword::Keyword;
 pub use laws::{
@@ -29,4 +32,5 @@ pub use laws::{
 };
 pub use lexer::lex;
 pub use mark::Mark;
+pub use time_unit::TimeUnit;
 pub use token::{Token, TokenKind, WholeNumber};

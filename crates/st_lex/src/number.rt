@@ -3,14 +3,13 @@
 ghost use Rattle.std.specs.Prelude.{◌≡◌, ◌+◌, ◌*◌, ◌-◌, ◌≤◌, ◌<◌, ◌^◌, ◌==◌, ◌||◌, not, length, take};
 ghost use Rattle.std.specs.List.{list_all, take_while};
 ghost use Rattle.std.specs.Char.{is_digit, digit_value};
-ghost use Rattle.st_words.specs.Kinds.{row_of};
+ghost use Rattle.st_types.specs.Kinds.{row_of};
 ghost use Rattle.st_lex.specs.Numbers as numbers;
 
 use crate::keyword::elementary;
 use crate::table::lookup;
 use crate::token::WholeNumber;
-use st_terminals::is_spaced;
-use st_words::{Kind, Sort};
+use st_types::{Kind, Sort, is_spaced};
 
 /// The value of a digit or letter, from 0 to 35, and 36 for any other byte.
 fn digit_value(b: u8) -> u64

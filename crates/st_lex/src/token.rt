@@ -2,8 +2,7 @@
 
 use crate::keyword::Keyword;
 use crate::mark::Mark;
-use st_trees::Address;
-use st_words::{Kind, Name};
+use st_types::{Address, Kind, Name};
 
 /// A whole-number or bit-string literal, which has no sign.
 #[derive(Clone, Copy, Debug, PartialEq, Eq)]

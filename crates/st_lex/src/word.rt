@@ -2,19 +2,19 @@
 
 ghost use Rattle.std.specs.Prelude.{◌≡◌, ◌≤◌, ◌<◌, ◌==◌, ◌||◌, length, IfOk};
 ghost use Rattle.std.specs.List.{list_any, prefix_len};
-ghost use Rattle.st_terminals.specs.Characters.{is_word_character};
+ghost use Rattle.st_lex.specs.Characters.{is_word_character};
 ghost use Rattle.st_lex.specs.declared.fault.LexFault.TheVariants as faults;
 ghost use Rattle.st_lex.specs.Words as words;
 
+use crate::character::is_word_character;
 use crate::fault::LexFault;
 use crate::front::Front;
 use crate::keyword::reserved;
 use crate::literal::literal;
 use crate::number::{before_hash, behind_hash};
 use crate::token::TokenKind;
-use st_terminals::{is_spaced, is_word_character};
-use st_words::Name;
-use st_words::limits::MAX_NAME_LENGTH;
+use st_types::limits::MAX_NAME_LENGTH;
+use st_types::{Name, is_spaced};
 use std::alloc::{AllocError, Global};
 
 fn run_length(text: &[u8]) -> usize

@@ -2,24 +2,24 @@
 use Rattle.std.proofs.Common.{◌≡◌, refl, sym, ap, subst, ◌∙◌, arith, ℕ, ◌+◌, ◌≤◌, Option, Some, None, Bool, true, false}
 use Rattle.std.proofs.Common.{List, if◌then◌else◌, ◌<◌}
 use Rattle.std.specs.Prelude.{option_map, option_and_then}
-use Rattle.st_words.specs.declared.limits.TheConstants.{MAX_PATHS}
-use Rattle.st_trees.specs.declared.data_type.VariableType.{VariableType}
-use Rattle.st_trees.specs.Statements.{Argument}
-use Rattle.st_types.specs.NameTypes.{Declared}
-use Rattle.st_types.specs.Scopes.{Name}
-use Rattle.st_names.specs.Agreeing.{Agree}
-use Rattle.st_names.specs.PlaceTypes.{place_type_view}
-use Rattle.st_layouts.specs.Shapes.{Shape, plain, array, parts, Parts, size, sizes}
-use Rattle.st_layouts.specs.Types.{shape_of_type}
+use Rattle.st_types.specs.declared.limits.TheConstants.{MAX_PATHS}
+use Rattle.st_types.specs.declared.data_type.VariableType.{VariableType}
+use Rattle.st_types.specs.Statements.{Argument}
+use Rattle.st_meaning.specs.NameTypes.{Declared}
+use Rattle.st_meaning.specs.Scopes.{Name}
+use Rattle.symbols.specs.Agreeing.{Agree}
+use Rattle.symbols.specs.PlaceTypes.{place_type_view}
+use Rattle.layout.specs.Shapes.{Shape, plain, array, parts, Parts, size, sizes}
+use Rattle.layout.specs.Types.{shape_of_type}
 use Rattle.layout.specs.Sizes.{cut}
 use Rattle.slot_trees.specs.SlotTrees.{Anchor, BlockCode, SlotArgument, SlotStmt, invoke}
 use Rattle.slot_trees.specs.LinkedStatements.{Instance, code_of, control_of, instance_at, instance_of_symbol}
 use Rattle.slot_trees.specs.LinkedStatements.{linked_arguments, linked_call_of, linked_invocation, offset_of}
 use Rattle.slot_trees.specs.LinkedStatements.{plain_anchor, plain_offset}
 use Rattle.slot_trees.specs.Tables.{Part, Symbol, Table, part_at, symbol_of}
-use Rattle.slot_bodies.specs.ExpressionViews.{anchor_view}
-use Rattle.shape_tables.specs.Shapes.{IsExpanded, IsMemberPlace, has_parts, is_plain, member_of}
-use Rattle.shape_tables.specs.declared.members.MemberPlace.{MemberPlace}
+use Rattle.slot_trees.specs.ExpressionViews.{anchor_view}
+use Rattle.st_link.specs.Shapes.{IsExpanded, IsMemberPlace, has_parts, is_plain, member_of}
+use Rattle.st_link.specs.declared.members.MemberPlace.{MemberPlace}
 use Rattle.st_link.specs.BodyTables.{IsSymbol}
 use Rattle.st_link.specs.Instances.{HasMembers}
 use Rattle.st_link.proofs.PlaceLemmas.{part_room}

@@ -5,29 +5,29 @@ use Rattle.std.specs.Prelude.{nat_lt, option_map, option_and_then, ℤ, bytes_eq
 use Rattle.std.proofs.Common.{zero, suc, ◌*◌}
 use Rattle.std.proofs.lemmas.Bool.Decides.{nat_tests}
 use Rattle.std.proofs.Math.Nat.{mul-pos}
-use Rattle.st_layouts.specs.Shapes.{Parts, no_parts, part_then, sizes}
-use Rattle.st_layouts.proofs.ListLemmas.{map_some, some_is}
+use Rattle.layout.specs.Shapes.{Parts, no_parts, part_then, sizes}
+use Rattle.layout.proofs.ListLemmas.{map_some, some_is}
 use Rattle.slot_trees.specs.Tables.{part_beyond}
-use Rattle.st_words.specs.declared.identifier.Identifier.{Identifier}
-use Rattle.st_words.specs.declared.limits.TheConstants.{MAX_PATHS}
-use Rattle.st_trees.specs.Expressions.{Expr, Selectors, no_selectors, selector_then, member, subscript}
-use Rattle.st_types.specs.NameTypes.{Declared}
-use Rattle.st_types.specs.Scopes.{Name}
-use Rattle.st_names.specs.Agreeing.{Agree}
-use Rattle.st_names.specs.PlaceTypes.{place_type_view}
-use Rattle.st_layouts.specs.Shapes.{Shape, plain, array, parts, size}
-use Rattle.st_layouts.specs.Types.{shape_of_type}
+use Rattle.st_types.specs.declared.identifier.Identifier.{Identifier}
+use Rattle.st_types.specs.declared.limits.TheConstants.{MAX_PATHS}
+use Rattle.st_types.specs.Expressions.{Expr, Selectors, no_selectors, selector_then, member, subscript}
+use Rattle.st_meaning.specs.NameTypes.{Declared}
+use Rattle.st_meaning.specs.Scopes.{Name}
+use Rattle.symbols.specs.Agreeing.{Agree}
+use Rattle.symbols.specs.PlaceTypes.{place_type_view}
+use Rattle.layout.specs.Shapes.{Shape, plain, array, parts, size}
+use Rattle.layout.specs.Types.{shape_of_type}
 use Rattle.layout.specs.Sizes.{cut}
 use Rattle.slot_trees.specs.SlotTrees.{Anchor, SlotExpr, Subscripts, Place, no_subscripts, subscript_then}
 use Rattle.slot_trees.specs.SlotTrees as trees
 use Rattle.slot_trees.specs.Linking.{Selected, behind_offset, behind_subscript, linked, linked_selectors}
 use Rattle.slot_trees.specs.Linking.{place_if_plain, place_of_shape}
 use Rattle.slot_trees.specs.Tables.{Part, Table, moved, part_at}
-use Rattle.slot_bodies.specs.Chains.{Subscript, subscripts_of}
-use Rattle.slot_bodies.specs.ExpressionViews.{subscript_view}
-use Rattle.shape_tables.specs.Shapes.{IsExpanded, IsMemberPlace, is_plain, is_array, member_of}
-use Rattle.shape_tables.specs.declared.elements.Elements.{Elements}
-use Rattle.shape_tables.specs.declared.members.MemberPlace.{MemberPlace}
+use Rattle.slot_trees.specs.Chains.{Subscript, subscripts_of}
+use Rattle.slot_trees.specs.ExpressionViews.{subscript_view}
+use Rattle.st_link.specs.Shapes.{IsExpanded, IsMemberPlace, is_plain, is_array, member_of}
+use Rattle.st_link.specs.declared.elements.Elements.{Elements}
+use Rattle.st_link.specs.declared.members.MemberPlace.{MemberPlace}
 use Rattle.st_link.specs.Places.{HasElements, LeadsOn, joined, subscripts_before}
 use Rattle.st_link.specs.declared.places.Reached.{Reached}
 

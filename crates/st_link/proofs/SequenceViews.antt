@@ -1,16 +1,16 @@
 -- The chains of the definitions, linked element by element.
 use Rattle.std.proofs.Common.{◌≡◌, refl, ap, ◌∙◌, List, [], ◌∷◌, Option, Some, None}
 use Rattle.std.specs.Prelude.{option_map, option_and_then}
-use Rattle.st_trees.specs.declared.statement.Label.{Label}
-use Rattle.st_trees.specs.Expressions as trees
-use Rattle.st_trees.specs.Statements as texts
-use Rattle.st_layouts.specs.Shapes.{Parts}
+use Rattle.st_types.specs.declared.statement.Label.{Label}
+use Rattle.st_types.specs.Expressions as trees
+use Rattle.st_types.specs.Statements as texts
+use Rattle.layout.specs.Shapes.{Parts}
 use Rattle.slot_trees.specs.SlotTrees.{SlotExpr, SlotStmts, expr_then, stmt_then, arm_then, case_arm_then}
 use Rattle.slot_trees.specs.Linking.{linked, linked_all}
 use Rattle.slot_trees.specs.LinkedStatements.{linked_argument, linked_arguments, linked_arms, linked_case_arms}
 use Rattle.slot_trees.specs.LinkedStatements.{linked_stmt, linked_stmts}
 use Rattle.slot_trees.specs.Tables.{Table}
-use Rattle.slot_bodies.specs.Chains.{Arm, CaseArm, exprs_of, stmts_of, arms_of, case_arms_of}
+use Rattle.slot_trees.specs.Chains.{Arm, CaseArm, exprs_of, stmts_of, arms_of, case_arms_of}
 use Rattle.st_link.specs.Arms.{linked_arm, linked_case_arm}
 use Rattle.st_link.proofs.Sequences.{traversed}
 

@@ -1,11 +1,11 @@
 -- Statements, by their linked parts.
 use Rattle.std.proofs.Common.{◌≡◌, refl, Option, Some, None, List}
 use Rattle.std.specs.Prelude.{option_and_then, option_map}
-use Rattle.st_words.specs.declared.identifier.Identifier.{Identifier}
-use Rattle.st_trees.specs.declared.statement.Label.{Label}
-use Rattle.st_trees.specs.Expressions.{Expr, Variable}
-use Rattle.st_trees.specs.Statements as texts
-use Rattle.st_trees.specs.Statements.{Stmts, Arms, CaseArms}
+use Rattle.st_types.specs.declared.identifier.Identifier.{Identifier}
+use Rattle.st_types.specs.declared.statement.Label.{Label}
+use Rattle.st_types.specs.Expressions.{Expr, Variable}
+use Rattle.st_types.specs.Statements as texts
+use Rattle.st_types.specs.Statements.{Stmts, Arms, CaseArms}
 use Rattle.slot_trees.specs.SlotTrees.{Anchor, Place, SlotExpr, SlotStmts, SlotArms, SlotCaseArms}
 use Rattle.slot_trees.specs.SlotTrees as slots
 use Rattle.slot_trees.specs.Linking.{linked, linked_target}

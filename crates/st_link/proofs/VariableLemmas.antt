@@ -1,20 +1,20 @@
 -- Variables, by the symbols of a table.
 use Rattle.std.proofs.Common.{◌≡◌, refl, sym, ap, subst, ◌∙◌, Option, Some, None, Bool, true, false, if◌then◌else◌}
 use Rattle.std.specs.Prelude.{option_map, option_and_then}
-use Rattle.st_words.specs.declared.identifier.Identifier.{Identifier}
-use Rattle.st_trees.specs.Expressions.{Selectors, variable}
-use Rattle.st_types.specs.NameTypes.{Declared}
-use Rattle.st_names.specs.Agreeing.{Agree}
-use Rattle.st_names.specs.PlaceTypes.{place_type_view}
-use Rattle.st_layouts.specs.Types.{shape_of_type}
+use Rattle.st_types.specs.declared.identifier.Identifier.{Identifier}
+use Rattle.st_types.specs.Expressions.{Selectors, variable}
+use Rattle.st_meaning.specs.NameTypes.{Declared}
+use Rattle.symbols.specs.Agreeing.{Agree}
+use Rattle.symbols.specs.PlaceTypes.{place_type_view}
+use Rattle.layout.specs.Types.{shape_of_type}
 use Rattle.slot_trees.specs.SlotTrees.{Anchor, Place}
 use Rattle.slot_trees.specs.Linking.{linked_selectors, linked_target, linked_variable, place_if_plain, target_of}
 use Rattle.slot_trees.specs.Tables.{Symbol, Table, symbol_of}
-use Rattle.slot_bodies.specs.ExpressionViews.{anchor_view}
-use Rattle.shape_tables.specs.Shapes.{IsExpanded}
+use Rattle.slot_trees.specs.ExpressionViews.{anchor_view}
+use Rattle.st_link.specs.Shapes.{IsExpanded}
 use Rattle.std.proofs.Common.{◌≤◌, arith}
-use Rattle.st_words.specs.declared.limits.TheConstants.{MAX_PATHS}
-use Rattle.st_layouts.specs.Shapes.{size}
+use Rattle.st_types.specs.declared.limits.TheConstants.{MAX_PATHS}
+use Rattle.layout.specs.Shapes.{size}
 use Rattle.st_link.specs.Rooms.{first_slot}
 use Rattle.st_link.specs.BodyTables.{IsSymbol}
 use Rattle.st_link.specs.declared.body_table.LinkSymbol.{LinkSymbol}

@@ -1,10 +1,10 @@
 -- Arms of IF and CASE, each linked by itself.
 use Rattle.std.specs.Prelude.{Option, option_and_then, option_map}
-use Rattle.st_trees.specs.Statements as text
+use Rattle.st_types.specs.Statements as text
 use Rattle.slot_trees.specs.Linking.{linked}
 use Rattle.slot_trees.specs.LinkedStatements.{linked_stmts}
 use Rattle.slot_trees.specs.Tables.{Table}
-use Rattle.slot_bodies.specs.Chains.{Arm, CaseArm}
+use Rattle.slot_trees.specs.Chains.{Arm, CaseArm}
 
 abbrev pub linked_arm : Table → text.Arm → Option Arm
 linked_arm t a = option_and_then (λ x. option_map (λ b. (x, b)) (linked_stmts t a.1)) (linked t a.0)

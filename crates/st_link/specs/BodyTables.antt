@@ -1,18 +1,18 @@
 -- Tables of a body that are those of the definitions.
 use Rattle.std.specs.Prelude.{◌≡◌, ◌+◌, ◌≤◌, option_map}
-use Rattle.st_words.specs.declared.limits.TheConstants.{MAX_PATHS}
-use Rattle.st_types.specs.NameTypes.{Declared}
-use Rattle.st_types.specs.Scopes.{Name}
-use Rattle.st_names.specs.Agreeing.{Agree}
-use Rattle.st_names.specs.Found.{found}
-use Rattle.st_names.specs.PlaceTypes.{place_type_view}
-use Rattle.st_layouts.specs.Shapes.{size}
-use Rattle.st_layouts.specs.Types.{shape_of_type}
+use Rattle.st_types.specs.declared.limits.TheConstants.{MAX_PATHS}
+use Rattle.st_meaning.specs.NameTypes.{Declared}
+use Rattle.st_meaning.specs.Scopes.{Name}
+use Rattle.symbols.specs.Agreeing.{Agree}
+use Rattle.symbols.specs.Found.{found}
+use Rattle.symbols.specs.PlaceTypes.{place_type_view}
+use Rattle.layout.specs.Shapes.{size}
+use Rattle.layout.specs.Types.{shape_of_type}
 use Rattle.slot_trees.specs.LinkedStatements.{code_of}
 use Rattle.slot_trees.specs.Tables.{Symbol, Table, named_in, symbol_of}
-use Rattle.slot_bodies.specs.ExpressionViews.{anchor_view}
-use Rattle.slot_bodies.specs.StatementViews.{block_code_view}
-use Rattle.shape_tables.specs.Shapes.{IsExpanded, ServesShapes}
+use Rattle.slot_trees.specs.ExpressionViews.{anchor_view}
+use Rattle.slot_trees.specs.StatementViews.{block_code_view}
+use Rattle.st_link.specs.Shapes.{IsExpanded, ServesShapes}
 use Rattle.st_link.specs.Rooms.{first_slot}
 use Rattle.st_link.specs.declared.body_table.BodyTable.{BodyTable}
 use Rattle.st_link.specs.declared.body_table.LinkSymbol.{LinkSymbol}

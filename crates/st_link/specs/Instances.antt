@@ -1,11 +1,11 @@
 -- Instances of blocks, by how they are declared.
 use Rattle.std.specs.Prelude.{◌≡◌, ◌≤◌}
-use Rattle.st_words.specs.declared.limits.TheConstants.{MAX_PATHS}
-use Rattle.st_trees.specs.declared.data_type.VariableType.{VariableType}
-use Rattle.st_types.specs.NameTypes.{Declared}
-use Rattle.st_layouts.specs.Shapes.{Whole, Parts, parts, sizes}
-use Rattle.st_layouts.specs.Types.{shape_of_type}
-use Rattle.shape_tables.specs.Shapes.{IsExpanded}
+use Rattle.st_types.specs.declared.limits.TheConstants.{MAX_PATHS}
+use Rattle.st_types.specs.declared.data_type.VariableType.{VariableType}
+use Rattle.st_meaning.specs.NameTypes.{Declared}
+use Rattle.layout.specs.Shapes.{Whole, Parts, parts, sizes}
+use Rattle.layout.specs.Types.{shape_of_type}
+use Rattle.st_link.specs.Shapes.{IsExpanded}
 
 -- What is declared so has these members, for which a layout has room.
 pub record HasMembers (text : Declared) (t : VariableType) (ps : Parts) : Type 0 where

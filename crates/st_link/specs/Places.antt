@@ -1,19 +1,19 @@
 -- Where selectors have led so far.
 use Rattle.std.specs.Prelude.{◌≡◌, ℕ, ◌+◌, ◌<◌, ◌≤◌, List, [], ◌∷◌, map, Option, option_map}
-use Rattle.st_words.specs.declared.limits.TheConstants.{MAX_PATHS}
-use Rattle.st_trees.specs.Expressions.{Selectors}
-use Rattle.st_types.specs.NameTypes.{Declared}
-use Rattle.st_names.specs.PlaceTypes.{place_type_view}
-use Rattle.st_layouts.specs.Shapes.{Shape, array, size}
-use Rattle.st_layouts.specs.Types.{shape_of_type}
+use Rattle.st_types.specs.declared.limits.TheConstants.{MAX_PATHS}
+use Rattle.st_types.specs.Expressions.{Selectors}
+use Rattle.st_meaning.specs.NameTypes.{Declared}
+use Rattle.symbols.specs.PlaceTypes.{place_type_view}
+use Rattle.layout.specs.Shapes.{Shape, array, size}
+use Rattle.layout.specs.Types.{shape_of_type}
 use Rattle.layout.specs.Sizes.{cut}
 use Rattle.slot_trees.specs.Linking.{Selected, linked_selectors}
 use Rattle.slot_trees.specs.SlotTrees.{Subscripts, subscript_then}
 use Rattle.slot_trees.specs.Tables.{Table}
-use Rattle.slot_bodies.specs.Chains.{Subscript}
-use Rattle.slot_bodies.specs.ExpressionViews.{subscript_view}
-use Rattle.shape_tables.specs.Shapes.{IsExpanded}
-use Rattle.shape_tables.specs.declared.elements.Elements.{Elements}
+use Rattle.slot_trees.specs.Chains.{Subscript}
+use Rattle.slot_trees.specs.ExpressionViews.{subscript_view}
+use Rattle.st_link.specs.Shapes.{IsExpanded}
+use Rattle.st_link.specs.declared.elements.Elements.{Elements}
 use Rattle.st_link.specs.declared.places.Reached.{Reached}
 
 -- these subscripts, and others behind them

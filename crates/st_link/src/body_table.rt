@@ -1,17 +1,17 @@
 //! What the names of a body stand for.
 
 ghost use Rattle.std.specs.Prelude.{◌≡◌, option_map};
-ghost use Rattle.st_types.specs.NameTypes.{Declared};
-ghost use Rattle.st_names.specs.Agreeing.{Agree};
-ghost use Rattle.slot_bodies.specs.StatementViews.{block_code_view};
+ghost use Rattle.st_meaning.specs.NameTypes.{Declared};
+ghost use Rattle.symbols.specs.Agreeing.{Agree};
+ghost use Rattle.slot_trees.specs.StatementViews.{block_code_view};
 ghost use Rattle.slot_trees.specs.LinkedStatements.{code_of};
 ghost use Rattle.slot_trees.specs.Tables.{Table, named_in, symbol_of};
 ghost use Rattle.st_link.specs.BodyTables.{IsSymbol, ServesBody};
 
-use shape_tables::ShapeTables;
-use slot_bodies::{Anchor, BlockCode};
-use st_names::{Index, PlaceType};
-use st_words::Name;
+use crate::shape_tables::ShapeTables;
+use slot_trees::{Anchor, BlockCode};
+use st_types::Name;
+use symbols::{Index, PlaceType};
 
 /// A variable: where it begins, whether it is an input of the plant, and how it is declared.
 #[derive(Clone, Copy)]

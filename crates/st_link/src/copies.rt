@@ -2,8 +2,7 @@
 
 ghost use Rattle.std.specs.Prelude.{◌≡◌, IfOk};
 
-use st_trees::Label;
-use st_words::{EnumeratedValue, Literal, Name};
+use st_types::{EnumeratedValue, Label, Literal, Name};
 use std::alloc::{AllocError, Global};
 
 fn copied_name(alloc: Global, name: &Option<Name>) -> Result<Option<Name>, AllocError>

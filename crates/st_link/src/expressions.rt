@@ -1,20 +1,20 @@
 //! Expressions, from names to slots.
 
 ghost use Rattle.std.specs.Prelude.{◌≡◌, ◌≤◌, None, Some, Option, map, IfErr, IfOk};
-ghost use Rattle.st_words.specs.declared.limits.TheConstants.{MAX_PATHS};
-ghost use Rattle.st_trees.specs.Expressions.{Selectors, exprs_of, no_selectors, selector_then, selectors_of};
-ghost use Rattle.st_trees.specs.ExpressionViews.{expr_view, selector_view, variable_view};
-ghost use Rattle.st_types.specs.NameTypes.{Declared};
-ghost use Rattle.st_types.specs.StandardFunctions.{standard_of};
-ghost use Rattle.st_names.specs.PlaceTypes.{place_type_view};
-ghost use Rattle.st_layouts.specs.Shapes.{size};
-ghost use Rattle.st_layouts.specs.Types.{shape_of_type};
-ghost use Rattle.slot_bodies.specs.Chains.{exprs_of as slot_exprs_of};
-ghost use Rattle.slot_bodies.specs.ExpressionViews.{place_view, slot_expr_view};
+ghost use Rattle.st_types.specs.declared.limits.TheConstants.{MAX_PATHS};
+ghost use Rattle.st_types.specs.Expressions.{Selectors, exprs_of, no_selectors, selector_then, selectors_of};
+ghost use Rattle.st_types.specs.ExpressionViews.{expr_view, selector_view, variable_view};
+ghost use Rattle.st_meaning.specs.NameTypes.{Declared};
+ghost use Rattle.st_meaning.specs.StandardFunctions.{standard_of};
+ghost use Rattle.symbols.specs.PlaceTypes.{place_type_view};
+ghost use Rattle.layout.specs.Shapes.{size};
+ghost use Rattle.layout.specs.Types.{shape_of_type};
+ghost use Rattle.slot_trees.specs.Chains.{exprs_of as slot_exprs_of};
+ghost use Rattle.slot_trees.specs.ExpressionViews.{place_view, slot_expr_view};
 ghost use Rattle.slot_trees.specs.Linking.{Selected, linked, linked_all, linked_call, linked_selectors};
 ghost use Rattle.slot_trees.specs.Linking.{linked_target, linked_variable};
 ghost use Rattle.slot_trees.specs.Tables.{Table};
-ghost use Rattle.shape_tables.specs.Shapes.{IsExpanded};
+ghost use Rattle.st_link.specs.Shapes.{IsExpanded};
 ghost use Rattle.st_link.specs.BodyTables.{ServesBody};
 ghost use Rattle.st_link.specs.Places.{LeadsOn};
 
@@ -22,11 +22,10 @@ use crate::body_table::BodyTable;
 use crate::copies::copied_literal;
 use crate::link_error::LinkError;
 use crate::places::{Reached, at_element, at_member, elements_at, placed};
-use slot_bodies::{Place, SlotExpr};
-use st_names::{PlaceType, standard_function};
-use st_trees::{Expr, Selector, Variable};
-use st_words::Identifier;
+use slot_trees::{Place, SlotExpr};
+use st_types::{Expr, Identifier, Selector, Variable};
 use std::alloc::Global;
+use symbols::{PlaceType, standard_function};
 
 /// A call of a standard function or one of the text.
 fn called(

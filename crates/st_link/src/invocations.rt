@@ -1,11 +1,11 @@
 //! Calls of block instances, from names to slots.
 
 ghost use Rattle.std.specs.Prelude.{◌≡◌, None, Some, map, option_and_then, IfErr, IfOk};
-ghost use Rattle.st_trees.specs.StatementViews.{argument_view};
-ghost use Rattle.st_types.specs.NameTypes.{Declared};
-ghost use Rattle.st_names.specs.PlaceTypes.{place_type_view};
-ghost use Rattle.st_layouts.specs.Shapes.{Parts};
-ghost use Rattle.slot_bodies.specs.StatementViews.{slot_argument_view, slot_stmt_view};
+ghost use Rattle.st_types.specs.StatementViews.{argument_view};
+ghost use Rattle.st_meaning.specs.NameTypes.{Declared};
+ghost use Rattle.symbols.specs.PlaceTypes.{place_type_view};
+ghost use Rattle.layout.specs.Shapes.{Parts};
+ghost use Rattle.slot_trees.specs.StatementViews.{slot_argument_view, slot_stmt_view};
 ghost use Rattle.slot_trees.specs.LinkedStatements.{linked_argument, linked_arguments, linked_invocation, offset_of};
 ghost use Rattle.slot_trees.specs.Tables.{Table, part_at};
 ghost use Rattle.st_link.specs.BodyTables.{ServesBody};
@@ -14,12 +14,11 @@ ghost use Rattle.st_link.specs.Instances.{HasMembers};
 use crate::body_table::BodyTable;
 use crate::expressions::{link, link_target};
 use crate::link_error::LinkError;
-use slot_bodies::{SlotArgument, SlotStmt};
-use st_names::PlaceType;
-use st_trees::Argument;
-use st_words::Identifier;
-use st_words::limits::MAX_PATHS;
+use slot_trees::{SlotArgument, SlotStmt};
+use st_types::limits::MAX_PATHS;
+use st_types::{Argument, Identifier};
 use std::alloc::Global;
+use symbols::PlaceType;
 
 /// Where an elementary member of an instance stands: so many slots behind the first one.
 fn member_offset<'a>(

@@ -2,26 +2,27 @@
 
 ghost use Rattle.std.specs.Prelude.{◌≡◌, ◌≤◌, ◌+◌, ◌^◌, None, Some, Option, option_and_then, IfErr, IfOk};
 ghost use Rattle.std.specs.Prelude.{IfNone, IfSome};
-ghost use Rattle.st_words.specs.declared.limits.TheConstants.{MAX_PATHS};
-ghost use Rattle.st_trees.specs.Expressions.{Expr, Selectors, member, subscript, no_selectors, selector_then};
-ghost use Rattle.st_types.specs.NameTypes.{Declared};
-ghost use Rattle.st_names.specs.PlaceTypes.{place_type_view};
-ghost use Rattle.st_layouts.specs.Shapes.{size};
-ghost use Rattle.st_layouts.specs.Types.{shape_of_type};
-ghost use Rattle.slot_bodies.specs.ExpressionViews.{anchor_view, place_view, slot_expr_view};
+ghost use Rattle.st_types.specs.declared.limits.TheConstants.{MAX_PATHS};
+ghost use Rattle.st_types.specs.Expressions.{Expr, Selectors, member, subscript, no_selectors, selector_then};
+ghost use Rattle.st_meaning.specs.NameTypes.{Declared};
+ghost use Rattle.symbols.specs.PlaceTypes.{place_type_view};
+ghost use Rattle.layout.specs.Shapes.{size};
+ghost use Rattle.layout.specs.Types.{shape_of_type};
+ghost use Rattle.slot_trees.specs.ExpressionViews.{anchor_view, place_view, slot_expr_view};
 ghost use Rattle.slot_trees.specs.Linking.{Selected, linked, linked_selectors, place_if_plain};
 ghost use Rattle.slot_trees.specs.Tables.{Table, moved};
-ghost use Rattle.shape_tables.specs.Shapes.{IsExpanded, ServesShapes};
+ghost use Rattle.st_link.specs.Shapes.{IsExpanded, ServesShapes};
 ghost use Rattle.st_link.specs.Places.{HasElements, LeadsOn};
 ghost use Rattle.st_link.specs.Rooms.{first_slot};
 
+use crate::elements::Elements;
 use crate::link_error::LinkError;
+use crate::shape_tables::ShapeTables;
 use layout::sum;
-use shape_tables::{Elements, ShapeTables};
-use slot_bodies::{Anchor, Place, SlotExpr, Subscript};
-use st_names::PlaceType;
-use st_words::Identifier;
-use st_words::limits::MAX_PATHS;
+use slot_trees::{Anchor, Place, SlotExpr, Subscript};
+use st_types::Identifier;
+use st_types::limits::MAX_PATHS;
+use symbols::PlaceType;
 
 /// What selectors lead to: so many slots further, 4,097 where they are more than 4,096, by these subscripts, to what is
 /// declared so.

@@ -1,14 +1,14 @@
 //! Statements, from names to slots.
 
 ghost use Rattle.std.specs.Prelude.{◌≡◌, None, Some, map, option_and_then, option_map, IfErr, IfOk};
-ghost use Rattle.st_trees.specs.ExpressionViews.{expr_view};
-ghost use Rattle.st_trees.specs.Statements.{arms_of, case_arms_of, stmts_of};
-ghost use Rattle.st_trees.specs.StatementViews.{arm_view, case_arm_view, stmt_view};
-ghost use Rattle.st_types.specs.NameTypes.{Declared};
-ghost use Rattle.slot_bodies.specs.Chains.{arms_of as slot_arms_of, case_arms_of as slot_case_arms_of};
-ghost use Rattle.slot_bodies.specs.Chains.{stmts_of as slot_stmts_of};
-ghost use Rattle.slot_bodies.specs.ExpressionViews.{anchor_view, slot_expr_view};
-ghost use Rattle.slot_bodies.specs.StatementViews.{slot_arm_view, slot_case_arm_view, slot_stmt_view};
+ghost use Rattle.st_types.specs.ExpressionViews.{expr_view};
+ghost use Rattle.st_types.specs.Statements.{arms_of, case_arms_of, stmts_of};
+ghost use Rattle.st_types.specs.StatementViews.{arm_view, case_arm_view, stmt_view};
+ghost use Rattle.st_meaning.specs.NameTypes.{Declared};
+ghost use Rattle.slot_trees.specs.Chains.{arms_of as slot_arms_of, case_arms_of as slot_case_arms_of};
+ghost use Rattle.slot_trees.specs.Chains.{stmts_of as slot_stmts_of};
+ghost use Rattle.slot_trees.specs.ExpressionViews.{anchor_view, slot_expr_view};
+ghost use Rattle.slot_trees.specs.StatementViews.{slot_arm_view, slot_case_arm_view, slot_stmt_view};
 ghost use Rattle.slot_trees.specs.LinkedStatements.{control_of, linked_arms, linked_case_arms, linked_step};
 ghost use Rattle.slot_trees.specs.LinkedStatements.{linked_stmt, linked_stmts};
 ghost use Rattle.slot_trees.specs.Tables.{Table, symbol_of};
@@ -20,9 +20,8 @@ use crate::copies::copied_labels;
 use crate::expressions::{link, link_target};
 use crate::invocations::link_invocation;
 use crate::link_error::LinkError;
-use slot_bodies::{Anchor, SlotArm, SlotCaseArm, SlotExpr, SlotStmt};
-use st_trees::{Arm, CaseArm, Expr, Stmt};
-use st_words::Identifier;
+use slot_trees::{Anchor, SlotArm, SlotCaseArm, SlotExpr, SlotStmt};
+use st_types::{Arm, CaseArm, Expr, Identifier, Stmt};
 use std::alloc::Global;
 
 /// The slot of a variable that is elementary and no input: of a control variable, or of what a call fills.
@@ -64,7 +63,7 @@ fn link_step(
 
 /// The statement over slots.
 #[cycle(link_statement)]
-#[tactic(auto, using(st_trees::proofs::Bridge::choose_view, st_trees::proofs::Bridge::select_view))]
+#[tactic(auto, using(st_types::proofs::Bridge::choose_view, st_types::proofs::Bridge::select_view))]
 fn link_statement(alloc: Global, table: &BodyTable, statement: &Stmt) -> Result<SlotStmt, LinkError>
     ensures linked { IfOk result (λ x. (text : Declared) (t : Table) → ServesBody table.now text t
         → linked_stmt t (stmt_view statement.now) ≡ Some (slot_stmt_view x)) }

@@ -1,11 +1,11 @@
 -- Every text is within some depth.
 use Rattle.std.proofs.Common.{ℕ, ◌+◌, ◌≤◌, List, [], ◌∷◌, Option, Some, None, arith}
 use Rattle.std.specs.List.{AllByRecursion}
-use Rattle.st_trees.specs.Initials.{Initial}
-use Rattle.st_trees.specs.Statements.{stmts_of}
-use Rattle.st_trees.specs.Declarations.{TypeDefinition, array, structure, enumeration}
-use Rattle.st_trees.specs.Sources.{LibraryElement, types, unit, configuration}
-use Rattle.st_trees.specs.Depths.{depth_of_initial, deepest_stmt}
+use Rattle.st_types.specs.Initials.{Initial}
+use Rattle.st_types.specs.Statements.{stmts_of}
+use Rattle.st_types.specs.Declarations.{TypeDefinition, array, structure, enumeration}
+use Rattle.st_types.specs.Sources.{LibraryElement, types, unit, configuration}
+use Rattle.st_types.specs.Depths.{depth_of_initial, deepest_stmt}
 use Rattle.st_parse.specs.Depths.{ValueWithin, FieldWithin, DefinitionWithin, TypeWithin, DeclarationWithin}
 use Rattle.st_parse.specs.Depths.{BlockWithin, UnitWithin, GlobalWithin, GlobalBlockWithin, ConfigurationWithin}
 use Rattle.st_parse.specs.Depths.{ElementWithin, SourceWithin}

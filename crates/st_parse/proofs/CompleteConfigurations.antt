@@ -1,19 +1,19 @@
 -- What is a configuration is read.
 use Rattle.std.proofs.Common.{◌≡◌, ℕ, true, false, List, [], ◌∷◌, Option, Some, Ok, refl, subst}
 use Rattle.std.specs.List.{AllByRecursion}
-use Rattle.st_words.specs.declared.identifier.Identifier.{Identifier}
+use Rattle.st_types.specs.declared.identifier.Identifier.{Identifier}
 use Rattle.st_lex.specs.declared.token.TokenKind.{TokenKind}
 use Rattle.st_lex.specs.declared.token.TokenKind.TheVariants.{Keyword}
 use Rattle.st_lex.specs.declared.mark.Mark.TheVariants as m
 use Rattle.st_lex.specs.declared.keyword.Keyword.TheVariants as w
-use Rattle.st_trees.specs.declared.configuration.GlobalQualifier.{GlobalQualifier}
-use Rattle.st_trees.specs.declared.configuration.Task.{Task}
-use Rattle.st_trees.specs.declared.configuration.Instance.{Instance}
-use Rattle.st_trees.specs.Configurations.{GlobalNames, GlobalDeclaration, GlobalBlock, Resource, Configuration}
-use Rattle.st_statements.specs.Tokens.{Tokens, next, Is, is, mark, keyword, name, is_mark, is_keyword, is_name, Passes}
-use Rattle.st_statements.specs.Tokens.{same_mark, same_keyword}
-use Rattle.st_statements.specs.Parsers.{one}
-use Rattle.st_statements.proofs.Complete.{one_complete, mark_head, keyword_head, name_head}
+use Rattle.st_types.specs.declared.configuration.GlobalQualifier.{GlobalQualifier}
+use Rattle.st_types.specs.declared.configuration.Task.{Task}
+use Rattle.st_types.specs.declared.configuration.Instance.{Instance}
+use Rattle.st_types.specs.Configurations.{GlobalNames, GlobalDeclaration, GlobalBlock, Resource, Configuration}
+use Rattle.st_parse.specs.Tokens.{Tokens, next, Is, is, mark, keyword, name, is_mark, is_keyword, is_name, Passes}
+use Rattle.st_parse.specs.Tokens.{same_mark, same_keyword}
+use Rattle.st_parse.specs.Parsers.{one}
+use Rattle.st_parse.proofs.Complete.{one_complete, mark_head, keyword_head, name_head}
 use Rattle.st_parse.specs.Lists.{Many, no_more, one_more, Several, several as at_least, AfterComma, after_comma}
 use Rattle.st_parse.specs.Lists.{listed as with_commas, Optional, absent, present}
 use Rattle.st_parse.specs.Configurations.{qualifier, qualifier_in, address, duration, decimal, IsGlobalNames, IsGlobal}

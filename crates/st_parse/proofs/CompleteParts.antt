@@ -1,17 +1,17 @@
 -- What is a repeated or an optional part is read.
 use Rattle.std.proofs.Common.{◌≡◌, ℕ, ◌<◌, Bool, true, false, List, [], ◌∷◌, length, Some, None, Ok, refl, ap, arith}
 use Rattle.std.specs.List.{AllByRecursion}
-use Rattle.st_words.specs.declared.identifier.Identifier.{Identifier}
+use Rattle.st_types.specs.declared.identifier.Identifier.{Identifier}
 use Rattle.st_lex.specs.declared.token.TokenKind.{TokenKind}
 use Rattle.st_lex.specs.declared.token.TokenKind.TheVariants.{Keyword}
 use Rattle.st_lex.specs.declared.mark.Mark.TheVariants as m
 use Rattle.st_lex.specs.declared.keyword.Keyword.{Keyword as KeywordType}
-use Rattle.st_statements.specs.Tokens.{Tokens, next, Is, is, keyword, name, is_mark}
-use Rattle.st_statements.specs.Parsers.{Parser, one, by_kind, several, listed, after_comma as comma}
-use Rattle.st_statements.specs.Laws.{Grammar}
-use Rattle.st_statements.proofs.Complete.{one_complete, keyword_kind, Repeats, repeats_halt, repeats_step}
-use Rattle.st_statements.proofs.Complete.{several_complete, after_comma_complete, comma_next, listed_complete}
-use Rattle.st_statements.proofs.ExpressionFacts.{is_less}
+use Rattle.st_parse.specs.Tokens.{Tokens, next, Is, is, keyword, name, is_mark}
+use Rattle.st_parse.specs.Parsers.{Parser, one, by_kind, several, listed, after_comma as comma}
+use Rattle.st_parse.specs.Laws.{Grammar}
+use Rattle.st_parse.proofs.Complete.{one_complete, keyword_kind, Repeats, repeats_halt, repeats_step}
+use Rattle.st_parse.proofs.Complete.{several_complete, after_comma_complete, comma_next, listed_complete}
+use Rattle.st_parse.proofs.ExpressionFacts.{is_less}
 use Rattle.st_parse.specs.Lists.{Many, no_more, one_more, Several, several as at_least, AfterComma, after_comma, Listed}
 use Rattle.st_parse.specs.Lists.{listed as with_commas}
 use Rattle.st_parse.specs.Reading.{optional, many, at_least_one}

@@ -2,13 +2,13 @@
 use Rattle.std.proofs.Common.{◌≡◌, ℕ, ◌<◌, true, List, [], ◌∷◌, length, Ok, refl, subst, ◌∙◌, arith}
 use Rattle.std.specs.List.{AllByRecursion}
 use Rattle.st_lex.specs.declared.keyword.Keyword.TheVariants as w
-use Rattle.st_trees.specs.Declarations.{TypeDeclaration}
-use Rattle.st_trees.specs.Units.{OrganisationUnit}
-use Rattle.st_trees.specs.Configurations.{Configuration}
-use Rattle.st_trees.specs.Sources.{LibraryElement, Source}
-use Rattle.st_trees.specs.Sources as e
-use Rattle.st_statements.specs.Tokens.{Tokens, next, Is, keyword, is_keyword, same_keyword}
-use Rattle.st_statements.proofs.Complete.{keyword_head}
+use Rattle.st_types.specs.Declarations.{TypeDeclaration}
+use Rattle.st_types.specs.Units.{OrganisationUnit}
+use Rattle.st_types.specs.Configurations.{Configuration}
+use Rattle.st_types.specs.Sources.{LibraryElement, Source}
+use Rattle.st_types.specs.Sources as e
+use Rattle.st_parse.specs.Tokens.{Tokens, next, Is, keyword, is_keyword, same_keyword}
+use Rattle.st_parse.proofs.Complete.{keyword_head}
 use Rattle.st_parse.specs.Types.{IsTypes, block as types_block}
 use Rattle.st_parse.specs.Units.{IsUnit}
 use Rattle.st_parse.specs.Units as u

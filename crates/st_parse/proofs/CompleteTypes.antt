@@ -5,16 +5,16 @@ use Rattle.st_lex.specs.declared.token.TokenKind.{TokenKind}
 use Rattle.st_lex.specs.declared.token.TokenKind.TheVariants.{Name, Elementary}
 use Rattle.st_lex.specs.declared.mark.Mark.TheVariants as m
 use Rattle.st_lex.specs.declared.keyword.Keyword.TheVariants as w
-use Rattle.st_trees.specs.declared.data_type.SimpleType.{SimpleType}
-use Rattle.st_trees.specs.declared.data_type.ArrayType.{ArrayType}
-use Rattle.st_trees.specs.declared.data_type.VariableType.{VariableType}
-use Rattle.st_trees.specs.Initials.{Initial}
-use Rattle.st_trees.specs.Depths.{depth_of_initial}
-use Rattle.st_trees.specs.Declarations.{Field, TypeDefinition, TypeDeclaration}
-use Rattle.st_statements.specs.Tokens.{Tokens, next, Is, is, mark, keyword, is_mark, is_keyword, is_name, Passes}
-use Rattle.st_statements.specs.Tokens.{same_mark, same_keyword}
-use Rattle.st_statements.proofs.Complete.{one_complete, mark_head, keyword_head, name_head, number_complete}
-use Rattle.st_statements.proofs.CompleteInitials.{initial_complete}
+use Rattle.st_types.specs.declared.data_type.SimpleType.{SimpleType}
+use Rattle.st_types.specs.declared.data_type.ArrayType.{ArrayType}
+use Rattle.st_types.specs.declared.data_type.VariableType.{VariableType}
+use Rattle.st_types.specs.Initials.{Initial}
+use Rattle.st_types.specs.Depths.{depth_of_initial}
+use Rattle.st_types.specs.Declarations.{Field, TypeDefinition, TypeDeclaration}
+use Rattle.st_parse.specs.Tokens.{Tokens, next, Is, is, mark, keyword, is_mark, is_keyword, is_name, Passes}
+use Rattle.st_parse.specs.Tokens.{same_mark, same_keyword}
+use Rattle.st_parse.proofs.Complete.{one_complete, mark_head, keyword_head, name_head, number_complete}
+use Rattle.st_parse.proofs.CompleteInitials.{initial_complete}
 use Rattle.st_parse.specs.Lists.{Optional, absent, present, Several}
 use Rattle.st_parse.specs.Types.{simple, simple_in, IsArray, IsType, plain, IsGiven, given, IsField, field}
 use Rattle.st_parse.specs.Types.{IsDefinition, structure, enumeration, IsTypeDeclaration, declared, IsTypes, block}

@@ -2,25 +2,25 @@
 use Rattle.std.proofs.Common.{◌≡◌, ℕ, ◌<◌, ◌≤◌, Bool, true, false, List, [], ◌∷◌, length, Option, Some, Ok, refl, subst}
 use Rattle.std.proofs.Common.{◌∙◌}
 use Rattle.std.specs.List.{AllByRecursion}
-use Rattle.st_words.specs.declared.identifier.Identifier.{Identifier}
+use Rattle.st_types.specs.declared.identifier.Identifier.{Identifier}
 use Rattle.st_lex.specs.declared.token.TokenKind.{TokenKind}
 use Rattle.st_lex.specs.declared.token.TokenKind.TheVariants.{Name, Keyword, Mark}
 use Rattle.st_lex.specs.declared.mark.Mark.TheVariants as m
 use Rattle.st_lex.specs.declared.keyword.Keyword.{Keyword as KeywordType}
 use Rattle.st_lex.specs.declared.keyword.Keyword.TheVariants as w
-use Rattle.st_trees.specs.declared.declaration.Retention.{Retention}
-use Rattle.st_trees.specs.declared.declaration.Section.{Section}
-use Rattle.st_trees.specs.Statements.{Stmt, stmts_of}
-use Rattle.st_trees.specs.Declarations.{Declaration, VariableBlock}
-use Rattle.st_trees.specs.Units.{OrganisationUnit}
-use Rattle.st_trees.specs.Depths.{deepest_stmt}
-use Rattle.st_statements.specs.Tokens.{Tokens, next, Is, is, mark, keyword, name, is_mark, is_keyword, is_name, Passes}
-use Rattle.st_statements.specs.Tokens.{same_mark, same_keyword}
-use Rattle.st_statements.specs.Parsers.{Parser, one}
-use Rattle.st_statements.specs.Statements.{IsStmts, no_stmt, stmt}
-use Rattle.st_statements.specs.StatementReading.{stmts_at, starts_stmt}
-use Rattle.st_statements.proofs.Complete.{one_complete, mark_head, keyword_head, name_head}
-use Rattle.st_statements.proofs.CompleteStatements.{all_complete, stmt_next}
+use Rattle.st_types.specs.declared.declaration.Retention.{Retention}
+use Rattle.st_types.specs.declared.declaration.Section.{Section}
+use Rattle.st_types.specs.Statements.{Stmt, stmts_of}
+use Rattle.st_types.specs.Declarations.{Declaration, VariableBlock}
+use Rattle.st_types.specs.Units.{OrganisationUnit}
+use Rattle.st_types.specs.Depths.{deepest_stmt}
+use Rattle.st_parse.specs.Tokens.{Tokens, next, Is, is, mark, keyword, name, is_mark, is_keyword, is_name, Passes}
+use Rattle.st_parse.specs.Tokens.{same_mark, same_keyword}
+use Rattle.st_parse.specs.Parsers.{Parser, one}
+use Rattle.st_parse.specs.Statements.{IsStmts, no_stmt, stmt}
+use Rattle.st_parse.specs.StatementReading.{stmts_at, starts_stmt}
+use Rattle.st_parse.proofs.Complete.{one_complete, mark_head, keyword_head, name_head}
+use Rattle.st_parse.proofs.CompleteStatements.{all_complete, stmt_next}
 use Rattle.st_parse.specs.Lists.{Many, no_more, one_more, Listed, listed as with_commas, Optional, absent, present}
 use Rattle.st_parse.specs.Units.{retention, retention_in, IsDeclaration, IsExternal, IsFunctionSection}
 use Rattle.st_parse.specs.Units.{IsOwnSection, IsBlockSection, IsExternalSection, IsBlock, IsProgramBlock}

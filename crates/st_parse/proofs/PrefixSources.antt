@@ -3,21 +3,21 @@ use Rattle.std.proofs.Common.{◌≡◌, ℕ, ◌+◌, ◌-◌, false, [], ◌�
 use Rattle.std.proofs.Common.{arith}
 use Rattle.std.proofs.lemmas.List.{append-nil, length-append}
 use Rattle.std.proofs.Math.Seq.{drop-append_seam}
-use Rattle.st_words.specs.declared.limits.TheConstants.{MAX_DEPTH}
-use Rattle.st_trees.specs.Sources.{Source}
-use Rattle.st_statements.specs.declared.fault.Refusal.{Refusal}
-use Rattle.st_statements.specs.declared.fault.Refusal.TheVariants.{Unexpected, Deep}
-use Rattle.st_statements.specs.Tokens.{Tokens, next}
-use Rattle.st_statements.specs.declared.fault.ReadError.{ReadError}
-use Rattle.st_statements.specs.declared.fault.ReadError.TheVariants as errors
-use Rattle.st_statements.specs.Parsers.{Outcome, Fails}
-use Rattle.st_statements.specs.Laws.{Begins}
-use Rattle.st_statements.proofs.Sound.{Told, Kept, Lost, Sunk}
-use Rattle.st_statements.proofs.SoundReadings.{told_by}
+use Rattle.st_types.specs.declared.limits.TheConstants.{MAX_DEPTH}
+use Rattle.st_types.specs.Sources.{Source}
+use Rattle.st_parse.specs.declared.fault.Refusal.{Refusal}
+use Rattle.st_parse.specs.declared.fault.Refusal.TheVariants.{Unexpected, Deep}
+use Rattle.st_parse.specs.Tokens.{Tokens, next}
+use Rattle.st_parse.specs.declared.fault.ReadError.{ReadError}
+use Rattle.st_parse.specs.declared.fault.ReadError.TheVariants as errors
+use Rattle.st_parse.specs.Parsers.{Outcome, Fails}
+use Rattle.st_parse.specs.Laws.{Begins}
+use Rattle.st_parse.proofs.Sound.{Told, Kept, Lost, Sunk}
+use Rattle.st_parse.proofs.SoundReadings.{told_by}
 use Rattle.st_parse.specs.Lists.{Many}
 use Rattle.st_parse.specs.Sources.{IsLibraryElement, IsSource}
 use Rattle.st_parse.specs.Depths.{SourceWithin}
-use Rattle.st_statements.specs.Places.{end_of, start_of, place_left, parse_error}
+use Rattle.st_parse.specs.Places.{end_of, start_of, place_left, parse_error}
 use Rattle.st_parse.specs.Answers.{place_behind, BeginsSource, IsUnexpectedAt, IsTooDeepSource, Refused, Answers}
 use Rattle.st_parse.specs.SourceReading.{is_token, source_at}
 use Rattle.st_parse.proofs.SoundSources.{sound_source}

@@ -1,20 +1,20 @@
 -- Each part of a text takes tokens.
 use Rattle.std.proofs.Common.{ℕ, ◌<◌, List, length, arith}
-use Rattle.st_words.specs.declared.identifier.Identifier.{Identifier}
-use Rattle.st_trees.specs.declared.data_type.ArrayType.{ArrayType}
-use Rattle.st_trees.specs.declared.data_type.VariableType.{VariableType}
-use Rattle.st_trees.specs.declared.declaration.Section.{Section}
-use Rattle.st_trees.specs.declared.configuration.Task.{Task}
-use Rattle.st_trees.specs.declared.configuration.Instance.{Instance}
-use Rattle.st_trees.specs.Initials.{Initial}
-use Rattle.st_trees.specs.Declarations.{Field, TypeDefinition, TypeDeclaration, Declaration, VariableBlock}
-use Rattle.st_trees.specs.Units.{OrganisationUnit}
-use Rattle.st_trees.specs.Configurations.{GlobalNames, GlobalDeclaration, GlobalBlock, Resource, Configuration}
-use Rattle.st_trees.specs.Sources.{LibraryElement}
-use Rattle.st_statements.specs.Tokens.{Tokens, name}
-use Rattle.st_statements.proofs.ExpressionFacts.{is_less}
-use Rattle.st_statements.proofs.StatementFacts.{number_less, stmts_less}
-use Rattle.st_statements.proofs.SoundInitials.{initial_less}
+use Rattle.st_types.specs.declared.identifier.Identifier.{Identifier}
+use Rattle.st_types.specs.declared.data_type.ArrayType.{ArrayType}
+use Rattle.st_types.specs.declared.data_type.VariableType.{VariableType}
+use Rattle.st_types.specs.declared.declaration.Section.{Section}
+use Rattle.st_types.specs.declared.configuration.Task.{Task}
+use Rattle.st_types.specs.declared.configuration.Instance.{Instance}
+use Rattle.st_types.specs.Initials.{Initial}
+use Rattle.st_types.specs.Declarations.{Field, TypeDefinition, TypeDeclaration, Declaration, VariableBlock}
+use Rattle.st_types.specs.Units.{OrganisationUnit}
+use Rattle.st_types.specs.Configurations.{GlobalNames, GlobalDeclaration, GlobalBlock, Resource, Configuration}
+use Rattle.st_types.specs.Sources.{LibraryElement}
+use Rattle.st_parse.specs.Tokens.{Tokens, name}
+use Rattle.st_parse.proofs.ExpressionFacts.{is_less}
+use Rattle.st_parse.proofs.StatementFacts.{number_less, stmts_less}
+use Rattle.st_parse.proofs.SoundInitials.{initial_less}
 use Rattle.st_parse.specs.Types.{IsArray, IsType, plain, IsGiven, given, IsField, field, IsDefinition, structure}
 use Rattle.st_parse.specs.Types.{enumeration}
 use Rattle.st_parse.specs.Types.{IsTypeDeclaration, declared, IsTypes, block as types_block}

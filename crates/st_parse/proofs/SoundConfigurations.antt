@@ -1,24 +1,24 @@
 -- What is read as a configuration is one, and what stands before a refusal begins one.
 use Rattle.std.proofs.Common.{ℕ, ◌+◌, true, List, Option, None, refl, sym, subst}
-use Rattle.st_words.specs.declared.identifier.Identifier.{Identifier}
+use Rattle.st_types.specs.declared.identifier.Identifier.{Identifier}
 use Rattle.st_lex.specs.declared.token.TokenKind.TheVariants.{Keyword, Number, Duration, Address}
 use Rattle.st_lex.specs.declared.mark.Mark.TheVariants as m
 use Rattle.st_lex.specs.declared.keyword.Keyword.TheVariants as w
-use Rattle.st_trees.specs.declared.configuration.Address.{Address as AddressLeaf}
-use Rattle.st_trees.specs.declared.configuration.Direction.TheVariants.{Input}
-use Rattle.st_trees.specs.declared.configuration.AddressWidth.TheVariants.{Bit}
-use Rattle.st_trees.specs.declared.configuration.GlobalQualifier.TheVariants as qualifiers
-use Rattle.st_trees.specs.declared.configuration.Priority.{Priority}
-use Rattle.st_trees.specs.declared.configuration.Task.{Task}
-use Rattle.st_trees.specs.declared.configuration.Instance.{Instance}
-use Rattle.st_trees.specs.Configurations.{GlobalNames, located, listed, GlobalDeclaration, GlobalBlock, Resource}
-use Rattle.st_trees.specs.Configurations.{Configuration}
-use Rattle.st_statements.specs.Tokens.{Tokens, Is, Passes, mark, keyword, name, is_keyword, is_name}
-use Rattle.st_statements.specs.Parsers.{one}
-use Rattle.st_statements.specs.Laws.{Grammar}
-use Rattle.st_statements.proofs.Sound.{Any, Seq, Made, made}
-use Rattle.st_statements.proofs.SoundReadings.{Sound, sound_then, sound_pure, sound_as, sound_if, sound_one, sound_mark}
-use Rattle.st_statements.proofs.SoundReadings.{sound_keyword, sound_name, token_of}
+use Rattle.st_types.specs.declared.configuration.Address.{Address as AddressLeaf}
+use Rattle.st_types.specs.declared.configuration.Direction.TheVariants.{Input}
+use Rattle.st_types.specs.declared.configuration.AddressWidth.TheVariants.{Bit}
+use Rattle.st_types.specs.declared.configuration.GlobalQualifier.TheVariants as qualifiers
+use Rattle.st_types.specs.declared.configuration.Priority.{Priority}
+use Rattle.st_types.specs.declared.configuration.Task.{Task}
+use Rattle.st_types.specs.declared.configuration.Instance.{Instance}
+use Rattle.st_types.specs.Configurations.{GlobalNames, located, listed, GlobalDeclaration, GlobalBlock, Resource}
+use Rattle.st_types.specs.Configurations.{Configuration}
+use Rattle.st_parse.specs.Tokens.{Tokens, Is, Passes, mark, keyword, name, is_keyword, is_name}
+use Rattle.st_parse.specs.Parsers.{one}
+use Rattle.st_parse.specs.Laws.{Grammar}
+use Rattle.st_parse.proofs.Sound.{Any, Seq, Made, made}
+use Rattle.st_parse.proofs.SoundReadings.{Sound, sound_then, sound_pure, sound_as, sound_if, sound_one, sound_mark}
+use Rattle.st_parse.proofs.SoundReadings.{sound_keyword, sound_name, token_of}
 use Rattle.st_parse.specs.Lists.{Many, Several, Optional}
 use Rattle.st_parse.specs.Types.{IsType, IsGiven}
 use Rattle.st_parse.specs.Configurations.{qualifier, address, duration, decimal, IsGlobalNames, IsGlobal, IsGlobalBlock}

@@ -2,18 +2,18 @@
 use Rattle.std.proofs.Common.{◌≡◌, ◌<◌, ◌≤◌, Bool, false, List, [], ◌∷◌, length, Option, Some, None, IfSome, sym, subst}
 use Rattle.std.proofs.Common.{arith}
 use Rattle.std.specs.List.{AllByRecursion}
-use Rattle.st_words.specs.declared.identifier.Identifier.{Identifier}
+use Rattle.st_types.specs.declared.identifier.Identifier.{Identifier}
 use Rattle.st_lex.specs.declared.token.Token.{Token}
 use Rattle.st_lex.specs.declared.token.TokenKind.{TokenKind}
 use Rattle.st_lex.specs.declared.mark.Mark.TheVariants as m
-use Rattle.st_statements.specs.Tokens.{Tokens, next, Is, mark, name, is_mark}
-use Rattle.st_statements.specs.Parsers.{one, several, listed, after_comma as comma}
-use Rattle.st_statements.specs.Laws.{Grammar}
-use Rattle.st_statements.proofs.Sound.{Family, Any, Seq, Made, made}
-use Rattle.st_statements.proofs.SoundReadings.{Sound, sound_then, sound_pure, sound_as, sound_under, sound_if}
-use Rattle.st_statements.proofs.SoundReadings.{sound_mark, sound_name}
-use Rattle.st_statements.proofs.SoundLists.{Each, More, sound_several, sound_listed}
-use Rattle.st_statements.proofs.ExpressionFacts.{is_less}
+use Rattle.st_parse.specs.Tokens.{Tokens, next, Is, mark, name, is_mark}
+use Rattle.st_parse.specs.Parsers.{one, several, listed, after_comma as comma}
+use Rattle.st_parse.specs.Laws.{Grammar}
+use Rattle.st_parse.proofs.Sound.{Family, Any, Seq, Made, made}
+use Rattle.st_parse.proofs.SoundReadings.{Sound, sound_then, sound_pure, sound_as, sound_under, sound_if}
+use Rattle.st_parse.proofs.SoundReadings.{sound_mark, sound_name}
+use Rattle.st_parse.proofs.SoundLists.{Each, More, sound_several, sound_listed}
+use Rattle.st_parse.proofs.ExpressionFacts.{is_less}
 use Rattle.st_parse.specs.Lists.{Many, no_more, one_more, Several, several as at_least, AfterComma, after_comma, Listed}
 use Rattle.st_parse.specs.Lists.{listed as with_commas, Optional, absent, present}
 use Rattle.st_parse.specs.Reading.{optional, many, at_least_one}

@@ -4,12 +4,12 @@ use Rattle.st_lex.specs.declared.token.Token.{Token}
 use Rattle.st_lex.specs.declared.token.TokenKind.{TokenKind}
 use Rattle.st_lex.specs.declared.token.TokenKind.TheVariants.{Keyword}
 use Rattle.st_lex.specs.declared.keyword.Keyword.TheVariants as w
-use Rattle.st_trees.specs.Sources.{LibraryElement, Source}
-use Rattle.st_trees.specs.Sources as e
-use Rattle.st_statements.specs.Tokens.{Tokens, next}
-use Rattle.st_statements.specs.Laws.{Begins}
-use Rattle.st_statements.proofs.Sound.{Told, Seq, Made, made, told_refuse, told_by_kind}
-use Rattle.st_statements.proofs.SoundReadings.{Sound, told_by, sound_then, sound_pure, sound_as}
+use Rattle.st_types.specs.Sources.{LibraryElement, Source}
+use Rattle.st_types.specs.Sources as e
+use Rattle.st_parse.specs.Tokens.{Tokens, next}
+use Rattle.st_parse.specs.Laws.{Begins}
+use Rattle.st_parse.proofs.Sound.{Told, Seq, Made, made, told_refuse, told_by_kind}
+use Rattle.st_parse.proofs.SoundReadings.{Sound, told_by, sound_then, sound_pure, sound_as}
 use Rattle.st_parse.specs.Lists.{Many}
 use Rattle.st_parse.specs.Types.{IsTypes}
 use Rattle.st_parse.specs.Units.{IsUnit}

@@ -1,26 +1,26 @@
 -- What is read as a type is one, and what stands before a refusal begins one.
 use Rattle.std.proofs.Common.{ℕ, ◌+◌, ◌≤◌, List, refl}
 use Rattle.std.specs.List.{AllByRecursion}
-use Rattle.st_words.specs.declared.kind.Kind.TheVariants.{Int}
+use Rattle.st_types.specs.declared.kind.Kind.TheVariants.{Int}
 use Rattle.st_lex.specs.declared.token.TokenKind.TheVariants.{Elementary}
 use Rattle.st_lex.specs.declared.mark.Mark.TheVariants as m
 use Rattle.st_lex.specs.declared.keyword.Keyword.TheVariants as w
-use Rattle.st_trees.specs.declared.data_type.SimpleType.TheVariants as simples
-use Rattle.st_trees.specs.declared.data_type.ArrayType.{ArrayType}
-use Rattle.st_trees.specs.declared.data_type.VariableType.{VariableType}
-use Rattle.st_trees.specs.declared.data_type.VariableType.TheVariants as types
-use Rattle.st_trees.specs.Initials.{Initial}
-use Rattle.st_trees.specs.Depths.{depth_of_initial}
-use Rattle.st_trees.specs.Declarations.{Field, TypeDefinition, TypeDeclaration}
-use Rattle.st_trees.specs.Declarations as d
-use Rattle.st_statements.specs.Tokens.{Tokens, Is, mark, keyword, name, is_mark, is_keyword, is_name, IsNumber}
-use Rattle.st_statements.specs.Parsers.{one, listed}
-use Rattle.st_statements.specs.Initials.{IsInitial}
-use Rattle.st_statements.specs.InitialReading.{initial_at}
-use Rattle.st_statements.proofs.Sound.{Any, Seq, Made, made}
-use Rattle.st_statements.proofs.SoundReadings.{Sound, sound_then, sound_pure, sound_as, sound_if, sound_one, sound_mark}
-use Rattle.st_statements.proofs.SoundReadings.{sound_keyword, sound_name, sound_number, token_of}
-use Rattle.st_statements.proofs.SoundInitials.{told_initial, initial_begins}
+use Rattle.st_types.specs.declared.data_type.SimpleType.TheVariants as simples
+use Rattle.st_types.specs.declared.data_type.ArrayType.{ArrayType}
+use Rattle.st_types.specs.declared.data_type.VariableType.{VariableType}
+use Rattle.st_types.specs.declared.data_type.VariableType.TheVariants as types
+use Rattle.st_types.specs.Initials.{Initial}
+use Rattle.st_types.specs.Depths.{depth_of_initial}
+use Rattle.st_types.specs.Declarations.{Field, TypeDefinition, TypeDeclaration}
+use Rattle.st_types.specs.Declarations as d
+use Rattle.st_parse.specs.Tokens.{Tokens, Is, mark, keyword, name, is_mark, is_keyword, is_name, IsNumber}
+use Rattle.st_parse.specs.Parsers.{one, listed}
+use Rattle.st_parse.specs.Initials.{IsInitial}
+use Rattle.st_parse.specs.InitialReading.{initial_at}
+use Rattle.st_parse.proofs.Sound.{Any, Seq, Made, made}
+use Rattle.st_parse.proofs.SoundReadings.{Sound, sound_then, sound_pure, sound_as, sound_if, sound_one, sound_mark}
+use Rattle.st_parse.proofs.SoundReadings.{sound_keyword, sound_name, sound_number, token_of}
+use Rattle.st_parse.proofs.SoundInitials.{told_initial, initial_begins}
 use Rattle.st_parse.specs.Lists.{Several, Listed, Optional}
 use Rattle.st_parse.specs.Types.{simple, IsArray, IsType, plain, IsGiven, given, IsField, field, IsDefinition}
 use Rattle.st_parse.specs.Types.{structure, enumeration, IsTypeDeclaration, declared, IsTypes, block}

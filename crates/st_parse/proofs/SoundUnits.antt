@@ -1,26 +1,26 @@
 -- What is read as a function, a function block or a program is one, and what stands before a refusal begins one.
 use Rattle.std.proofs.Common.{ℕ, ◌+◌, ◌<◌, ◌≤◌, length, None, refl}
-use Rattle.st_words.specs.declared.kind.Kind.TheVariants.{Int}
-use Rattle.st_trees.specs.declared.data_type.SimpleType.TheVariants as simples
+use Rattle.st_types.specs.declared.kind.Kind.TheVariants.{Int}
+use Rattle.st_types.specs.declared.data_type.SimpleType.TheVariants as simples
 use Rattle.st_lex.specs.declared.token.TokenKind.TheVariants.{Elementary, Keyword}
 use Rattle.st_lex.specs.declared.mark.Mark.TheVariants as m
 use Rattle.st_lex.specs.declared.keyword.Keyword.TheVariants as w
-use Rattle.st_trees.specs.declared.declaration.Retention.TheVariants.{Retain}
-use Rattle.st_trees.specs.declared.declaration.Section.{Section}
-use Rattle.st_trees.specs.declared.declaration.Section.TheVariants as sections
-use Rattle.st_trees.specs.declared.unit.UnitSort.TheVariants as sorts
-use Rattle.st_trees.specs.Statements.{stmts_of}
-use Rattle.st_trees.specs.Declarations.{Declaration, VariableBlock}
-use Rattle.st_trees.specs.Units.{OrganisationUnit}
-use Rattle.st_trees.specs.Depths.{deepest_stmt}
-use Rattle.st_statements.specs.Tokens.{Tokens, Is, mark, keyword, name, is_keyword, is_name}
-use Rattle.st_statements.specs.Parsers.{Parser, one}
-use Rattle.st_statements.specs.Statements.{IsStmts}
-use Rattle.st_statements.specs.StatementReading.{stmts_at}
-use Rattle.st_statements.proofs.Sound.{Family, Any, Seq, Made, made}
-use Rattle.st_statements.proofs.SoundReadings.{Sound, sound_then, sound_pure, sound_as, sound_under, sound_if}
-use Rattle.st_statements.proofs.SoundReadings.{sound_one, sound_mark, sound_keyword, sound_name, token_of}
-use Rattle.st_statements.proofs.SoundStatements.{told_stmts, stmts_begins}
+use Rattle.st_types.specs.declared.declaration.Retention.TheVariants.{Retain}
+use Rattle.st_types.specs.declared.declaration.Section.{Section}
+use Rattle.st_types.specs.declared.declaration.Section.TheVariants as sections
+use Rattle.st_types.specs.declared.unit.UnitSort.TheVariants as sorts
+use Rattle.st_types.specs.Statements.{stmts_of}
+use Rattle.st_types.specs.Declarations.{Declaration, VariableBlock}
+use Rattle.st_types.specs.Units.{OrganisationUnit}
+use Rattle.st_types.specs.Depths.{deepest_stmt}
+use Rattle.st_parse.specs.Tokens.{Tokens, Is, mark, keyword, name, is_keyword, is_name}
+use Rattle.st_parse.specs.Parsers.{Parser, one}
+use Rattle.st_parse.specs.Statements.{IsStmts}
+use Rattle.st_parse.specs.StatementReading.{stmts_at}
+use Rattle.st_parse.proofs.Sound.{Family, Any, Seq, Made, made}
+use Rattle.st_parse.proofs.SoundReadings.{Sound, sound_then, sound_pure, sound_as, sound_under, sound_if}
+use Rattle.st_parse.proofs.SoundReadings.{sound_one, sound_mark, sound_keyword, sound_name, token_of}
+use Rattle.st_parse.proofs.SoundStatements.{told_stmts, stmts_begins}
 use Rattle.st_parse.specs.Lists.{Many, Listed, Optional}
 use Rattle.st_parse.specs.Types.{simple, IsType, IsGiven}
 use Rattle.st_parse.specs.Units.{retention, IsDeclaration, IsExternal, IsFunctionSection, IsOwnSection}

@@ -1,14 +1,14 @@
 -- What parsing answers.
 use Rattle.std.specs.Prelude.{◌≡◌, ℕ, [], ◌∷◌, ◌++◌, Result, Ok, Err}
-use Rattle.st_words.specs.declared.limits.TheConstants.{MAX_DEPTH}
-use Rattle.st_trees.specs.Sources.{Source}
-use Rattle.st_trees.specs.SourceViews.{source_view}
-use Rattle.st_trees.specs.declared.source.Source.{Source as Tree}
-use Rattle.st_statements.specs.declared.fault.ParseError.{ParseError}
-use Rattle.st_statements.specs.declared.fault.ParseError.TheVariants as errors
-use Rattle.st_statements.specs.Tokens.{Tokens}
-use Rattle.st_statements.specs.Places.{end_of}
-use Rattle.st_statements.specs.Laws.{SameHead}
+use Rattle.st_types.specs.declared.limits.TheConstants.{MAX_DEPTH}
+use Rattle.st_types.specs.Sources.{Source}
+use Rattle.st_types.specs.SourceViews.{source_view}
+use Rattle.st_types.specs.declared.source.Source.{Source as Tree}
+use Rattle.st_parse.specs.declared.fault.ParseError.{ParseError}
+use Rattle.st_parse.specs.declared.fault.ParseError.TheVariants as errors
+use Rattle.st_parse.specs.Tokens.{Tokens}
+use Rattle.st_parse.specs.Places.{end_of}
+use Rattle.st_parse.specs.Laws.{SameHead}
 use Rattle.st_parse.specs.Sources.{IsSource}
 use Rattle.st_parse.specs.Depths.{SourceWithin}
 

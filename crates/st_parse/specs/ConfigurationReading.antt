@@ -1,16 +1,16 @@
 -- Reading configurations.
 use Rattle.std.specs.Prelude.{ℕ, Bool, ◌||◌, List, [], ◌∷◌, Option}
-use Rattle.st_words.specs.declared.identifier.Identifier.{Identifier}
+use Rattle.st_types.specs.declared.identifier.Identifier.{Identifier}
 use Rattle.st_lex.specs.declared.token.TokenKind.{TokenKind}
 use Rattle.st_lex.specs.declared.mark.Mark.TheVariants as m
 use Rattle.st_lex.specs.declared.keyword.Keyword.TheVariants as w
-use Rattle.st_trees.specs.declared.configuration.Priority.{Priority}
-use Rattle.st_trees.specs.declared.configuration.Task.{Task}
-use Rattle.st_trees.specs.declared.configuration.Instance.{Instance}
-use Rattle.st_trees.specs.Configurations.{GlobalNames, located, listed, GlobalDeclaration, GlobalBlock, Resource}
-use Rattle.st_trees.specs.Configurations.{Configuration}
-use Rattle.st_statements.specs.Tokens.{is_mark, is_keyword, is_name, mark, keyword, name}
-use Rattle.st_statements.specs.Parsers.{Parser, ◌>>=◌, ◌>>◌, pure, one, if_next, several, after_comma}
+use Rattle.st_types.specs.declared.configuration.Priority.{Priority}
+use Rattle.st_types.specs.declared.configuration.Task.{Task}
+use Rattle.st_types.specs.declared.configuration.Instance.{Instance}
+use Rattle.st_types.specs.Configurations.{GlobalNames, located, listed, GlobalDeclaration, GlobalBlock, Resource}
+use Rattle.st_types.specs.Configurations.{Configuration}
+use Rattle.st_parse.specs.Tokens.{is_mark, is_keyword, is_name, mark, keyword, name}
+use Rattle.st_parse.specs.Parsers.{Parser, ◌>>=◌, ◌>>◌, pure, one, if_next, several, after_comma}
 use Rattle.st_parse.specs.Reading.{optional, many, at_least_one}
 use Rattle.st_parse.specs.TypeReading.{type_at, given_or_not}
 use Rattle.st_parse.specs.Configurations.{qualifier, address, duration, decimal}

@@ -1,22 +1,22 @@
 -- The grammar of configurations.
 use Rattle.std.specs.Prelude.{◌≡◌, ℕ, List, Option, Some, None, if◌then◌else◌}
-use Rattle.st_words.specs.declared.identifier.Identifier.{Identifier}
+use Rattle.st_types.specs.declared.identifier.Identifier.{Identifier}
 use Rattle.st_lex.specs.declared.token.Token.{Token}
 use Rattle.st_lex.specs.declared.token.TokenKind.{TokenKind}
 use Rattle.st_lex.specs.declared.token.TokenKind.TheVariants as kinds
 use Rattle.st_lex.specs.declared.mark.Mark.TheVariants as m
 use Rattle.st_lex.specs.declared.keyword.Keyword.TheVariants as w
-use Rattle.st_trees.specs.declared.data_type.VariableType.{VariableType}
-use Rattle.st_trees.specs.declared.configuration.Address.{Address}
-use Rattle.st_trees.specs.declared.configuration.GlobalQualifier.{GlobalQualifier}
-use Rattle.st_trees.specs.declared.configuration.GlobalQualifier.TheVariants as qualifiers
-use Rattle.st_trees.specs.declared.configuration.Priority.{Priority}
-use Rattle.st_trees.specs.declared.configuration.Task.{Task}
-use Rattle.st_trees.specs.declared.configuration.Instance.{Instance}
-use Rattle.st_trees.specs.Initials.{Initial}
-use Rattle.st_trees.specs.Configurations.{GlobalNames, GlobalDeclaration, GlobalBlock, Resource, Configuration}
-use Rattle.st_trees.specs.Configurations as c
-use Rattle.st_statements.specs.Tokens.{Tokens, mark, keyword, name, Is, Passes}
+use Rattle.st_types.specs.declared.data_type.VariableType.{VariableType}
+use Rattle.st_types.specs.declared.configuration.Address.{Address}
+use Rattle.st_types.specs.declared.configuration.GlobalQualifier.{GlobalQualifier}
+use Rattle.st_types.specs.declared.configuration.GlobalQualifier.TheVariants as qualifiers
+use Rattle.st_types.specs.declared.configuration.Priority.{Priority}
+use Rattle.st_types.specs.declared.configuration.Task.{Task}
+use Rattle.st_types.specs.declared.configuration.Instance.{Instance}
+use Rattle.st_types.specs.Initials.{Initial}
+use Rattle.st_types.specs.Configurations.{GlobalNames, GlobalDeclaration, GlobalBlock, Resource, Configuration}
+use Rattle.st_types.specs.Configurations as c
+use Rattle.st_parse.specs.Tokens.{Tokens, mark, keyword, name, Is, Passes}
 use Rattle.st_parse.specs.Lists.{Many, Several, Listed, Optional}
 use Rattle.st_parse.specs.Types.{IsType, IsGiven}
 

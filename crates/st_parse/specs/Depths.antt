@@ -1,15 +1,15 @@
 -- How deep the trees of a text may be: every initial value and every statement is at most so deep.
 use Rattle.std.specs.Prelude.{ℕ, ◌≤◌, Option, IfSome}
 use Rattle.std.specs.List.{AllByRecursion}
-use Rattle.st_trees.specs.Initials.{Initial}
-use Rattle.st_trees.specs.Statements.{stmts_of}
-use Rattle.st_trees.specs.Declarations.{Field, TypeDefinition, array, structure, enumeration, TypeDeclaration}
-use Rattle.st_trees.specs.Declarations.{Declaration}
-use Rattle.st_trees.specs.Declarations.{VariableBlock}
-use Rattle.st_trees.specs.Units.{OrganisationUnit}
-use Rattle.st_trees.specs.Configurations.{GlobalDeclaration, GlobalBlock, Configuration}
-use Rattle.st_trees.specs.Sources.{LibraryElement, types, unit, configuration, Source}
-use Rattle.st_trees.specs.Depths.{depth_of_initial, deepest_stmt}
+use Rattle.st_types.specs.Initials.{Initial}
+use Rattle.st_types.specs.Statements.{stmts_of}
+use Rattle.st_types.specs.Declarations.{Field, TypeDefinition, array, structure, enumeration, TypeDeclaration}
+use Rattle.st_types.specs.Declarations.{Declaration}
+use Rattle.st_types.specs.Declarations.{VariableBlock}
+use Rattle.st_types.specs.Units.{OrganisationUnit}
+use Rattle.st_types.specs.Configurations.{GlobalDeclaration, GlobalBlock, Configuration}
+use Rattle.st_types.specs.Sources.{LibraryElement, types, unit, configuration, Source}
+use Rattle.st_types.specs.Depths.{depth_of_initial, deepest_stmt}
 
 module _ (depth : ℕ) where
   abbrev pub ValueWithin : Option Initial → Type 0

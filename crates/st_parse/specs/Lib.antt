@@ -1,3 +1,17 @@
+pub mod Tokens
+pub mod Operators
+pub mod Parsers
+pub mod Calls
+pub mod Laws
+pub mod Places
+pub mod Expressions
+pub mod ExpressionReading
+pub mod Initials
+pub mod InitialReading
+pub mod Statements
+pub mod StatementReading
+pub mod ArmsView
+pub mod Limits
 pub mod Lists
 pub mod Types
 pub mod Units

@@ -1,7 +1,7 @@
 -- Repeated and optional parts of the grammar.
 use Rattle.std.specs.Prelude.{List, [], ◌∷◌, Option, Some, None}
 use Rattle.st_lex.specs.declared.mark.Mark.TheVariants as m
-use Rattle.st_statements.specs.Tokens.{Tokens, mark, Passes}
+use Rattle.st_parse.specs.Tokens.{Tokens, mark, Passes}
 
 -- any number of them
 pub data Many {A : Type 0} (One : Tokens → A → Tokens → Type 0) : Tokens → List A → Tokens → Type 0 where

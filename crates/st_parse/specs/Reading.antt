@@ -1,7 +1,7 @@
 -- Reading repeated and optional parts.
 use Rattle.std.specs.Prelude.{Bool, List, [], ◌∷◌, Option, Some, None}
 use Rattle.st_lex.specs.declared.token.TokenKind.{TokenKind}
-use Rattle.st_statements.specs.Parsers.{Parser, ◌>>=◌, pure, if_next, several}
+use Rattle.st_parse.specs.Parsers.{Parser, ◌>>=◌, pure, if_next, several}
 
 -- one, where the next token is of such a kind, or nothing
 unfoldable pub optional : {A : Type 0} → (TokenKind → Bool) → Parser A → Parser (Option A)

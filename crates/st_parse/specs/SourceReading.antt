@@ -3,9 +3,9 @@ use Rattle.std.specs.Prelude.{ℕ, Bool, true}
 use Rattle.st_lex.specs.declared.token.TokenKind.{TokenKind}
 use Rattle.st_lex.specs.declared.token.TokenKind.TheVariants.{Keyword}
 use Rattle.st_lex.specs.declared.keyword.Keyword.TheVariants as w
-use Rattle.st_trees.specs.Sources.{LibraryElement, Source}
-use Rattle.st_trees.specs.Sources as e
-use Rattle.st_statements.specs.Parsers.{Parser, ◌>>=◌, pure, refuse, by_kind}
+use Rattle.st_types.specs.Sources.{LibraryElement, Source}
+use Rattle.st_types.specs.Sources as e
+use Rattle.st_parse.specs.Parsers.{Parser, ◌>>=◌, pure, refuse, by_kind}
 use Rattle.st_parse.specs.Reading.{many}
 use Rattle.st_parse.specs.TypeReading.{types_at}
 use Rattle.st_parse.specs.UnitReading.{function_at, function_block_unit_at, program_at}

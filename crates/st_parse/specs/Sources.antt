@@ -1,11 +1,11 @@
 -- The grammar of whole texts.
 use Rattle.std.specs.Prelude.{◌≡◌, List, []}
-use Rattle.st_trees.specs.Declarations.{TypeDeclaration}
-use Rattle.st_trees.specs.Units.{OrganisationUnit}
-use Rattle.st_trees.specs.Configurations.{Configuration}
-use Rattle.st_trees.specs.Sources.{LibraryElement, Source}
-use Rattle.st_trees.specs.Sources as e
-use Rattle.st_statements.specs.Tokens.{Tokens}
+use Rattle.st_types.specs.Declarations.{TypeDeclaration}
+use Rattle.st_types.specs.Units.{OrganisationUnit}
+use Rattle.st_types.specs.Configurations.{Configuration}
+use Rattle.st_types.specs.Sources.{LibraryElement, Source}
+use Rattle.st_types.specs.Sources as e
+use Rattle.st_parse.specs.Tokens.{Tokens}
 use Rattle.st_parse.specs.Lists.{Many}
 use Rattle.st_parse.specs.Types.{IsTypes}
 use Rattle.st_parse.specs.Units.{IsUnit}

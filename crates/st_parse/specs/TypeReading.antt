@@ -2,15 +2,15 @@
 use Rattle.std.specs.Prelude.{ℕ, List, Option}
 use Rattle.st_lex.specs.declared.mark.Mark.TheVariants as m
 use Rattle.st_lex.specs.declared.keyword.Keyword.TheVariants as w
-use Rattle.st_trees.specs.declared.data_type.ArrayType.{ArrayType}
-use Rattle.st_trees.specs.declared.data_type.VariableType.{VariableType}
-use Rattle.st_trees.specs.declared.data_type.VariableType.TheVariants as types
-use Rattle.st_trees.specs.Initials.{Initial}
-use Rattle.st_trees.specs.Declarations.{Field, TypeDefinition, TypeDeclaration}
-use Rattle.st_trees.specs.Declarations as d
-use Rattle.st_statements.specs.Tokens.{is_mark, is_keyword, is_name, mark, keyword, name}
-use Rattle.st_statements.specs.Parsers.{Parser, ◌>>=◌, ◌>>◌, pure, one, if_next, listed, number_at}
-use Rattle.st_statements.specs.InitialReading.{initial_at}
+use Rattle.st_types.specs.declared.data_type.ArrayType.{ArrayType}
+use Rattle.st_types.specs.declared.data_type.VariableType.{VariableType}
+use Rattle.st_types.specs.declared.data_type.VariableType.TheVariants as types
+use Rattle.st_types.specs.Initials.{Initial}
+use Rattle.st_types.specs.Declarations.{Field, TypeDefinition, TypeDeclaration}
+use Rattle.st_types.specs.Declarations as d
+use Rattle.st_parse.specs.Tokens.{is_mark, is_keyword, is_name, mark, keyword, name}
+use Rattle.st_parse.specs.Parsers.{Parser, ◌>>=◌, ◌>>◌, pure, one, if_next, listed, number_at}
+use Rattle.st_parse.specs.InitialReading.{initial_at}
 use Rattle.st_parse.specs.Types.{simple}
 use Rattle.st_parse.specs.Reading.{optional, at_least_one}
 

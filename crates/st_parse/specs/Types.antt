@@ -1,22 +1,22 @@
 -- The grammar of types.
 use Rattle.std.specs.Prelude.{◌≡◌, ℕ, List, Option, Some, None}
-use Rattle.st_words.specs.declared.identifier.Identifier.{Identifier}
-use Rattle.st_words.specs.declared.literal.Number.{Number}
+use Rattle.st_types.specs.declared.identifier.Identifier.{Identifier}
+use Rattle.st_types.specs.declared.literal.Number.{Number}
 use Rattle.st_lex.specs.declared.token.Token.{Token}
 use Rattle.st_lex.specs.declared.token.TokenKind.{TokenKind}
 use Rattle.st_lex.specs.declared.token.TokenKind.TheVariants.{Name, Elementary}
 use Rattle.st_lex.specs.declared.mark.Mark.TheVariants as m
 use Rattle.st_lex.specs.declared.keyword.Keyword.TheVariants as w
-use Rattle.st_trees.specs.declared.data_type.SimpleType.{SimpleType}
-use Rattle.st_trees.specs.declared.data_type.SimpleType.TheVariants as simples
-use Rattle.st_trees.specs.declared.data_type.ArrayType.{ArrayType}
-use Rattle.st_trees.specs.declared.data_type.VariableType.{VariableType}
-use Rattle.st_trees.specs.declared.data_type.VariableType.TheVariants as types
-use Rattle.st_trees.specs.Initials.{Initial}
-use Rattle.st_trees.specs.Declarations.{Field, TypeDefinition, TypeDeclaration}
-use Rattle.st_trees.specs.Declarations as d
-use Rattle.st_statements.specs.Tokens.{Tokens, mark, keyword, name, Is, Passes, IsNumber}
-use Rattle.st_statements.specs.Initials.{IsInitial}
+use Rattle.st_types.specs.declared.data_type.SimpleType.{SimpleType}
+use Rattle.st_types.specs.declared.data_type.SimpleType.TheVariants as simples
+use Rattle.st_types.specs.declared.data_type.ArrayType.{ArrayType}
+use Rattle.st_types.specs.declared.data_type.VariableType.{VariableType}
+use Rattle.st_types.specs.declared.data_type.VariableType.TheVariants as types
+use Rattle.st_types.specs.Initials.{Initial}
+use Rattle.st_types.specs.Declarations.{Field, TypeDefinition, TypeDeclaration}
+use Rattle.st_types.specs.Declarations as d
+use Rattle.st_parse.specs.Tokens.{Tokens, mark, keyword, name, Is, Passes, IsNumber}
+use Rattle.st_parse.specs.Initials.{IsInitial}
 use Rattle.st_parse.specs.Lists.{Several, Listed, Optional}
 
 -- a type that is named by one word

@@ -1,18 +1,18 @@
 -- Reading functions, function blocks and programs.
 use Rattle.std.specs.Prelude.{ℕ, Bool, ◌||◌, List, Option, None}
-use Rattle.st_words.specs.declared.identifier.Identifier.{Identifier}
+use Rattle.st_types.specs.declared.identifier.Identifier.{Identifier}
 use Rattle.st_lex.specs.declared.token.TokenKind.{TokenKind}
 use Rattle.st_lex.specs.declared.mark.Mark.TheVariants as m
 use Rattle.st_lex.specs.declared.keyword.Keyword.TheVariants as w
-use Rattle.st_trees.specs.declared.declaration.Retention.{Retention}
-use Rattle.st_trees.specs.declared.declaration.Section.{Section}
-use Rattle.st_trees.specs.declared.declaration.Section.TheVariants as sections
-use Rattle.st_trees.specs.declared.unit.UnitSort.TheVariants as sorts
-use Rattle.st_trees.specs.Declarations.{Declaration, VariableBlock}
-use Rattle.st_trees.specs.Units.{OrganisationUnit}
-use Rattle.st_statements.specs.Tokens.{is_keyword, is_name, mark, keyword, name}
-use Rattle.st_statements.specs.Parsers.{Parser, ◌>>=◌, ◌>>◌, pure, one, if_next, listed}
-use Rattle.st_statements.specs.StatementReading.{stmts_at}
+use Rattle.st_types.specs.declared.declaration.Retention.{Retention}
+use Rattle.st_types.specs.declared.declaration.Section.{Section}
+use Rattle.st_types.specs.declared.declaration.Section.TheVariants as sections
+use Rattle.st_types.specs.declared.unit.UnitSort.TheVariants as sorts
+use Rattle.st_types.specs.Declarations.{Declaration, VariableBlock}
+use Rattle.st_types.specs.Units.{OrganisationUnit}
+use Rattle.st_parse.specs.Tokens.{is_keyword, is_name, mark, keyword, name}
+use Rattle.st_parse.specs.Parsers.{Parser, ◌>>=◌, ◌>>◌, pure, one, if_next, listed}
+use Rattle.st_parse.specs.StatementReading.{stmts_at}
 use Rattle.st_parse.specs.Reading.{optional, many}
 use Rattle.st_parse.specs.TypeReading.{type_at, given_or_not}
 use Rattle.st_parse.specs.Units.{retention}

@@ -1,26 +1,26 @@
 -- The grammar of functions, function blocks and programs.
 use Rattle.std.specs.Prelude.{◌≡◌, ℕ, List, Option, Some, None}
-use Rattle.st_words.specs.declared.identifier.Identifier.{Identifier}
+use Rattle.st_types.specs.declared.identifier.Identifier.{Identifier}
 use Rattle.st_lex.specs.declared.token.Token.{Token}
 use Rattle.st_lex.specs.declared.token.TokenKind.{TokenKind}
 use Rattle.st_lex.specs.declared.token.TokenKind.TheVariants.{Keyword}
 use Rattle.st_lex.specs.declared.mark.Mark.TheVariants as m
 use Rattle.st_lex.specs.declared.keyword.Keyword.TheVariants as w
-use Rattle.st_trees.specs.declared.data_type.VariableType.{VariableType}
-use Rattle.st_trees.specs.declared.declaration.Retention.{Retention}
-use Rattle.st_trees.specs.declared.declaration.Retention.TheVariants.{Retain, NonRetain}
-use Rattle.st_trees.specs.declared.declaration.Section.{Section}
-use Rattle.st_trees.specs.declared.declaration.Section.TheVariants as sections
-use Rattle.st_trees.specs.declared.unit.UnitSort.TheVariants as sorts
-use Rattle.st_trees.specs.Initials.{Initial}
-use Rattle.st_trees.specs.Statements.{Stmt}
-use Rattle.st_trees.specs.Declarations.{Declaration, VariableBlock}
-use Rattle.st_trees.specs.Units.{OrganisationUnit}
-use Rattle.st_statements.specs.Tokens.{Tokens, mark, keyword, name, Is, Passes}
-use Rattle.st_statements.specs.Statements.{IsStmts}
+use Rattle.st_types.specs.declared.data_type.VariableType.{VariableType}
+use Rattle.st_types.specs.declared.declaration.Retention.{Retention}
+use Rattle.st_types.specs.declared.declaration.Retention.TheVariants.{Retain, NonRetain}
+use Rattle.st_types.specs.declared.declaration.Section.{Section}
+use Rattle.st_types.specs.declared.declaration.Section.TheVariants as sections
+use Rattle.st_types.specs.declared.unit.UnitSort.TheVariants as sorts
+use Rattle.st_types.specs.Initials.{Initial}
+use Rattle.st_types.specs.Statements.{Stmt}
+use Rattle.st_types.specs.Declarations.{Declaration, VariableBlock}
+use Rattle.st_types.specs.Units.{OrganisationUnit}
+use Rattle.st_parse.specs.Tokens.{Tokens, mark, keyword, name, Is, Passes}
+use Rattle.st_parse.specs.Statements.{IsStmts}
 use Rattle.st_parse.specs.Lists.{Many, Listed, Optional}
 use Rattle.st_parse.specs.Types.{simple, IsType, IsGiven}
-use Rattle.st_trees.specs.declared.data_type.SimpleType.{SimpleType}
+use Rattle.st_types.specs.declared.data_type.SimpleType.{SimpleType}
 
 -- RETAIN or NON_RETAIN
 abbrev pub retention_in : TokenKind → Option Retention

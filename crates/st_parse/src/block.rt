@@ -1,18 +1,20 @@
 //! Blocks of variables, from their first word to END_VAR.
 
 ghost use Rattle.std.specs.Prelude.{◌≡◌, []};
-ghost use Rattle.st_words.specs.declared.limits.TheConstants.{MAX_DEPTH};
-ghost use Rattle.st_trees.specs.DeclarationViews.{variable_block_view};
-ghost use Rattle.st_statements.specs.Tokens.{next};
-ghost use Rattle.st_statements.specs.Parsers.{Reads, each};
+ghost use Rattle.st_types.specs.declared.limits.TheConstants.{MAX_DEPTH};
+ghost use Rattle.st_types.specs.DeclarationViews.{variable_block_view};
+ghost use Rattle.st_parse.specs.Tokens.{next};
+ghost use Rattle.st_parse.specs.Parsers.{Reads, each};
 ghost use Rattle.st_parse.specs.Reading.{many};
 ghost use Rattle.st_parse.specs.UnitReading as reading;
 
 use crate::declaration::{declarations, externals};
+use crate::fault::ReadError;
+use crate::list::several;
 use crate::section::{block_section, external_section, function_section, own_section};
+use crate::tokens::{keyword, leads};
 use st_lex::{Keyword, Token};
-use st_statements::{ReadError, keyword, leads, several};
-use st_trees::VariableBlock;
+use st_types::VariableBlock;
 use std::alloc::Global;
 
 type Block<'a> = Result<(VariableBlock, &'a [Token]), ReadError>;

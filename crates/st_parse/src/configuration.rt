@@ -1,19 +1,21 @@
 //! Configurations.
 
 ghost use Rattle.std.specs.Prelude.{◌≡◌, ◌∷◌, []};
-ghost use Rattle.st_words.specs.declared.limits.TheConstants.{MAX_DEPTH};
+ghost use Rattle.st_types.specs.declared.limits.TheConstants.{MAX_DEPTH};
 ghost use Rattle.st_lex.specs.declared.keyword.Keyword.TheVariants as keywords;
-ghost use Rattle.st_trees.specs.ConfigurationViews.{global_block_view, resource_view, configuration_view};
-ghost use Rattle.st_statements.specs.Tokens.{is_keyword};
-ghost use Rattle.st_statements.specs.Parsers.{Reads, each};
+ghost use Rattle.st_types.specs.ConfigurationViews.{global_block_view, resource_view, configuration_view};
+ghost use Rattle.st_parse.specs.Tokens.{is_keyword};
+ghost use Rattle.st_parse.specs.Parsers.{Reads, each};
 ghost use Rattle.st_parse.specs.Reading.{many, at_least_one};
 ghost use Rattle.st_parse.specs.ConfigurationReading as reading;
 
+use crate::fault::ReadError;
 use crate::global::global_block;
+use crate::list::several;
 use crate::resource::resource;
+use crate::tokens::{keyword, leads, name};
 use st_lex::{Keyword, Token};
-use st_statements::{ReadError, keyword, leads, name, several};
-use st_trees::{Configuration, GlobalBlock, Resource};
+use st_types::{Configuration, GlobalBlock, Resource};
 use std::alloc::Global;
 
 /// `global_blocks = { global_block } .`

@@ -1,24 +1,24 @@
 //! Types.
 
 ghost use Rattle.std.specs.Prelude.{◌≡◌, ◌∷◌, [], option_map};
-ghost use Rattle.st_words.specs.declared.limits.TheConstants.{MAX_DEPTH};
-ghost use Rattle.st_trees.specs.InitialViews.{initial_view};
-ghost use Rattle.st_trees.specs.DeclarationViews.{field_view, type_definition_view, type_declaration_view};
-ghost use Rattle.st_statements.specs.Tokens.{is_name};
-ghost use Rattle.st_statements.specs.Parsers.{Reads, as_is, each, one};
+ghost use Rattle.st_types.specs.declared.limits.TheConstants.{MAX_DEPTH};
+ghost use Rattle.st_types.specs.InitialViews.{initial_view};
+ghost use Rattle.st_types.specs.DeclarationViews.{field_view, type_definition_view, type_declaration_view};
+ghost use Rattle.st_parse.specs.Tokens.{is_name};
+ghost use Rattle.st_parse.specs.Parsers.{Reads, as_is, each, one};
 ghost use Rattle.st_parse.specs.Types as specs;
 ghost use Rattle.st_parse.specs.TypeReading as reading;
 
+use crate::fault::ReadError;
+use crate::list::several;
 use crate::names::names;
+use crate::reader::{read_initial, read_number};
+use crate::tokens::{begins, begins_name, keyword, leads, mark, name, refused};
 use st_lex::{Keyword, Mark, Token, TokenKind};
-use st_statements::{
-    ReadError, begins, begins_name, keyword, leads, mark, name, read_initial, read_number, refused,
-    several,
+use st_types::{
+    ArrayType, Field, Identifier, Initial, SimpleType, TypeDeclaration, TypeDefinition,
+    VariableType,
 };
-use st_trees::{
-    ArrayType, Field, Initial, SimpleType, TypeDeclaration, TypeDefinition, VariableType,
-};
-use st_words::Identifier;
 use std::alloc::Global;
 
 /// `simple = Elementary | Name .`

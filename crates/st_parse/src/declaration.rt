@@ -1,18 +1,20 @@
 //! Declarations of variables.
 
 ghost use Rattle.std.specs.Prelude.{◌≡◌, []};
-ghost use Rattle.st_words.specs.declared.limits.TheConstants.{MAX_DEPTH};
-ghost use Rattle.st_trees.specs.DeclarationViews.{declaration_view};
-ghost use Rattle.st_statements.specs.Tokens.{is_name};
-ghost use Rattle.st_statements.specs.Parsers.{Reads, each};
+ghost use Rattle.st_types.specs.declared.limits.TheConstants.{MAX_DEPTH};
+ghost use Rattle.st_types.specs.DeclarationViews.{declaration_view};
+ghost use Rattle.st_parse.specs.Tokens.{is_name};
+ghost use Rattle.st_parse.specs.Parsers.{Reads, each};
 ghost use Rattle.st_parse.specs.Reading.{many};
 ghost use Rattle.st_parse.specs.UnitReading as reading;
 
 use crate::data_type::{given_or_not, variable_type};
+use crate::fault::ReadError;
+use crate::list::several;
 use crate::names::names;
+use crate::tokens::{begins_name, mark};
 use st_lex::{Mark, Token};
-use st_statements::{ReadError, begins_name, mark, several};
-use st_trees::Declaration;
+use st_types::Declaration;
 use std::alloc::Global;
 
 type Declarations<'a> = Result<(Vec<Declaration>, &'a [Token]), ReadError>;

@@ -1,20 +1,21 @@
 //! Global variables.
 
 ghost use Rattle.std.specs.Prelude.{◌≡◌, []};
-ghost use Rattle.st_words.specs.declared.limits.TheConstants.{MAX_DEPTH};
-ghost use Rattle.st_trees.specs.ConfigurationViews.{global_names_view, global_declaration_view, global_block_view};
-ghost use Rattle.st_statements.specs.Tokens.{is_name, next};
-ghost use Rattle.st_statements.specs.Parsers.{Reads, as_is, each, one};
+ghost use Rattle.st_types.specs.declared.limits.TheConstants.{MAX_DEPTH};
+ghost use Rattle.st_types.specs.ConfigurationViews.{global_names_view, global_declaration_view, global_block_view};
+ghost use Rattle.st_parse.specs.Tokens.{is_name, next};
+ghost use Rattle.st_parse.specs.Parsers.{Reads, as_is, each, one};
 ghost use Rattle.st_parse.specs.Reading.{many, optional};
 ghost use Rattle.st_parse.specs.Configurations as specs;
 ghost use Rattle.st_parse.specs.ConfigurationReading as reading;
 
 use crate::data_type::{given_or_not, variable_type};
+use crate::fault::ReadError;
+use crate::list::several;
 use crate::names::names_behind;
+use crate::tokens::{begins_name, keyword, leads, mark, name, refused};
 use st_lex::{Keyword, Mark, Token, TokenKind};
-use st_statements::{ReadError, begins_name, keyword, leads, mark, name, refused, several};
-use st_trees::{Address, GlobalBlock, GlobalDeclaration, GlobalNames, GlobalQualifier};
-use st_words::Identifier;
+use st_types::{Address, GlobalBlock, GlobalDeclaration, GlobalNames, GlobalQualifier, Identifier};
 use std::alloc::Global;
 
 type Names<'a> = Result<(GlobalNames, &'a [Token]), ReadError>;

@@ -1,9 +1,9 @@
 //! Laws of the tree of a text, each proved of the definitions. The functions do nothing: their contracts are the laws.
 
 ghost use Rattle.std.specs.Prelude.{◌≡◌, ℕ, List};
-ghost use Rattle.st_trees.specs.Sources.{Source};
+ghost use Rattle.st_types.specs.Sources.{Source};
 ghost use Rattle.st_lex.specs.Texts.{IsSpelledBy};
-ghost use Rattle.st_statements.specs.Tokens.{Tokens};
+ghost use Rattle.st_parse.specs.Tokens.{Tokens};
 ghost use Rattle.st_parse.specs.Sources.{IsSource};
 
 /// A text has at most one tree, however deep it is, and so has a list of tokens.

@@ -3,21 +3,23 @@
 ghost use Rattle.std.specs.Prelude.{◌≡◌, ◌∷◌, []};
 ghost use Rattle.std.specs.Vec.{vec_items};
 ghost use Rattle.st_lex.specs.declared.mark.Mark.TheVariants.{Comma};
-ghost use Rattle.st_statements.specs.Tokens as tokens_of;
-ghost use Rattle.st_statements.specs.Parsers as parsers;
-ghost use Rattle.st_statements.specs.Parsers.{Reads, as_is, one};
+ghost use Rattle.st_parse.specs.Tokens as tokens_of;
+ghost use Rattle.st_parse.specs.Parsers as parsers;
+ghost use Rattle.st_parse.specs.Parsers.{Reads, as_is, one};
 ghost use Rattle.st_parse.specs.UnitReading as reading;
 
+use crate::fault::ReadError;
+use crate::list::several;
+use crate::tokens::{begins, mark, name};
 use st_lex::{Mark, Token};
-use st_statements::{ReadError, begins, mark, name, several};
-use st_words::Identifier;
+use st_types::Identifier;
 use std::alloc::Global;
 
 /// Names, and the tokens after them.
 pub type Names<'a> = Result<(Vec<Identifier>, &'a [Token]), ReadError>;
 
 /// `next_name = ",", name .`
-#[tactic(auto, unfolding(st_statements::specs::Parsers::after_comma))]
+#[tactic(auto, unfolding(crate::specs::Parsers::after_comma))]
 fn next_name(alloc: Global, tokens: &[Token]) -> Result<(Identifier, &[Token]), ReadError>
     ensures { Reads as_is result (parsers.after_comma (one tokens_of.name) tokens.now) }
 {
@@ -42,7 +44,7 @@ pub fn names_behind<'a>(alloc: Global, first: Identifier, tokens: &'a [Token]) -
 }
 
 /// `names = name, names_behind .`
-#[tactic(auto, unfolding(crate::specs::UnitReading::names_at, st_statements::specs::Parsers::listed))]
+#[tactic(auto, unfolding(crate::specs::UnitReading::names_at, crate::specs::Parsers::listed))]
 pub fn names(alloc: Global, tokens: &[Token]) -> Names<'_>
     ensures { Reads vec_items result (reading.names_at tokens.now) }
 {

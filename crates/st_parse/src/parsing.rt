@@ -1,17 +1,18 @@
 //! The tree of a text.
 
 ghost use Rattle.std.specs.Prelude.{IfOk, IfErr};
-ghost use Rattle.st_words.specs.declared.limits.TheConstants.{MAX_DEPTH};
-ghost use Rattle.st_trees.specs.Sources as tree;
-ghost use Rattle.st_trees.specs.SourceViews.{source_view};
+ghost use Rattle.st_types.specs.declared.limits.TheConstants.{MAX_DEPTH};
+ghost use Rattle.st_types.specs.Sources as tree;
+ghost use Rattle.st_types.specs.SourceViews.{source_view};
 ghost use Rattle.st_parse.specs.Sources.{IsSource};
 ghost use Rattle.st_parse.specs.Depths.{SourceWithin};
 ghost use Rattle.st_parse.specs.Answers.{Refused, Answers};
 
+use crate::fault::ParseError;
+use crate::place::parse_error;
 use crate::source::elements;
 use st_lex::Token;
-use st_statements::{ParseError, parse_error};
-use st_trees::Source;
+use st_types::Source;
 use std::alloc::Global;
 
 /// The tree of a text from its tokens.

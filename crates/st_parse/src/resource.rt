@@ -3,17 +3,18 @@
 ghost use Rattle.std.specs.Prelude.{◌≡◌, ◌∷◌, []};
 ghost use Rattle.std.specs.Vec.{vec_items};
 ghost use Rattle.st_lex.specs.declared.keyword.Keyword.TheVariants as keywords;
-ghost use Rattle.st_trees.specs.ConfigurationViews.{resource_view};
-ghost use Rattle.st_statements.specs.Tokens.{is_keyword};
-ghost use Rattle.st_statements.specs.Parsers.{Reads, as_is, one};
+ghost use Rattle.st_types.specs.ConfigurationViews.{resource_view};
+ghost use Rattle.st_parse.specs.Tokens.{is_keyword};
+ghost use Rattle.st_parse.specs.Parsers.{Reads, as_is, one};
 ghost use Rattle.st_parse.specs.Reading.{many, at_least_one, optional};
 ghost use Rattle.st_parse.specs.Configurations as specs;
 ghost use Rattle.st_parse.specs.ConfigurationReading as reading;
 
+use crate::fault::ReadError;
+use crate::list::several;
+use crate::tokens::{keyword, leads, mark, name, refused};
 use st_lex::{Keyword, Mark, Token, TokenKind};
-use st_statements::{ReadError, keyword, leads, mark, name, refused, several};
-use st_trees::{Instance, Priority, Resource, Task};
-use st_words::Identifier;
+use st_types::{Identifier, Instance, Priority, Resource, Task};
 use std::alloc::Global;
 
 /// SINGLE, INTERVAL and PRIORITY of a task, and the tokens after them.

@@ -2,14 +2,15 @@
 
 ghost use Rattle.std.specs.Prelude.{◌≡◌};
 ghost use Rattle.st_lex.specs.declared.keyword.Keyword.TheVariants as keywords;
-ghost use Rattle.st_statements.specs.Tokens.{next};
-ghost use Rattle.st_statements.specs.Parsers.{Reads, as_is, one};
+ghost use Rattle.st_parse.specs.Tokens.{next};
+ghost use Rattle.st_parse.specs.Parsers.{Reads, as_is, one};
 ghost use Rattle.st_parse.specs.Units as specs;
 ghost use Rattle.st_parse.specs.UnitReading as reading;
 
+use crate::fault::ReadError;
+use crate::tokens::{keyword, leads, refused};
 use st_lex::{Keyword, Token, TokenKind};
-use st_statements::{ReadError, keyword, leads, refused};
-use st_trees::{Retention, Section};
+use st_types::{Retention, Section};
 
 /// A section, and the tokens after it.
 type Found<'a> = Result<(Section, &'a [Token]), ReadError>;

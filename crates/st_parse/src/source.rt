@@ -1,17 +1,19 @@
 //! Whole texts.
 
 ghost use Rattle.std.specs.Prelude.{◌≡◌, []};
-ghost use Rattle.st_words.specs.declared.limits.TheConstants.{MAX_DEPTH};
-ghost use Rattle.st_trees.specs.SourceViews.{element_view, source_view};
-ghost use Rattle.st_statements.specs.Parsers.{Reads, each};
+ghost use Rattle.st_types.specs.declared.limits.TheConstants.{MAX_DEPTH};
+ghost use Rattle.st_types.specs.SourceViews.{element_view, source_view};
+ghost use Rattle.st_parse.specs.Parsers.{Reads, each};
 ghost use Rattle.st_parse.specs.SourceReading as reading;
 
 use crate::configuration::configuration;
 use crate::data_type::types;
+use crate::fault::ReadError;
+use crate::list::several;
+use crate::tokens::refused;
 use crate::unit::{function, function_block, program};
 use st_lex::{Keyword, Token, TokenKind};
-use st_statements::{ReadError, refused, several};
-use st_trees::{LibraryElement, Source};
+use st_types::{LibraryElement, Source};
 use std::alloc::Global;
 
 /// A part of a text, and the tokens after it.

@@ -1,16 +1,18 @@
 //! Functions, function blocks and programs.
 
 ghost use Rattle.std.specs.Prelude.{◌≡◌};
-ghost use Rattle.st_words.specs.declared.limits.TheConstants.{MAX_DEPTH};
-ghost use Rattle.st_trees.specs.UnitViews.{unit_view};
-ghost use Rattle.st_statements.specs.Parsers.{Reads};
+ghost use Rattle.st_types.specs.declared.limits.TheConstants.{MAX_DEPTH};
+ghost use Rattle.st_types.specs.UnitViews.{unit_view};
+ghost use Rattle.st_parse.specs.Parsers.{Reads};
 ghost use Rattle.st_parse.specs.UnitReading as reading;
 
 use crate::block::{function_blocks, program_blocks, variable_blocks};
 use crate::data_type::simple;
+use crate::fault::ReadError;
+use crate::reader::read_statements;
+use crate::tokens::{keyword, mark, name};
 use st_lex::{Keyword, Mark, Token};
-use st_statements::{ReadError, keyword, mark, name, read_statements};
-use st_trees::{Unit, UnitSort};
+use st_types::{Unit, UnitSort};
 use std::alloc::Global;
 
 /// A unit, and the tokens after it.

@@ -3,9 +3,9 @@ use Rattle.std.specs.Prelude.{Option, Some, None, ◌≡◌, ℕ, ◌^◌, ◌<�
 use Rattle.std.specs.Prelude.{◌&&◌, ◌||◌, nat_le}
 use Rattle.std.specs.Prelude.{unsigned_abs}
 use Rattle.std.specs.Fmt.{signed_decimal}
-use Rattle.st_words.specs.declared.kind.Kind.{Kind}
-use Rattle.st_words.specs.Kinds.{same_kind}
-use Rattle.st_words.specs.Values.{Datum, IsHeld}
+use Rattle.st_types.specs.declared.kind.Kind.{Kind}
+use Rattle.st_types.specs.Kinds.{same_kind}
+use Rattle.st_types.specs.Values.{Datum, IsHeld}
 
 -- 64 bits hold the number without its sign
 abbrev pub IsShort : ℤ → Type 0

@@ -2,12 +2,12 @@
 use Rattle.std.specs.Prelude.{ℕ, zero, suc, ◌/◌, ◌%◌, ◌==◌, List, [], ◌∷◌, ◌++◌, ℤ, unsigned_abs, true, codes}
 use Rattle.std.specs.Prelude.{if◌then◌else◌, Option, Some, None, pos, slice_get}
 use Rattle.std.specs.Fmt.{digit_glyph, signed_decimal}
-use Rattle.st_words.specs.Values.{Datum}
-use Rattle.st_words.specs.Kinds.{row_of}
-use Rattle.st_words.specs.declared.kind.Kind.{Kind}
-use Rattle.st_words.specs.declared.kind.Kind.TheVariants.{Enumerated}
-use Rattle.st_words.specs.declared.kind.Sort.{Sort}
-use Rattle.st_words.specs.declared.kind.Sort.TheVariants.{Signed, Unsigned, Bits, Duration, Truth, Place}
+use Rattle.st_types.specs.Values.{Datum}
+use Rattle.st_types.specs.Kinds.{row_of}
+use Rattle.st_types.specs.declared.kind.Kind.{Kind}
+use Rattle.st_types.specs.declared.kind.Kind.TheVariants.{Enumerated}
+use Rattle.st_types.specs.declared.kind.Sort.{Sort}
+use Rattle.st_types.specs.declared.kind.Sort.TheVariants.{Signed, Unsigned, Bits, Duration, Truth, Place}
 
 -- so many hexadecimal digits of a number, the last ones, in upper case
 abbrev pub hexadecimal : ℕ → ℕ → List ℕ

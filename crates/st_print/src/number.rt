@@ -2,12 +2,12 @@
 
 ghost use Rattle.std.specs.Prelude.{◌≡◌, ◌≢◌, ◌^◌, ◌<◌, ◌+◌, ◌∷◌, ℕ, ℤ, IfSome, IfNone};
 ghost use Rattle.std.specs.Fmt.{decimal, signed_decimal};
-ghost use Rattle.st_words.specs.Kinds.{names_in};
-ghost use Rattle.st_words.specs.Values.{Datum};
+ghost use Rattle.st_types.specs.Kinds.{names_in};
+ghost use Rattle.st_types.specs.Values.{Datum};
 ghost use Rattle.st_print.specs.Numbers.{IsShort, SpellsValue, may_begin};
 
-use st_words::limits::MOMENT_LIMIT;
-use st_words::{Kind, Value};
+use st_types::limits::MOMENT_LIMIT;
+use st_types::{Kind, Value};
 
 /// Whether the bytes begin as a decimal number does: with another digit than 0, or they are a 0 alone.
 fn may_begin(field: &[u8]) -> bool

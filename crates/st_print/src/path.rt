@@ -3,9 +3,9 @@
 ghost use Rattle.std.specs.Prelude.{◌++◌, codes, OnOk};
 ghost use Rattle.std.specs.Fmt.{signed_decimal};
 ghost use Rattle.std.specs.Io.KnownBytes.{Appends};
-ghost use Rattle.st_plans.specs.Layouts.{owner_text, path_text, step_text, steps_text};
+ghost use Rattle.st_meaning.specs.Layouts.{owner_text, path_text, step_text, steps_text};
 
-use st_words::{Owner, Path, Step};
+use st_types::{Owner, Path, Step};
 use std::io;
 use std::io::Write;
 

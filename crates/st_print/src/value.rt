@@ -4,10 +4,10 @@ ghost use Rattle.std.specs.Prelude.{◌≡◌, OnOk, map, option_map};
 ghost use Rattle.std.specs.Vec.{vec_items};
 ghost use Rattle.std.specs.Io.KnownBytes.{Appends};
 ghost use Rattle.st_print.specs.Spelling.{name_of, number_text, truth_text, value_text};
-ghost use Rattle.st_words.specs.Kinds.{row_of};
+ghost use Rattle.st_types.specs.Kinds.{row_of};
 
 use crate::hexadecimal::write_hexadecimal;
-use st_words::{Kind, Name, Sort, Value};
+use st_types::{Kind, Name, Sort, Value};
 use std::io;
 use std::io::Write;
 

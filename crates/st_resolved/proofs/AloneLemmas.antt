@@ -1,18 +1,18 @@
 -- Names and literals that stand for values of enumerated types.
 use Rattle.std.proofs.Common.{◌≡◌, ◌∙◌, sym, ap, refl, Bool, true, false, Option, Some, None}
 use Rattle.std.specs.Prelude.{option_map, option_and_then, is_some, if◌then◌else◌}
-use Rattle.st_words.specs.declared.identifier.Identifier.{Identifier}
-use Rattle.st_words.specs.declared.kind.Kind.{Kind}
-use Rattle.st_words.specs.declared.literal.EnumeratedValue.{EnumeratedValue}
-use Rattle.st_words.specs.declared.literal.Literal.{Literal}
-use Rattle.st_words.specs.declared.literal.Literal.TheVariants as literals
-use Rattle.st_trees.specs.declared.data_type.VariableType.{VariableType}
-use Rattle.st_trees.specs.Expressions.{Expr, literal, read, variable, no_selectors}
-use Rattle.st_types.specs.Enumerations.{Member, member_named, member_written, number_of_member}
-use Rattle.st_types.specs.NameTypes.{variable_type, kind_among, type_behind}
-use Rattle.st_types.specs.Operators.{or_kind}
-use Rattle.st_types.specs.Resolution.{own_kind, resolved_expr, member_read}
-use Rattle.st_statics.specs.Environments.{Environment}
+use Rattle.st_types.specs.declared.identifier.Identifier.{Identifier}
+use Rattle.st_types.specs.declared.kind.Kind.{Kind}
+use Rattle.st_types.specs.declared.literal.EnumeratedValue.{EnumeratedValue}
+use Rattle.st_types.specs.declared.literal.Literal.{Literal}
+use Rattle.st_types.specs.declared.literal.Literal.TheVariants as literals
+use Rattle.st_types.specs.declared.data_type.VariableType.{VariableType}
+use Rattle.st_types.specs.Expressions.{Expr, literal, read, variable, no_selectors}
+use Rattle.st_meaning.specs.Enumerations.{Member, member_named, member_written, number_of_member}
+use Rattle.st_meaning.specs.NameTypes.{variable_type, kind_among, type_behind}
+use Rattle.st_meaning.specs.Operators.{or_kind}
+use Rattle.st_meaning.specs.Resolution.{own_kind, resolved_expr, member_read}
+use Rattle.st_rules.specs.Environments.{Environment}
 use Rattle.st_resolved.specs.Resolutions.{IsValue}
 
 abbrev literal_of : EnumeratedValue → Option Member → Literal

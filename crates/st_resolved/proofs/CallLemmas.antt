@@ -3,20 +3,20 @@ use Rattle.std.proofs.Common.{◌≡◌, ◌∙◌, sym, ap, subst, refl, ℕ, z
 use Rattle.std.proofs.Common.{Option, Some, None}
 use Rattle.std.specs.Prelude.{option_and_then}
 use Rattle.std.proofs.Common.{length-append}
-use Rattle.st_words.specs.declared.kind.Kind.{Kind}
-use Rattle.st_words.specs.declared.identifier.Identifier.{Identifier}
-use Rattle.st_trees.specs.declared.expression.Expr as code_expr
-use Rattle.st_trees.specs.declared.unit.UnitSort.{UnitSort}
-use Rattle.st_trees.specs.declared.unit.UnitSort.TheVariants.{Function, FunctionBlock, Program}
-use Rattle.st_trees.specs.Declarations.{VariableBlock}
-use Rattle.st_trees.specs.Units.{OrganisationUnit}
-use Rattle.st_trees.specs.Expressions.{Expr, call, Exprs, no_exprs, expr_then, exprs_of}
-use Rattle.st_trees.specs.ExpressionViews.{expr_view}
-use Rattle.st_types.specs.NameTypes.{Declared, unit_named, result_kind}
-use Rattle.st_types.specs.StandardFunctions.{Standard, standard_of}
-use Rattle.st_types.specs.Resolution.{own_kinds, standard_kind, result_of_unit, expected_kinds, inputs_of_unit}
-use Rattle.st_types.specs.Resolution.{inputs_of_function, first_kind, other_kinds, resolved_expr, resolved_exprs}
-use Rattle.st_statics.specs.Environments.{Environment, Callee, standard, callee_of, callee_of_sort}
+use Rattle.st_types.specs.declared.kind.Kind.{Kind}
+use Rattle.st_types.specs.declared.identifier.Identifier.{Identifier}
+use Rattle.st_types.specs.declared.expression.Expr as code_expr
+use Rattle.st_types.specs.declared.unit.UnitSort.{UnitSort}
+use Rattle.st_types.specs.declared.unit.UnitSort.TheVariants.{Function, FunctionBlock, Program}
+use Rattle.st_types.specs.Declarations.{VariableBlock}
+use Rattle.st_types.specs.Units.{OrganisationUnit}
+use Rattle.st_types.specs.Expressions.{Expr, call, Exprs, no_exprs, expr_then, exprs_of}
+use Rattle.st_types.specs.ExpressionViews.{expr_view}
+use Rattle.st_meaning.specs.NameTypes.{Declared, unit_named, result_kind}
+use Rattle.st_meaning.specs.StandardFunctions.{Standard, standard_of}
+use Rattle.st_meaning.specs.Resolution.{own_kinds, standard_kind, result_of_unit, expected_kinds, inputs_of_unit}
+use Rattle.st_meaning.specs.Resolution.{inputs_of_function, first_kind, other_kinds, resolved_expr, resolved_exprs}
+use Rattle.st_rules.specs.Environments.{Environment, Callee, standard, callee_of, callee_of_sort}
 use Rattle.st_resolved.specs.declared.resolutions.Resolution.{Resolution}
 use Rattle.st_resolved.specs.declared.resolutions.Resolution.TheVariants.{Typed}
 use Rattle.st_resolved.specs.Calls.{kind_of_call, expected_of_call}

@@ -1,7 +1,7 @@
 -- The types that calls expect, place by place.
 use Rattle.std.proofs.Common.{◌≡◌, ◌≢◌, ◌∙◌, ap, refl, ℕ, zero, suc, ◌<◌, List, [], ◌∷◌, drop, replicate, arith, Option}
-use Rattle.st_words.specs.declared.kind.Kind.{Kind}
-use Rattle.st_types.specs.Resolution.{first_kind}
+use Rattle.st_types.specs.declared.kind.Kind.{Kind}
+use Rattle.st_meaning.specs.Resolution.{first_kind}
 
 pub among_first : (n i : ℕ) (k : Option Kind) → i < n → k ≡ first_kind (drop i (replicate n k))
 among_first zero i k h = absurd (omega arith)

@@ -1,10 +1,10 @@
 -- Initial values, by what is resolved of their parts.
 use Rattle.std.proofs.Common.{◌≡◌, ◌∙◌, ap, ℕ, List, Option, map}
-use Rattle.st_words.specs.declared.identifier.Identifier.{Identifier}
-use Rattle.st_trees.specs.declared.data_type.VariableType.{VariableType}
-use Rattle.st_trees.specs.Initials.{Initial, Element, Member, list, structure, elements_of, members_of}
-use Rattle.st_types.specs.NameTypes.{Declared}
-use Rattle.st_types.specs.ResolvedUnits.{resolved_initial, resolved_element, resolved_elements, element_of, field_of}
+use Rattle.st_types.specs.declared.identifier.Identifier.{Identifier}
+use Rattle.st_types.specs.declared.data_type.VariableType.{VariableType}
+use Rattle.st_types.specs.Initials.{Initial, Element, Member, list, structure, elements_of, members_of}
+use Rattle.st_meaning.specs.NameTypes.{Declared}
+use Rattle.st_meaning.specs.ResolvedUnits.{resolved_initial, resolved_element, resolved_elements, element_of, field_of}
 use Rattle.st_resolved.specs.Arms.{resolved_member}
 use Rattle.st_resolved.proofs.ListLemmas.{elements_resolved, members_resolved}
 

@@ -2,17 +2,17 @@
 use Rattle.std.proofs.Common.{◌≡◌, ◌∙◌, sym, ap, refl, ℕ, ◌+◌, ◌<◌, ◌≤◌, List, [], ◌∷◌, ◌++◌, map, drop, length, Option}
 use Rattle.std.proofs.Common.{append_assoc, slice_index_or}
 use Rattle.std.proofs.lemmas.List.{drop_more, drop_all, append-nil, map-append}
-use Rattle.st_words.specs.declared.kind.Kind.{Kind}
-use Rattle.st_trees.specs.declared.data_type.VariableType.{VariableType}
-use Rattle.st_trees.specs.Expressions.{Selector, selectors_of, selector_then}
-use Rattle.st_trees.specs.Statements.{Stmt, Arm, CaseArm, stmts_of, stmt_then, arms_of, arm_then, case_arms_of}
-use Rattle.st_trees.specs.Statements.{case_arm_then}
-use Rattle.st_trees.specs.Initials.{Element, Member, elements_of, element_then, members_of, member_then}
-use Rattle.st_trees.specs.Units.{OrganisationUnit}
-use Rattle.st_types.specs.NameTypes.{Declared}
-use Rattle.st_types.specs.Resolution.{resolved_selector, resolved_selectors}
-use Rattle.st_types.specs.ResolvedUnits.{resolved_stmt, resolved_stmts, resolved_arms, resolved_case_arms}
-use Rattle.st_types.specs.ResolvedUnits.{resolved_element, resolved_elements, resolved_members}
+use Rattle.st_types.specs.declared.kind.Kind.{Kind}
+use Rattle.st_types.specs.declared.data_type.VariableType.{VariableType}
+use Rattle.st_types.specs.Expressions.{Selector, selectors_of, selector_then}
+use Rattle.st_types.specs.Statements.{Stmt, Arm, CaseArm, stmts_of, stmt_then, arms_of, arm_then, case_arms_of}
+use Rattle.st_types.specs.Statements.{case_arm_then}
+use Rattle.st_types.specs.Initials.{Element, Member, elements_of, element_then, members_of, member_then}
+use Rattle.st_types.specs.Units.{OrganisationUnit}
+use Rattle.st_meaning.specs.NameTypes.{Declared}
+use Rattle.st_meaning.specs.Resolution.{resolved_selector, resolved_selectors}
+use Rattle.st_meaning.specs.ResolvedUnits.{resolved_stmt, resolved_stmts, resolved_arms, resolved_case_arms}
+use Rattle.st_meaning.specs.ResolvedUnits.{resolved_element, resolved_elements, resolved_members}
 use Rattle.st_resolved.specs.Arms.{resolved_arm, resolved_case_arm, resolved_member}
 
 pub selectors_resolved : (text : Declared) (u : OrganisationUnit) (xs : List Selector)

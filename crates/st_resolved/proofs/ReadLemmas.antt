@@ -2,15 +2,15 @@
 use Rattle.std.proofs.Common.{◌≡◌, ◌∙◌, sym, ap, refl, ℕ, ◌==◌, true, false, List, [], ◌∷◌}
 use Rattle.std.proofs.Common.{length, arith, Option, Some, None}
 use Rattle.std.proofs.lemmas.Bool.Decides.{nat_tests}
-use Rattle.st_words.specs.declared.identifier.Identifier.{Identifier}
-use Rattle.st_words.specs.declared.kind.Kind.{Kind}
-use Rattle.st_trees.specs.declared.expression.Expr as code_expr
-use Rattle.st_trees.specs.Expressions.{Expr, read, variable, Selector, selectors_of}
-use Rattle.st_trees.specs.ExpressionViews.{expr_view}
-use Rattle.st_types.specs.NameTypes.{kind_of_variable}
-use Rattle.st_types.specs.Operators.{or_kind}
-use Rattle.st_types.specs.Resolution.{resolved_variable}
-use Rattle.st_statics.specs.Environments.{Environment}
+use Rattle.st_types.specs.declared.identifier.Identifier.{Identifier}
+use Rattle.st_types.specs.declared.kind.Kind.{Kind}
+use Rattle.st_types.specs.declared.expression.Expr as code_expr
+use Rattle.st_types.specs.Expressions.{Expr, read, variable, Selector, selectors_of}
+use Rattle.st_types.specs.ExpressionViews.{expr_view}
+use Rattle.st_meaning.specs.NameTypes.{kind_of_variable}
+use Rattle.st_meaning.specs.Operators.{or_kind}
+use Rattle.st_meaning.specs.Resolution.{resolved_variable}
+use Rattle.st_rules.specs.Environments.{Environment}
 use Rattle.st_resolved.specs.declared.resolutions.Resolution.TheVariants.{Typed}
 use Rattle.st_resolved.specs.Resolutions.{Resolves}
 

@@ -2,11 +2,11 @@
 use Rattle.std.proofs.Common.{◌≡◌, ◌∙◌, sym, ap, refl, Bool, true, false, ◌&&◌, Option, Some, None}
 use Rattle.std.specs.Prelude.{if◌then◌else◌}
 use Rattle.std.proofs.lemmas.Bool.{and_parts}
-use Rattle.st_words.specs.declared.kind.Kind.{Kind}
-use Rattle.st_words.specs.declared.operator.BinaryOperator.{BinaryOperator}
-use Rattle.st_trees.specs.Expressions.{Expr, binary}
-use Rattle.st_types.specs.Resolution.{is_joining, is_untyped, own_kind, expected_of_both, operand_kind, resolved_expr}
-use Rattle.st_statics.specs.Environments.{Environment}
+use Rattle.st_types.specs.declared.kind.Kind.{Kind}
+use Rattle.st_types.specs.declared.operator.BinaryOperator.{BinaryOperator}
+use Rattle.st_types.specs.Expressions.{Expr, binary}
+use Rattle.st_meaning.specs.Resolution.{is_joining, is_untyped, own_kind, expected_of_both, operand_kind, resolved_expr}
+use Rattle.st_rules.specs.Environments.{Environment}
 
 pub left_untyped : (b : Bool) (l r : Expr) → (b && is_untyped l && is_untyped r) ≡ true → is_untyped l ≡ true
 left_untyped b l r h = (and_parts b (is_untyped l) (and_parts (b && is_untyped l) (is_untyped r) h).0).1

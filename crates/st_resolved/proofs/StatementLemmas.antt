@@ -1,18 +1,18 @@
 -- Statements, by what is resolved of their parts.
 use Rattle.std.proofs.Common.{◌≡◌, ◌∙◌, ap, List, map, Option, Some, None}
 use Rattle.std.specs.Prelude.{option_map}
-use Rattle.st_words.specs.declared.identifier.Identifier.{Identifier}
-use Rattle.st_words.specs.declared.kind.Kind.{Kind}
-use Rattle.st_words.specs.declared.kind.Kind.TheVariants.{Bool as Boolean}
-use Rattle.st_trees.specs.declared.statement.Label.{Label}
-use Rattle.st_trees.specs.Expressions.{Expr}
-use Rattle.st_trees.specs.Statements.{Stmt, Arm, CaseArm, Stmts, IF, CASE, FOR, WHILE, REPEAT, stmts_of, arms_of}
-use Rattle.st_trees.specs.Statements.{case_arms_of}
-use Rattle.st_trees.specs.Units.{OrganisationUnit}
-use Rattle.st_types.specs.NameTypes.{Declared, variable_type}
-use Rattle.st_types.specs.Resolution.{own_kind, resolved_expr}
-use Rattle.st_types.specs.ResolvedUnits.{kind_there, resolved_label, resolved_stmt, resolved_stmts, resolved_arms}
-use Rattle.st_types.specs.ResolvedUnits.{resolved_case_arms}
+use Rattle.st_types.specs.declared.identifier.Identifier.{Identifier}
+use Rattle.st_types.specs.declared.kind.Kind.{Kind}
+use Rattle.st_types.specs.declared.kind.Kind.TheVariants.{Bool as Boolean}
+use Rattle.st_types.specs.declared.statement.Label.{Label}
+use Rattle.st_types.specs.Expressions.{Expr}
+use Rattle.st_types.specs.Statements.{Stmt, Arm, CaseArm, Stmts, IF, CASE, FOR, WHILE, REPEAT, stmts_of, arms_of}
+use Rattle.st_types.specs.Statements.{case_arms_of}
+use Rattle.st_types.specs.Units.{OrganisationUnit}
+use Rattle.st_meaning.specs.NameTypes.{Declared, variable_type}
+use Rattle.st_meaning.specs.Resolution.{own_kind, resolved_expr}
+use Rattle.st_meaning.specs.ResolvedUnits.{kind_there, resolved_label, resolved_stmt, resolved_stmts, resolved_arms}
+use Rattle.st_meaning.specs.ResolvedUnits.{resolved_case_arms}
 use Rattle.st_resolved.specs.Arms.{resolved_arm, resolved_case_arm}
 use Rattle.st_resolved.proofs.ListLemmas.{stmts_resolved, arms_resolved, case_arms_resolved}
 

@@ -1,12 +1,12 @@
 -- Units, by what is resolved of their parts.
 use Rattle.std.proofs.Common.{◌≡◌, ◌∙◌, ap, List, map}
-use Rattle.st_words.specs.declared.identifier.Identifier.{Identifier}
-use Rattle.st_trees.specs.declared.unit.UnitSort.{UnitSort}
-use Rattle.st_trees.specs.Declarations.{VariableBlock}
-use Rattle.st_trees.specs.Statements.{Stmt}
-use Rattle.st_trees.specs.Units.{OrganisationUnit}
-use Rattle.st_types.specs.NameTypes.{Declared}
-use Rattle.st_types.specs.ResolvedUnits.{resolved, resolved_block, resolved_stmt}
+use Rattle.st_types.specs.declared.identifier.Identifier.{Identifier}
+use Rattle.st_types.specs.declared.unit.UnitSort.{UnitSort}
+use Rattle.st_types.specs.Declarations.{VariableBlock}
+use Rattle.st_types.specs.Statements.{Stmt}
+use Rattle.st_types.specs.Units.{OrganisationUnit}
+use Rattle.st_meaning.specs.NameTypes.{Declared}
+use Rattle.st_meaning.specs.ResolvedUnits.{resolved, resolved_block, resolved_stmt}
 
 abbrev unit : UnitSort → Identifier → List VariableBlock → List Stmt → OrganisationUnit
 unit sort name blocks body = record { sort = sort; name = name; blocks = blocks; body = body }

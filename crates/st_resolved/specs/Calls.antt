@@ -1,8 +1,8 @@
 -- What a call expects and gives, by the function that its name calls.
 use Rattle.std.specs.Prelude.{List, [], Option, Some, None}
-use Rattle.st_words.specs.declared.kind.Kind.{Kind}
-use Rattle.st_types.specs.Resolution.{standard_kind, expected_kinds}
-use Rattle.st_statics.specs.Environments.{Callee, standard, own}
+use Rattle.st_types.specs.declared.kind.Kind.{Kind}
+use Rattle.st_meaning.specs.Resolution.{standard_kind, expected_kinds}
+use Rattle.st_rules.specs.Environments.{Callee, standard, own}
 
 -- the type that it gives, by those that its arguments have by themselves
 abbrev pub kind_of_call : Option Callee → List (Option Kind) → Option Kind

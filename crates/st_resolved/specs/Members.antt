@@ -1,7 +1,7 @@
 -- Values of enumerated types, as names stand for them.
 use Rattle.std.specs.Prelude.{Option, Some, None}
-use Rattle.st_types.specs.Enumerations.{Member}
-use Rattle.st_statics.specs.Readings.{Reading, value, unknown, ambiguous}
+use Rattle.st_meaning.specs.Enumerations.{Member}
+use Rattle.st_rules.specs.Readings.{Reading, value, unknown, ambiguous}
 
 -- the value that a name stands for; none of one that stands for several
 abbrev pub member_of_reading : Reading → Option Member

@@ -1,12 +1,12 @@
 -- What is told of an expression by itself, before its place offers it a type.
 use Rattle.std.specs.Prelude.{◌≡◌, ℕ, List, [], ◌∷◌, Bool, true, false, Option, Some, None}
-use Rattle.st_words.specs.declared.kind.Kind.{Kind}
-use Rattle.st_words.specs.declared.literal.Literal.TheVariants as literals
-use Rattle.st_trees.specs.Expressions.{Expr, literal, Exprs, no_exprs, expr_then}
-use Rattle.st_trees.specs.ExpressionViews.{expr_view}
-use Rattle.st_types.specs.Enumerations.{Member, number_of_member}
-use Rattle.st_types.specs.Resolution.{is_untyped, own_kind, resolved_expr}
-use Rattle.st_statics.specs.Environments.{Environment}
+use Rattle.st_types.specs.declared.kind.Kind.{Kind}
+use Rattle.st_types.specs.declared.literal.Literal.TheVariants as literals
+use Rattle.st_types.specs.Expressions.{Expr, literal, Exprs, no_exprs, expr_then}
+use Rattle.st_types.specs.ExpressionViews.{expr_view}
+use Rattle.st_meaning.specs.Enumerations.{Member, number_of_member}
+use Rattle.st_meaning.specs.Resolution.{is_untyped, own_kind, resolved_expr}
+use Rattle.st_rules.specs.Environments.{Environment}
 use Rattle.st_resolved.specs.declared.resolutions.Resolution.{Resolution}
 use Rattle.st_resolved.specs.declared.resolutions.Resolution.TheVariants.{Untyped, Typed}
 

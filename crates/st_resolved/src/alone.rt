@@ -1,24 +1,23 @@
 //! What is resolved of literals and of names alone.
 
 ghost use Rattle.std.specs.Prelude.{◌≡◌, IfOk};
-ghost use Rattle.st_words.specs.declared.literal.Literal.TheVariants as literals;
-ghost use Rattle.st_trees.specs.Expressions as tree;
-ghost use Rattle.st_trees.specs.Expressions.{literal, read, variable, no_selectors};
-ghost use Rattle.st_trees.specs.ExpressionViews.{expr_view};
-ghost use Rattle.st_statics.specs.Environments.{Environment};
-ghost use Rattle.st_names.specs.Enumerated.{member_view};
-ghost use Rattle.st_names.specs.Serving.{Serves};
-ghost use Rattle.st_names.specs.Tables.{ServesTables};
+ghost use Rattle.st_types.specs.declared.literal.Literal.TheVariants as literals;
+ghost use Rattle.st_types.specs.Expressions as tree;
+ghost use Rattle.st_types.specs.Expressions.{literal, read, variable, no_selectors};
+ghost use Rattle.st_types.specs.ExpressionViews.{expr_view};
+ghost use Rattle.st_rules.specs.Environments.{Environment};
+ghost use Rattle.symbols.specs.Enumerated.{member_view};
+ghost use Rattle.symbols.specs.Serving.{Serves};
+ghost use Rattle.symbols.specs.Tables.{ServesTables};
 ghost use Rattle.st_resolved.specs.Resolutions.{IsValue, Resolves};
 
 use crate::copies::copied_value;
 use crate::kinds::kind_of_type;
 use crate::members::{member_named, member_written, number_of_member};
 use crate::resolutions::Resolution;
-use st_names::{Member, TextTables, UnitNames};
-use st_trees::{Expr, Variable};
-use st_words::{EnumeratedValue, Identifier, Kind, Literal, Number};
+use st_types::{EnumeratedValue, Expr, Identifier, Kind, Literal, Number, Variable};
 use std::alloc::{AllocError, Global};
+use symbols::{Member, TextTables, UnitNames};
 
 /// What is resolved of a number: nothing, where no type is written.
 fn resolved_number(number: Number) -> Resolution

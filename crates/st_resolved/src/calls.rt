@@ -1,22 +1,21 @@
 //! Calls of functions, from what is resolved of their arguments.
 
 ghost use Rattle.std.specs.Prelude.{◌≡◌, IfOk, map, option_map};
-ghost use Rattle.st_trees.specs.Expressions as tree;
-ghost use Rattle.st_trees.specs.Expressions.{call, exprs_of};
-ghost use Rattle.st_trees.specs.ExpressionViews.{expr_view};
-ghost use Rattle.st_types.specs.Resolution.{resolved_exprs};
-ghost use Rattle.st_statics.specs.Environments.{Environment};
-ghost use Rattle.st_statics.specs.Typings.{common_of};
-ghost use Rattle.st_names.specs.Tables.{ServesTables, callee_view};
+ghost use Rattle.st_types.specs.Expressions as tree;
+ghost use Rattle.st_types.specs.Expressions.{call, exprs_of};
+ghost use Rattle.st_types.specs.ExpressionViews.{expr_view};
+ghost use Rattle.st_meaning.specs.Resolution.{resolved_exprs};
+ghost use Rattle.st_rules.specs.Environments.{Environment};
+ghost use Rattle.st_rules.specs.Typings.{common_of};
+ghost use Rattle.symbols.specs.Tables.{ServesTables, callee_view};
 ghost use Rattle.st_resolved.specs.Calls.{expected_of_call};
 ghost use Rattle.st_resolved.specs.Resolutions.{kind_told, Resolves, ResolvesAll};
 
 use crate::expected::{common_of, expected_at, kind_of_call};
 use crate::resolutions::{Resolution, at_place};
-use st_names::{Callee, TextTables};
-use st_trees::Expr;
-use st_words::{Identifier, Kind};
+use st_types::{Expr, Identifier, Kind};
 use std::alloc::{AllocError, Global};
+use symbols::{Callee, TextTables};
 
 /// The arguments of a call, each at its place.
 fn arguments_at_places(

@@ -1,10 +1,11 @@
 //! Copies of words.
 
 ghost use Rattle.std.specs.Prelude.{◌≡◌, IfOk, map};
-ghost use Rattle.st_trees.specs.ConfigurationViews.{global_names_view, resource_view};
+ghost use Rattle.st_types.specs.ConfigurationViews.{global_names_view, resource_view};
 
-use st_trees::{GlobalNames, Instance, Resource, SimpleType, Task, UnitSort};
-use st_words::{EnumeratedValue, Identifier, Name};
+use st_types::{
+    EnumeratedValue, GlobalNames, Identifier, Instance, Name, Resource, SimpleType, Task, UnitSort,
+};
 use std::alloc::{AllocError, Global};
 
 fn copied_name(alloc: Global, name: &Option<Name>) -> Result<Option<Name>, AllocError>

@@ -1,26 +1,26 @@
 //! Declarations of variables and types.
 
 ghost use Rattle.std.specs.Prelude.{◌≡◌, Some, IfOk, map, option_map};
-ghost use Rattle.st_trees.specs.InitialViews.{initial_view};
-ghost use Rattle.st_trees.specs.DeclarationViews.{declaration_view, variable_block_view, field_view};
-ghost use Rattle.st_trees.specs.DeclarationViews.{type_definition_view, type_declaration_view};
-ghost use Rattle.st_types.specs.NameTypes.{Declared};
-ghost use Rattle.st_types.specs.ResolvedUnits.{resolved_initial, resolved_array, resolved_type, resolved_declaration};
-ghost use Rattle.st_types.specs.ResolvedUnits.{resolved_block, resolved_field, resolved_definition};
-ghost use Rattle.st_types.specs.ResolvedUnits.{resolved_type_declaration};
-ghost use Rattle.st_names.specs.Fields.{ServesFields};
-ghost use Rattle.st_names.specs.Tables.{ServesTables};
+ghost use Rattle.st_types.specs.InitialViews.{initial_view};
+ghost use Rattle.st_types.specs.DeclarationViews.{declaration_view, variable_block_view, field_view};
+ghost use Rattle.st_types.specs.DeclarationViews.{type_definition_view, type_declaration_view};
+ghost use Rattle.st_meaning.specs.NameTypes.{Declared};
+ghost use Rattle.st_meaning.specs.ResolvedUnits.{resolved_initial, resolved_array, resolved_type, resolved_declaration};
+ghost use Rattle.st_meaning.specs.ResolvedUnits.{resolved_block, resolved_field, resolved_definition};
+ghost use Rattle.st_meaning.specs.ResolvedUnits.{resolved_type_declaration};
+ghost use Rattle.symbols.specs.Fields.{ServesFields};
+ghost use Rattle.symbols.specs.Tables.{ServesTables};
 
 use crate::copies::{copied_names, copied_simple};
 use crate::initials::resolved_initial;
 use crate::literals::taking_number;
-use st_names::{FieldNames, TextTables, place_type};
-use st_trees::{
+use st_types::{
     ArrayType, Declaration, Field, Initial, TypeDeclaration, TypeDefinition, VariableBlock,
     VariableType,
 };
 use st_typing::taken_kind;
 use std::alloc::{AllocError, Global};
+use symbols::{FieldNames, TextTables, place_type};
 
 /// An array, of which a bound that has no type is a LINT.
 fn resolved_array(alloc: Global, array: &ArrayType) -> Result<ArrayType, AllocError>

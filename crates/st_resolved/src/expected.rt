@@ -1,18 +1,18 @@
 //! The types that calls expect and give.
 
 ghost use Rattle.std.specs.Prelude.{◌≡◌, ℕ, List, Option, drop, replicate, map, option_map};
-ghost use Rattle.st_words.specs.declared.kind.Kind.{Kind};
-ghost use Rattle.st_types.specs.Resolution.{common_kind, expected_kinds, standard_kind, first_kind};
-ghost use Rattle.st_statics.specs.Typings.{common_of};
-ghost use Rattle.st_names.specs.Standard.{standard_view};
-ghost use Rattle.st_names.specs.Tables.{callee_view};
+ghost use Rattle.st_types.specs.declared.kind.Kind.{Kind};
+ghost use Rattle.st_meaning.specs.Resolution.{common_kind, expected_kinds, standard_kind, first_kind};
+ghost use Rattle.st_rules.specs.Typings.{common_of};
+ghost use Rattle.symbols.specs.Standard.{standard_view};
+ghost use Rattle.symbols.specs.Tables.{callee_view};
 ghost use Rattle.st_resolved.specs.Calls.{kind_of_call, expected_of_call};
 ghost use Rattle.st_resolved.specs.Resolutions.{kind_told};
 
 use crate::resolutions::{Resolution, kind_told};
-use st_names::{Callee, Signature, Standard};
+use st_types::Kind;
 use st_typing::or_kind;
-use st_words::Kind;
+use symbols::{Callee, Signature, Standard};
 
 fn first_told(parts: &[Resolution]) -> Option<Kind>
     ensures { result ≡ first_kind (map kind_told parts.now) }

@@ -1,11 +1,11 @@
 //! Expressions of a unit's body, resolved from their leaves up.
 
 ghost use Rattle.std.specs.Prelude.{◌≡◌, IfOk, map};
-ghost use Rattle.st_trees.specs.Expressions.{read, exprs_of};
-ghost use Rattle.st_trees.specs.ExpressionViews.{expr_view, variable_view, selector_view};
-ghost use Rattle.st_types.specs.Resolution.{resolved_expr, resolved_variable, resolved_selector};
-ghost use Rattle.st_statics.specs.Environments.{Environment};
-ghost use Rattle.st_names.specs.Serving.{Serves};
+ghost use Rattle.st_types.specs.Expressions.{read, exprs_of};
+ghost use Rattle.st_types.specs.ExpressionViews.{expr_view, variable_view, selector_view};
+ghost use Rattle.st_meaning.specs.Resolution.{resolved_expr, resolved_variable, resolved_selector};
+ghost use Rattle.st_rules.specs.Environments.{Environment};
+ghost use Rattle.symbols.specs.Serving.{Serves};
 ghost use Rattle.st_resolved.specs.Resolutions.{Resolves, ResolvesAll};
 
 use crate::alone::{resolved_alone, resolved_literal};
@@ -13,10 +13,9 @@ use crate::calls::called;
 use crate::kinds::kind_of_variable;
 use crate::operations::{negated, operation, parenthesized};
 use crate::resolutions::{Resolution, at_place};
-use st_names::UnitNames;
-use st_trees::{Expr, Selector, Variable};
-use st_words::Kind;
+use st_types::{Expr, Kind, Selector, Variable};
 use std::alloc::{AllocError, Global};
+use symbols::UnitNames;
 
 /// What is resolved of an expression by itself.
 #[cycle(resolve)]

@@ -1,18 +1,18 @@
 //! Configurations with their globals.
 
 ghost use Rattle.std.specs.Prelude.{◌≡◌, IfOk, map};
-ghost use Rattle.st_trees.specs.ConfigurationViews.{global_declaration_view, global_block_view, configuration_view};
-ghost use Rattle.st_types.specs.NameTypes.{Declared};
-ghost use Rattle.st_types.specs.ResolvedUnits.{resolved_global, resolved_globals, resolved_element_of_text};
-ghost use Rattle.st_trees.specs.Sources.{configuration};
-ghost use Rattle.st_names.specs.Fields.{ServesFields};
-ghost use Rattle.st_names.specs.Tables.{ServesTables};
+ghost use Rattle.st_types.specs.ConfigurationViews.{global_declaration_view, global_block_view, configuration_view};
+ghost use Rattle.st_meaning.specs.NameTypes.{Declared};
+ghost use Rattle.st_meaning.specs.ResolvedUnits.{resolved_global, resolved_globals, resolved_element_of_text};
+ghost use Rattle.st_types.specs.Sources.{configuration};
+ghost use Rattle.symbols.specs.Fields.{ServesFields};
+ghost use Rattle.symbols.specs.Tables.{ServesTables};
 
 use crate::copies::{copied_global_names, copied_resources};
 use crate::declarations::{resolved_start, resolved_type};
-use st_names::{FieldNames, TextTables};
-use st_trees::{Configuration, GlobalBlock, GlobalDeclaration};
+use st_types::{Configuration, GlobalBlock, GlobalDeclaration};
 use std::alloc::{AllocError, Global};
+use symbols::{FieldNames, TextTables};
 
 fn resolved_global<'a>(
     alloc: Global,

@@ -1,21 +1,20 @@
 //! Initial values.
 
 ghost use Rattle.std.specs.Prelude.{◌≡◌, IfOk, map, option_map};
-ghost use Rattle.st_trees.specs.InitialViews.{initial_view, element_view, member_view};
-ghost use Rattle.st_types.specs.NameTypes.{Declared};
-ghost use Rattle.st_types.specs.ResolvedUnits.{element_of, field_of, resolved_initial, resolved_element};
-ghost use Rattle.st_names.specs.Fields.{ServesFields};
-ghost use Rattle.st_names.specs.PlaceTypes.{place_type_view};
-ghost use Rattle.st_names.specs.Tables.{ServesTables};
+ghost use Rattle.st_types.specs.InitialViews.{initial_view, element_view, member_view};
+ghost use Rattle.st_meaning.specs.NameTypes.{Declared};
+ghost use Rattle.st_meaning.specs.ResolvedUnits.{element_of, field_of, resolved_initial, resolved_element};
+ghost use Rattle.symbols.specs.Fields.{ServesFields};
+ghost use Rattle.symbols.specs.PlaceTypes.{place_type_view};
+ghost use Rattle.symbols.specs.Tables.{ServesTables};
 ghost use Rattle.st_resolved.specs.Arms.{resolved_member};
 
 use crate::kinds::kind_there;
 use crate::literals::{taking_literal, taking_number};
-use st_names::{FieldNames, PlaceType, TextTables, place_type};
-use st_trees::{Initial, InitialElement, InitialMember, SimpleType};
+use st_types::{Initial, InitialElement, InitialMember, Name, SimpleType};
 use st_typing::taken_kind;
-use st_words::Name;
 use std::alloc::{AllocError, Global};
+use symbols::{FieldNames, PlaceType, TextTables, place_type};
 
 /// The type of an array's elements.
 fn element_of<'a>(tables: &TextTables<'a>, declared: Option<PlaceType<'a>>) -> Option<PlaceType<'a>>

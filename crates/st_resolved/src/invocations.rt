@@ -1,20 +1,19 @@
 //! Assignments and calls of instances.
 
 ghost use Rattle.std.specs.Prelude.{◌≡◌, IfOk, map};
-ghost use Rattle.st_trees.specs.ExpressionViews.{expr_view, variable_view};
-ghost use Rattle.st_trees.specs.StatementViews.{argument_view, stmt_view};
-ghost use Rattle.st_trees.specs.Statements.{assign, invoke};
-ghost use Rattle.st_types.specs.NameTypes.{input_kind};
-ghost use Rattle.st_types.specs.ResolvedUnits.{resolved_argument, resolved_stmt};
-ghost use Rattle.st_statics.specs.Environments.{Environment};
-ghost use Rattle.st_names.specs.Serving.{Serves};
+ghost use Rattle.st_types.specs.ExpressionViews.{expr_view, variable_view};
+ghost use Rattle.st_types.specs.StatementViews.{argument_view, stmt_view};
+ghost use Rattle.st_types.specs.Statements.{assign, invoke};
+ghost use Rattle.st_meaning.specs.NameTypes.{input_kind};
+ghost use Rattle.st_meaning.specs.ResolvedUnits.{resolved_argument, resolved_stmt};
+ghost use Rattle.st_rules.specs.Environments.{Environment};
+ghost use Rattle.symbols.specs.Serving.{Serves};
 
 use crate::expressions::{resolved_expr, resolved_variable};
 use crate::kinds::{kind_of_variable, kind_there};
-use st_names::{Side, UnitNames};
-use st_trees::{Argument, Expr, Stmt, Variable};
-use st_words::{Identifier, Kind, Name};
+use st_types::{Argument, Expr, Identifier, Kind, Name, Stmt, Variable};
 use std::alloc::{AllocError, Global};
+use symbols::{Side, UnitNames};
 
 /// An assignment: the value takes the type of the variable.
 pub fn resolved_assignment(

@@ -1,20 +1,19 @@
 //! Labels of a CASE with the types that they take.
 
 ghost use Rattle.std.specs.Prelude.{◌≡◌, Option, IfOk, map};
-ghost use Rattle.st_words.specs.declared.kind.Kind.{Kind};
-ghost use Rattle.st_trees.specs.declared.statement.Label.TheVariants.{Enumerated};
-ghost use Rattle.st_types.specs.NameTypes.{Declared};
-ghost use Rattle.st_types.specs.ResolvedUnits.{resolved_label};
-ghost use Rattle.st_names.specs.Tables.{ServesTables};
+ghost use Rattle.st_types.specs.declared.kind.Kind.{Kind};
+ghost use Rattle.st_types.specs.declared.statement.Label.TheVariants.{Enumerated};
+ghost use Rattle.st_meaning.specs.NameTypes.{Declared};
+ghost use Rattle.st_meaning.specs.ResolvedUnits.{resolved_label};
+ghost use Rattle.symbols.specs.Tables.{ServesTables};
 
 use crate::copies::copied_value;
 use crate::literals::taking_number;
 use crate::members::{member_written, number_of_member};
-use st_names::TextTables;
-use st_trees::Label;
+use st_types::{EnumeratedValue, Kind, Label};
 use st_typing::taken_kind;
-use st_words::{EnumeratedValue, Kind};
 use std::alloc::{AllocError, Global};
+use symbols::TextTables;
 
 /// A label that is a name: the number of a value, where it stands for one.
 fn named_label(

@@ -1,16 +1,16 @@
 //! Literals with the types that they take.
 
 ghost use Rattle.std.specs.Prelude.{◌≡◌, IfOk};
-ghost use Rattle.st_types.specs.Enumerations.{resolved_value};
-ghost use Rattle.st_types.specs.NameTypes.{Declared};
-ghost use Rattle.st_types.specs.Resolution.{taking_number, taking_literal};
-ghost use Rattle.st_names.specs.Tables.{ServesTables};
+ghost use Rattle.st_meaning.specs.Enumerations.{resolved_value};
+ghost use Rattle.st_meaning.specs.NameTypes.{Declared};
+ghost use Rattle.st_meaning.specs.Resolution.{taking_number, taking_literal};
+ghost use Rattle.symbols.specs.Tables.{ServesTables};
 
 use crate::copies::copied_value;
 use crate::members::{member_written, number_of_member};
-use st_names::TextTables;
-use st_words::{EnumeratedValue, Kind, Literal, Number};
+use st_types::{EnumeratedValue, Kind, Literal, Number};
 use std::alloc::{AllocError, Global};
+use symbols::TextTables;
 
 /// A number that takes the type, if none is written.
 pub fn taking_number(kind: Kind, number: Number) -> Number

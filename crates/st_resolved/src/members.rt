@@ -1,14 +1,14 @@
 //! Values of enumerated types.
 
 ghost use Rattle.std.specs.Prelude.{◌≡◌, option_map};
-ghost use Rattle.st_types.specs.Enumerations.{member_named, member_written, number_of_member};
-ghost use Rattle.st_types.specs.NameTypes.{Declared};
-ghost use Rattle.st_names.specs.Enumerated.{member_view, reading_view};
-ghost use Rattle.st_names.specs.Tables.{ServesTables};
+ghost use Rattle.st_meaning.specs.Enumerations.{member_named, member_written, number_of_member};
+ghost use Rattle.st_meaning.specs.NameTypes.{Declared};
+ghost use Rattle.symbols.specs.Enumerated.{member_view, reading_view};
+ghost use Rattle.symbols.specs.Tables.{ServesTables};
 ghost use Rattle.st_resolved.specs.Members.{member_of_reading};
 
-use st_names::{Member, Reading, TextTables};
-use st_words::{EnumeratedValue, Name, Number};
+use st_types::{EnumeratedValue, Name, Number};
+use symbols::{Member, Reading, TextTables};
 
 fn member_of_reading(reading: Reading) -> Option<Member>
     ensures { option_map member_view result ≡ member_of_reading (reading_view reading) }

@@ -1,18 +1,17 @@
 //! Operations, from what is resolved of their operands.
 
 ghost use Rattle.std.specs.Prelude.{◌≡◌, ◌&&◌, if◌then◌else◌, Some, None, IfOk};
-ghost use Rattle.st_words.specs.declared.kind.Kind.TheVariants.{Bool};
-ghost use Rattle.st_trees.specs.Expressions as tree;
-ghost use Rattle.st_trees.specs.Expressions.{parenthesis, unary, binary};
-ghost use Rattle.st_types.specs.Operators.{or_kind};
-ghost use Rattle.st_types.specs.Resolution.{is_joining, expected_of_both};
-ghost use Rattle.st_statics.specs.Environments.{Environment};
+ghost use Rattle.st_types.specs.declared.kind.Kind.TheVariants.{Bool};
+ghost use Rattle.st_types.specs.Expressions as tree;
+ghost use Rattle.st_types.specs.Expressions.{parenthesis, unary, binary};
+ghost use Rattle.st_meaning.specs.Operators.{or_kind};
+ghost use Rattle.st_meaning.specs.Resolution.{is_joining, expected_of_both};
+ghost use Rattle.st_rules.specs.Environments.{Environment};
 ghost use Rattle.st_resolved.specs.Resolutions.{is_left, kind_told, Resolves};
 
 use crate::resolutions::{Resolution, at_place, into_tree, is_left, kind_told};
-use st_trees::Expr;
+use st_types::{BinaryOperator, Expr, Kind, UnaryOperator};
 use st_typing::{is_joining, or_kind};
-use st_words::{BinaryOperator, Kind, UnaryOperator};
 use std::alloc::{AllocError, Global};
 
 /// Whether an operation is of literals without a type alone.

@@ -1,15 +1,14 @@
 //! What is resolved of an expression by itself.
 
 ghost use Rattle.std.specs.Prelude.{◌≡◌};
-ghost use Rattle.st_trees.specs.Expressions as tree;
-ghost use Rattle.st_trees.specs.ExpressionViews.{expr_view};
-ghost use Rattle.st_types.specs.Resolution.{resolved_expr};
-ghost use Rattle.st_statics.specs.Environments.{Environment};
+ghost use Rattle.st_types.specs.Expressions as tree;
+ghost use Rattle.st_types.specs.ExpressionViews.{expr_view};
+ghost use Rattle.st_meaning.specs.Resolution.{resolved_expr};
+ghost use Rattle.st_rules.specs.Environments.{Environment};
 ghost use Rattle.st_resolved.specs.Resolutions.{is_left, kind_told, tree_told, Resolves};
 
 use crate::settling::settle;
-use st_trees::Expr;
-use st_words::Kind;
+use st_types::{Expr, Kind};
 
 /// An expression that is resolved as far as it can be without its place.
 #[derive(Drop)]

@@ -1,14 +1,13 @@
 //! Expressions of literals without a type, which take the type that they are offered.
 
 ghost use Rattle.std.specs.Prelude.{◌≡◌, true};
-ghost use Rattle.st_trees.specs.ExpressionViews.{expr_view};
-ghost use Rattle.st_types.specs.Resolution.{is_untyped, is_untyped_literal, taken_kind, taking_literal, resolved_expr};
-ghost use Rattle.st_statics.specs.Environments.{Environment};
+ghost use Rattle.st_types.specs.ExpressionViews.{expr_view};
+ghost use Rattle.st_meaning.specs.Resolution.{is_untyped, is_untyped_literal, taken_kind, taking_literal, resolved_expr};
+ghost use Rattle.st_rules.specs.Environments.{Environment};
 
 use crate::literals::taking_number;
-use st_trees::Expr;
+use st_types::{Expr, Kind, Literal};
 use st_typing::taken_kind;
-use st_words::{Kind, Literal};
 
 fn settle_literal(offered: Option<Kind>, literal: &mut Literal)
     ensures { (env : Environment) → is_untyped_literal literal.old ≡ true

@@ -1,20 +1,20 @@
 //! Whole texts.
 
 ghost use Rattle.std.specs.Prelude.{◌≡◌, IfOk, map};
-ghost use Rattle.st_trees.specs.DeclarationViews.{type_declaration_view};
-ghost use Rattle.st_trees.specs.SourceViews.{element_view, source_view};
-ghost use Rattle.st_types.specs.NameTypes.{Declared, declared_in, types_in};
-ghost use Rattle.st_types.specs.ResolvedUnits.{resolved_element_of_text, resolved_source};
-ghost use Rattle.st_names.specs.Fields.{ServesFields};
-ghost use Rattle.st_names.specs.Tables.{ServesTables};
+ghost use Rattle.st_types.specs.DeclarationViews.{type_declaration_view};
+ghost use Rattle.st_types.specs.SourceViews.{element_view, source_view};
+ghost use Rattle.st_meaning.specs.NameTypes.{Declared, declared_in, types_in};
+ghost use Rattle.st_meaning.specs.ResolvedUnits.{resolved_element_of_text, resolved_source};
+ghost use Rattle.symbols.specs.Fields.{ServesFields};
+ghost use Rattle.symbols.specs.Tables.{ServesTables};
 
 use crate::declarations::resolved_types;
 use crate::globals::resolved_configuration;
 use crate::units::resolved_unit;
 use st_decl::{types_in, units_in};
-use st_names::{FieldNames, TextNames, TextTables};
-use st_trees::{LibraryElement, Source, TypeDeclaration};
+use st_types::{LibraryElement, Source, TypeDeclaration};
 use std::alloc::{AllocError, Global};
+use symbols::{FieldNames, TextNames, TextTables};
 
 fn resolved_element<'a>(
     alloc: Global,

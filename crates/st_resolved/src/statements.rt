@@ -1,13 +1,13 @@
 //! Statements of a unit's body.
 
 ghost use Rattle.std.specs.Prelude.{◌≡◌, IfOk, map, option_map};
-ghost use Rattle.st_trees.specs.ExpressionViews.{expr_view};
-ghost use Rattle.st_trees.specs.StatementViews.{stmt_view, arm_view, case_arm_view};
-ghost use Rattle.st_types.specs.NameTypes.{variable_type};
-ghost use Rattle.st_types.specs.Resolution.{resolved_expr};
-ghost use Rattle.st_types.specs.ResolvedUnits.{kind_there, resolved_stmt};
-ghost use Rattle.st_statics.specs.Environments.{Environment};
-ghost use Rattle.st_names.specs.Serving.{Serves};
+ghost use Rattle.st_types.specs.ExpressionViews.{expr_view};
+ghost use Rattle.st_types.specs.StatementViews.{stmt_view, arm_view, case_arm_view};
+ghost use Rattle.st_meaning.specs.NameTypes.{variable_type};
+ghost use Rattle.st_meaning.specs.Resolution.{resolved_expr};
+ghost use Rattle.st_meaning.specs.ResolvedUnits.{kind_there, resolved_stmt};
+ghost use Rattle.st_rules.specs.Environments.{Environment};
+ghost use Rattle.symbols.specs.Serving.{Serves};
 ghost use Rattle.st_resolved.specs.Arms.{resolved_arm, resolved_case_arm};
 
 use crate::expressions::{resolve, resolved_expr};
@@ -15,10 +15,9 @@ use crate::invocations::{resolved_assignment, resolved_invocation};
 use crate::kinds::kind_there;
 use crate::labels::resolved_labels;
 use crate::resolutions::{at_place, kind_told};
-use st_names::UnitNames;
-use st_trees::{Arm, CaseArm, Expr, Stmt};
-use st_words::{Kind, Name};
+use st_types::{Arm, CaseArm, Expr, Kind, Name, Stmt};
 use std::alloc::{AllocError, Global};
+use symbols::UnitNames;
 
 /// The type of a control variable.
 fn kind_of_name(names: &UnitNames, name: &Name) -> Option<Kind>

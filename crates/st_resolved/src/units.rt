@@ -1,18 +1,18 @@
 //! Functions, function blocks and programs.
 
 ghost use Rattle.std.specs.Prelude.{◌≡◌, IfOk};
-ghost use Rattle.st_trees.specs.UnitViews.{unit_view};
-ghost use Rattle.st_types.specs.NameTypes.{Declared};
-ghost use Rattle.st_types.specs.ResolvedUnits.{resolved};
-ghost use Rattle.st_names.specs.Fields.{ServesFields};
-ghost use Rattle.st_names.specs.Tables.{ServesTables};
+ghost use Rattle.st_types.specs.UnitViews.{unit_view};
+ghost use Rattle.st_meaning.specs.NameTypes.{Declared};
+ghost use Rattle.st_meaning.specs.ResolvedUnits.{resolved};
+ghost use Rattle.symbols.specs.Fields.{ServesFields};
+ghost use Rattle.symbols.specs.Tables.{ServesTables};
 
 use crate::copies::copied_sort;
 use crate::declarations::resolved_blocks;
 use crate::statements::resolved_stmts;
-use st_names::{FieldNames, TextTables, UnitNames};
-use st_trees::Unit;
+use st_types::Unit;
 use std::alloc::{AllocError, Global};
+use symbols::{FieldNames, TextTables, UnitNames};
 
 /// A unit of a text.
 pub fn resolved_unit<'a>(

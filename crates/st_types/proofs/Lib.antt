@@ -1,9 +1,4 @@
-pub mod Agrees
-pub mod Alike
-pub mod AskedLemmas
-pub mod Lasts
-pub mod Related
-pub mod RunLemmas
-pub mod Shapes
-pub mod SlotLemmas
-pub mod TimerLemmas
+pub mod KindLemmas
+pub mod ValueLemmas
+pub mod Bridge
+pub mod Mirrors

@@ -1,21 +1,51 @@
-//! What programs of the language mean: stores, expressions, statements, functions, blocks, runs, and the types of
-//! untyped literals.
+//! The language's own types: elementary types and values, names, paths, literals, operators and faults; the trees of a
+//! text; rows and activations.
 //!
-//! The meaning stands in `specs/`, over the mirror of the trees. The functions here hold it to worked examples and
-//! laws, by contracts of functions that do nothing, and look up names and types in trees. Nothing here runs a program.
+//! A `Value` is always one that its type holds. Nothing here judges a tree, or compares two. The limits that several
+//! crates share stand in `limits`.
 #![tactic(auto)]
 
-pub mod examples;
-mod laws;
-mod literals;
-pub mod lookup;
-mod outcome;
+mod configuration;
+mod data_type;
+mod declaration;
+mod depth;
+mod entry;
+mod expression;
+mod fault;
+mod identifier;
+mod initial;
+mod kind;
+pub mod limits;
+mod literal;
+mod name;
+mod operator;
+mod path;
+mod source;
+mod spacing;
+mod statement;
+mod tree;
+mod unit;
+mod value;
 
-pub use laws::{
-    bistables, bounds_of_recursion, budgets, counters_stay_within_their_type,
-    faults_change_nothing, on_delay_waits, operands_are_all_evaluated, paths_and_slots,
-    paths_are_compared, timers_stop_at_their_time, two_faults_tell_what_is_asked,
-    values_that_are_not_there, variables_stay,
+pub use configuration::{
+    Address, AddressWidth, Configuration, Direction, GlobalBlock, GlobalDeclaration, GlobalNames,
+    GlobalQualifier, Instance, Priority, Resource, Task,
 };
-pub use literals::{number_of, value_of_number};
-pub use outcome::Outcome;
+pub use data_type::{ArrayType, Field, SimpleType, TypeDeclaration, TypeDefinition, VariableType};
+pub use declaration::{Declaration, Retention, Section, VariableBlock};
+pub use entry::{Activation, Entry, Row};
+pub use expression::{Expr, Selector, Variable};
+pub use fault::Fault;
+pub use identifier::Identifier;
+pub use initial::{Initial, InitialElement, InitialMember};
+pub use kind::{Kind, KindRow, Sort};
+pub use literal::{EnumeratedValue, Literal, Number};
+pub use name::Name;
+pub use operator::{BinaryOperator, UnaryOperator};
+pub use path::{Owner, Path, Step};
+pub use source::{LibraryElement, Source};
+pub use spacing::is_spaced;
+pub use statement::{Argument, Arm, CaseArm, Label, Stmt};
+pub use tree::Tree;
+pub use unit::{Unit, UnitSort};
+pub use value::{Value, is_wide};

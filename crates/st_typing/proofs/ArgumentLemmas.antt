@@ -5,24 +5,24 @@ use Rattle.std.specs.List.{Contains}
 use Rattle.std.proofs.lemmas.Bool.{ne_eqb, eq-eqb}
 use Rattle.std.proofs.lemmas.List.{drop_more, drop_all, drop-map}
 use Rattle.std.proofs.lemmas.List.Elements.{Contains-append_right}
-use Rattle.st_words.specs.declared.identifier.Identifier.{Identifier}
-use Rattle.st_words.specs.declared.kind.Kind.{Kind}
-use Rattle.st_trees.specs.declared.expression.Expr as code_expr
-use Rattle.st_trees.specs.Expressions.{call, Exprs, no_exprs, expr_then, exprs_of}
-use Rattle.st_trees.specs.ExpressionViews.{expr_view}
-use Rattle.st_types.specs.StandardFunctions.{Standard, ABS, MIN, MAX, LIMIT, SEL, SHL, SHR, ROL, ROR, CONVERT}
-use Rattle.st_statics.specs.declared.rule.Rule.TheVariants.{WrongArguments}
-use Rattle.st_statics.specs.declared.rule.Broken.{Broken}
-use Rattle.st_statics.specs.Faults.{Finds, breaking, unless}
-use Rattle.st_statics.specs.Environments.{Environment, standard, own}
-use Rattle.st_statics.specs.declared.demand.Sorts.TheVariants.{Any}
-use Rattle.st_statics.specs.declared.demand.Demand.{Demand}
-use Rattle.st_statics.specs.declared.demand.Demand.TheVariants.{Asked}
-use Rattle.st_statics.specs.declared.typings.Typing.{Typing}
-use Rattle.st_statics.specs.Demands.{demands_of_standard}
-use Rattle.st_statics.specs.Typings.{kinds_of, typings_of, typing_of_kind, common_of}
-use Rattle.st_statics.specs.Nodes.{first_demand, other_demands}
-use Rattle.st_statics.specs.ExpressionRules.{wrong_expression, wrong_within, count_of}
+use Rattle.st_types.specs.declared.identifier.Identifier.{Identifier}
+use Rattle.st_types.specs.declared.kind.Kind.{Kind}
+use Rattle.st_types.specs.declared.expression.Expr as code_expr
+use Rattle.st_types.specs.Expressions.{call, Exprs, no_exprs, expr_then, exprs_of}
+use Rattle.st_types.specs.ExpressionViews.{expr_view}
+use Rattle.st_meaning.specs.StandardFunctions.{Standard, ABS, MIN, MAX, LIMIT, SEL, SHL, SHR, ROL, ROR, CONVERT}
+use Rattle.st_rules.specs.declared.rule.Rule.TheVariants.{WrongArguments}
+use Rattle.st_rules.specs.declared.rule.Broken.{Broken}
+use Rattle.st_rules.specs.Faults.{Finds, breaking, unless}
+use Rattle.st_rules.specs.Environments.{Environment, standard, own}
+use Rattle.st_rules.specs.declared.demand.Sorts.TheVariants.{Any}
+use Rattle.st_rules.specs.declared.demand.Demand.{Demand}
+use Rattle.st_rules.specs.declared.demand.Demand.TheVariants.{Asked}
+use Rattle.st_rules.specs.declared.typings.Typing.{Typing}
+use Rattle.st_rules.specs.Demands.{demands_of_standard}
+use Rattle.st_rules.specs.Typings.{kinds_of, typings_of, typing_of_kind, common_of}
+use Rattle.st_rules.specs.Nodes.{first_demand, other_demands}
+use Rattle.st_rules.specs.ExpressionRules.{wrong_expression, wrong_within, count_of}
 use Rattle.st_typing.specs.Verdicts.{verdict}
 use Rattle.st_typing.specs.Answers.{Types}
 use Rattle.st_typing.specs.Arguments.{Calls, demands_of_inputs, wrong_count, wrong_arguments, wrong_in_call}

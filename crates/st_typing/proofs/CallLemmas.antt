@@ -4,21 +4,21 @@ use Rattle.std.proofs.Common.{Option, Some, None, refl}
 use Rattle.std.specs.List.{Contains}
 use Rattle.std.proofs.lemmas.List.Elements.{Contains-append_left, Contains-append_right, Contains-push}
 use Rattle.std.proofs.lemmas.List.Concat.{flat_map-append}
-use Rattle.st_words.specs.declared.identifier.Identifier.{Identifier}
-use Rattle.st_words.specs.declared.kind.Kind.{Kind}
-use Rattle.st_trees.specs.Expressions.{Expr, call, Exprs, no_exprs, expr_then}
-use Rattle.st_types.specs.Resolution.{common_kind, standard_kind}
-use Rattle.st_types.specs.StandardFunctions.{Standard, ABS, MIN, MAX, LIMIT, SEL, SHL, SHR, ROL, ROR, CONVERT}
-use Rattle.st_statics.specs.declared.rule.Rule.TheVariants.{UnknownName, WrongArguments}
-use Rattle.st_statics.specs.declared.rule.Broken.{Broken}
-use Rattle.st_statics.specs.Faults.{Finds, breaking, unless}
-use Rattle.st_statics.specs.Environments.{Environment, Callee, standard, callee_of}
-use Rattle.st_statics.specs.declared.demand.Demand.{Demand}
-use Rattle.st_statics.specs.declared.typings.Typing.{Typing}
-use Rattle.st_statics.specs.Demands.{demands_of_standard, demands_of_callee}
-use Rattle.st_statics.specs.Typings.{kinds_of, typings_of, typing_of_kind, typing_of_callee, common_of}
-use Rattle.st_statics.specs.Nodes.{first_demand, other_demands, demands_of, nodes_of, nodes_of_all}
-use Rattle.st_statics.specs.ExpressionRules.{wrong_node, wrong_call, wrong_expression, wrong_within, count_of}
+use Rattle.st_types.specs.declared.identifier.Identifier.{Identifier}
+use Rattle.st_types.specs.declared.kind.Kind.{Kind}
+use Rattle.st_types.specs.Expressions.{Expr, call, Exprs, no_exprs, expr_then}
+use Rattle.st_meaning.specs.Resolution.{common_kind, standard_kind}
+use Rattle.st_meaning.specs.StandardFunctions.{Standard, ABS, MIN, MAX, LIMIT, SEL, SHL, SHR, ROL, ROR, CONVERT}
+use Rattle.st_rules.specs.declared.rule.Rule.TheVariants.{UnknownName, WrongArguments}
+use Rattle.st_rules.specs.declared.rule.Broken.{Broken}
+use Rattle.st_rules.specs.Faults.{Finds, breaking, unless}
+use Rattle.st_rules.specs.Environments.{Environment, Callee, standard, callee_of}
+use Rattle.st_rules.specs.declared.demand.Demand.{Demand}
+use Rattle.st_rules.specs.declared.typings.Typing.{Typing}
+use Rattle.st_rules.specs.Demands.{demands_of_standard, demands_of_callee}
+use Rattle.st_rules.specs.Typings.{kinds_of, typings_of, typing_of_kind, typing_of_callee, common_of}
+use Rattle.st_rules.specs.Nodes.{first_demand, other_demands, demands_of, nodes_of, nodes_of_all}
+use Rattle.st_rules.specs.ExpressionRules.{wrong_node, wrong_call, wrong_expression, wrong_within, count_of}
 use Rattle.st_typing.specs.Verdicts.{or_broken, verdict}
 use Rattle.st_typing.specs.Answers.{Types}
 use Rattle.st_typing.specs.Arguments.{Calls, wrong_count, wrong_arguments, wrong_in_call}

@@ -4,8 +4,8 @@ use Rattle.std.proofs.Common.{drop, length, map, slice_index_or}
 use Rattle.std.specs.List.{flat_map, Contains}
 use Rattle.std.proofs.lemmas.List.{drop_more}
 use Rattle.std.proofs.lemmas.List.Elements.{Contains-append_left, Contains-append_right}
-use Rattle.st_statics.specs.declared.rule.Broken.{Broken}
-use Rattle.st_statics.specs.Faults.{Finds}
+use Rattle.st_rules.specs.declared.rule.Broken.{Broken}
+use Rattle.st_rules.specs.Faults.{Finds}
 use Rattle.st_typing.specs.Verdicts.{or_broken}
 
 -- what is found in a front, or else behind it

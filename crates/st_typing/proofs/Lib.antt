@@ -4,3 +4,5 @@ pub mod TypingLemmas
 pub mod CallLemmas
 pub mod SelectionLemmas
 pub mod ArgumentLemmas
+mod KindOrder
+mod SpanLemmas

@@ -3,25 +3,25 @@ use Rattle.std.proofs.Common.{◌≡◌, ◌∙◌, sym, subst, ℕ, ◌++◌, B
 use Rattle.std.proofs.lemmas.Bool.{and_parts}
 use Rattle.std.proofs.lemmas.List.Concat.{flat_map-append}
 use Rattle.std.specs.List.{flat_map}
-use Rattle.st_words.specs.declared.kind.Kind.{Kind}
-use Rattle.st_words.specs.declared.literal.Literal.{Literal}
-use Rattle.st_words.specs.declared.operator.UnaryOperator.{UnaryOperator}
-use Rattle.st_words.specs.declared.operator.BinaryOperator.{BinaryOperator}
-use Rattle.st_trees.specs.Expressions.{Expr, literal, parenthesis, unary, binary}
-use Rattle.st_types.specs.Resolution.{is_untyped, is_joining, taken_kind}
-use Rattle.st_statics.specs.declared.rule.Rule.TheVariants.{WrongType}
-use Rattle.st_statics.specs.declared.rule.Broken.{Broken}
-use Rattle.st_statics.specs.Faults.{Finds, breaking, unless}
-use Rattle.st_statics.specs.Environments.{Environment}
-use Rattle.st_statics.specs.declared.demand.Demand.TheVariants.{Operand as operand, Asked as asked}
-use Rattle.st_statics.specs.declared.typings.Typing.{Typing}
-use Rattle.st_statics.specs.declared.typings.Typing.TheVariants.{Untyped as untyped, Elementary as elementary}
-use Rattle.st_statics.specs.declared.typings.Typing.TheVariants.{Composite as composite, Nothing as nothing}
-use Rattle.st_statics.specs.Demands.{sorts_of_unary, sorts_of_binary}
-use Rattle.st_statics.specs.Typings.{is_untyped_typing, typing_of, settled, meets, are_operands}
-use Rattle.st_statics.specs.Nodes.{nodes_of, offered}
-use Rattle.st_statics.specs.ExpressionRules.{first_byte, wrong_literal, wrong_part, wrong_node, wrong_within}
-use Rattle.st_statics.proofs.TypingLaws.{untyped_told}
+use Rattle.st_types.specs.declared.kind.Kind.{Kind}
+use Rattle.st_types.specs.declared.literal.Literal.{Literal}
+use Rattle.st_types.specs.declared.operator.UnaryOperator.{UnaryOperator}
+use Rattle.st_types.specs.declared.operator.BinaryOperator.{BinaryOperator}
+use Rattle.st_types.specs.Expressions.{Expr, literal, parenthesis, unary, binary}
+use Rattle.st_meaning.specs.Resolution.{is_untyped, is_joining, taken_kind}
+use Rattle.st_rules.specs.declared.rule.Rule.TheVariants.{WrongType}
+use Rattle.st_rules.specs.declared.rule.Broken.{Broken}
+use Rattle.st_rules.specs.Faults.{Finds, breaking, unless}
+use Rattle.st_rules.specs.Environments.{Environment}
+use Rattle.st_rules.specs.declared.demand.Demand.TheVariants.{Operand as operand, Asked as asked}
+use Rattle.st_rules.specs.declared.typings.Typing.{Typing}
+use Rattle.st_rules.specs.declared.typings.Typing.TheVariants.{Untyped as untyped, Elementary as elementary}
+use Rattle.st_rules.specs.declared.typings.Typing.TheVariants.{Composite as composite, Nothing as nothing}
+use Rattle.st_rules.specs.Demands.{sorts_of_unary, sorts_of_binary}
+use Rattle.st_rules.specs.Typings.{is_untyped_typing, typing_of, settled, meets, are_operands}
+use Rattle.st_rules.specs.Nodes.{nodes_of, offered}
+use Rattle.st_rules.specs.ExpressionRules.{first_byte, wrong_literal, wrong_part, wrong_node, wrong_within}
+use Rattle.st_rules.proofs.TypingLaws.{untyped_told}
 use Rattle.st_typing.specs.Verdicts.{or_broken}
 use Rattle.st_typing.proofs.Finding.{finds_front, finds_back, finds_alone, finds_same}
 

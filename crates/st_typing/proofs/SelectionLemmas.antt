@@ -7,23 +7,23 @@ use Rattle.std.proofs.lemmas.Bool.{eqb-true, eqb-false}
 use Rattle.std.proofs.lemmas.List.{drop_more}
 use Rattle.std.proofs.lemmas.List.Elements.{Contains-append_left, Contains-append_right}
 use Rattle.std.proofs.lemmas.List.Concat.{flat_map-append}
-use Rattle.st_words.specs.declared.identifier.Identifier.{Identifier}
-use Rattle.st_words.specs.declared.kind.Kind.{Kind}
-use Rattle.st_trees.specs.declared.data_type.VariableType.{VariableType}
-use Rattle.st_trees.specs.declared.expression.Selector as code_selector
-use Rattle.st_trees.specs.Expressions.{read, Variable, variable, Selector, Selectors, no_selectors, selector_then}
-use Rattle.st_trees.specs.Expressions.{selectors_of}
-use Rattle.st_trees.specs.ExpressionViews.{selector_view}
-use Rattle.st_types.specs.NameTypes.{Declared, selected_type, type_behind}
-use Rattle.st_statics.specs.declared.rule.Rule.TheVariants.{UnknownName}
-use Rattle.st_statics.specs.declared.rule.Broken.{Broken}
-use Rattle.st_statics.specs.Faults.{breaking}
-use Rattle.st_statics.specs.declared.typings.Typing.{Typing}
-use Rattle.st_statics.specs.Environments.{Environment, type_of_name}
-use Rattle.st_statics.specs.Typings.{typing_of_type, typing_of_alone, is_nothing}
-use Rattle.st_statics.specs.Nodes.{nodes_of_selector, nodes_of_selectors}
-use Rattle.st_statics.specs.ExpressionRules.{wrong_alone, wrong_node, wrong_selector, wrong_selectors, wrong_within}
-use Rattle.st_names.specs.declared.place_types.PlaceType.{PlaceType}
+use Rattle.st_types.specs.declared.identifier.Identifier.{Identifier}
+use Rattle.st_types.specs.declared.kind.Kind.{Kind}
+use Rattle.st_types.specs.declared.data_type.VariableType.{VariableType}
+use Rattle.st_types.specs.declared.expression.Selector as code_selector
+use Rattle.st_types.specs.Expressions.{read, Variable, variable, Selector, Selectors, no_selectors, selector_then}
+use Rattle.st_types.specs.Expressions.{selectors_of}
+use Rattle.st_types.specs.ExpressionViews.{selector_view}
+use Rattle.st_meaning.specs.NameTypes.{Declared, selected_type, type_behind}
+use Rattle.st_rules.specs.declared.rule.Rule.TheVariants.{UnknownName}
+use Rattle.st_rules.specs.declared.rule.Broken.{Broken}
+use Rattle.st_rules.specs.Faults.{breaking}
+use Rattle.st_rules.specs.declared.typings.Typing.{Typing}
+use Rattle.st_rules.specs.Environments.{Environment, type_of_name}
+use Rattle.st_rules.specs.Typings.{typing_of_type, typing_of_alone, is_nothing}
+use Rattle.st_rules.specs.Nodes.{nodes_of_selector, nodes_of_selectors}
+use Rattle.st_rules.specs.ExpressionRules.{wrong_alone, wrong_node, wrong_selector, wrong_selectors, wrong_within}
+use Rattle.symbols.specs.declared.place_types.PlaceType.{PlaceType}
 use Rattle.st_typing.specs.Answers.{Gives, Types}
 use Rattle.st_typing.specs.Selections.{selected, wrong_selected, wrong_step, wrong_from, wrong_behind}
 use Rattle.st_typing.specs.Selections.{SelectsAll, SelectsPlace}

@@ -5,26 +5,26 @@ use Rattle.std.specs.Prelude.{if◌then◌else◌, Result, Ok, Err}
 use Rattle.std.specs.List.{flat_map, Contains}
 use Rattle.std.proofs.lemmas.List.Elements.{Contains-append_left, Contains-append_right}
 use Rattle.std.proofs.lemmas.List.Concat.{flat_map-append}
-use Rattle.st_words.specs.declared.kind.Kind.{Kind}
-use Rattle.st_words.specs.declared.kind.Kind.TheVariants.{Bool as Boolean}
-use Rattle.st_words.specs.declared.operator.UnaryOperator.{UnaryOperator}
-use Rattle.st_words.specs.declared.operator.BinaryOperator.{BinaryOperator}
-use Rattle.st_trees.specs.Expressions.{Expr, parenthesis, unary, binary}
-use Rattle.st_types.specs.Resolution.{is_untyped, is_joining, expected_of_both}
-use Rattle.st_statics.specs.declared.rule.Rule.TheVariants.{WrongType}
-use Rattle.st_statics.specs.declared.rule.Broken.{Broken}
-use Rattle.st_statics.specs.declared.demand.Demand.{Demand}
-use Rattle.st_statics.specs.declared.demand.Demand.TheVariants.{Operand as operand, Asked as asked}
-use Rattle.st_statics.specs.declared.typings.Typing.{Typing}
-use Rattle.st_statics.specs.declared.typings.Typing.TheVariants.{Untyped as untyped, Elementary as elementary}
-use Rattle.st_statics.specs.declared.typings.Typing.TheVariants.{Composite as composite, Nothing as nothing}
-use Rattle.st_statics.specs.Faults.{Finds, breaking, unless}
-use Rattle.st_statics.specs.Environments.{Environment}
-use Rattle.st_statics.specs.Demands.{expected_of, sorts_of_unary, sorts_of_binary}
-use Rattle.st_statics.specs.Typings.{kind_of, is_untyped_typing, joined, settled, meets, are_operands, typing_of}
-use Rattle.st_statics.specs.Nodes.{offered, nodes_of, nodes_below}
-use Rattle.st_statics.specs.ExpressionRules.{wrong_within, wrong_expression, wrong_node, wrong_part, first_byte}
-use Rattle.st_statics.proofs.TypingLaws.{untyped_told}
+use Rattle.st_types.specs.declared.kind.Kind.{Kind}
+use Rattle.st_types.specs.declared.kind.Kind.TheVariants.{Bool as Boolean}
+use Rattle.st_types.specs.declared.operator.UnaryOperator.{UnaryOperator}
+use Rattle.st_types.specs.declared.operator.BinaryOperator.{BinaryOperator}
+use Rattle.st_types.specs.Expressions.{Expr, parenthesis, unary, binary}
+use Rattle.st_meaning.specs.Resolution.{is_untyped, is_joining, expected_of_both}
+use Rattle.st_rules.specs.declared.rule.Rule.TheVariants.{WrongType}
+use Rattle.st_rules.specs.declared.rule.Broken.{Broken}
+use Rattle.st_rules.specs.declared.demand.Demand.{Demand}
+use Rattle.st_rules.specs.declared.demand.Demand.TheVariants.{Operand as operand, Asked as asked}
+use Rattle.st_rules.specs.declared.typings.Typing.{Typing}
+use Rattle.st_rules.specs.declared.typings.Typing.TheVariants.{Untyped as untyped, Elementary as elementary}
+use Rattle.st_rules.specs.declared.typings.Typing.TheVariants.{Composite as composite, Nothing as nothing}
+use Rattle.st_rules.specs.Faults.{Finds, breaking, unless}
+use Rattle.st_rules.specs.Environments.{Environment}
+use Rattle.st_rules.specs.Demands.{expected_of, sorts_of_unary, sorts_of_binary}
+use Rattle.st_rules.specs.Typings.{kind_of, is_untyped_typing, joined, settled, meets, are_operands, typing_of}
+use Rattle.st_rules.specs.Nodes.{offered, nodes_of, nodes_below}
+use Rattle.st_rules.specs.ExpressionRules.{wrong_within, wrong_expression, wrong_node, wrong_part, first_byte}
+use Rattle.st_rules.proofs.TypingLaws.{untyped_told}
 use Rattle.st_typing.specs.Verdicts.{or_broken, verdict}
 use Rattle.st_typing.specs.Answers.{Gives, IsTyped, Types}
 use Rattle.st_typing.proofs.PartLemmas.{binary_within, unary_within, typing_untyped}

@@ -1,14 +1,14 @@
 -- What the typing of an expression answers.
 use Rattle.std.specs.Prelude.{◌≡◌, List, [], false, Option, Result, Ok, Err}
 use Rattle.std.specs.List.{Contains}
-use Rattle.st_words.specs.declared.kind.Kind.{Kind}
-use Rattle.st_trees.specs.Expressions.{Expr}
-use Rattle.st_types.specs.Resolution.{is_untyped}
-use Rattle.st_statics.specs.declared.rule.Broken.{Broken}
-use Rattle.st_statics.specs.declared.typings.Typing.{Typing}
-use Rattle.st_statics.specs.Environments.{Environment}
-use Rattle.st_statics.specs.Typings.{typing_of}
-use Rattle.st_statics.specs.ExpressionRules.{wrong_within}
+use Rattle.st_types.specs.declared.kind.Kind.{Kind}
+use Rattle.st_types.specs.Expressions.{Expr}
+use Rattle.st_meaning.specs.Resolution.{is_untyped}
+use Rattle.st_rules.specs.declared.rule.Broken.{Broken}
+use Rattle.st_rules.specs.declared.typings.Typing.{Typing}
+use Rattle.st_rules.specs.Environments.{Environment}
+use Rattle.st_rules.specs.Typings.{typing_of}
+use Rattle.st_rules.specs.ExpressionRules.{wrong_within}
 
 -- a typing where there are no faults, or one of the faults
 abbrev pub Gives : Typing → List Broken → Result Typing Broken → Type 0

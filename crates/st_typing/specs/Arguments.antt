@@ -1,18 +1,18 @@
 -- The arguments of a call.
 use Rattle.std.specs.Prelude.{◌≡◌, ℕ, List, [], ◌∷◌, ◌++◌, ◌==◌, length, map, Option, Some}
 use Rattle.std.specs.List.{flat_map}
-use Rattle.st_words.specs.declared.kind.Kind.{Kind}
-use Rattle.st_trees.specs.Expressions.{Exprs}
-use Rattle.st_types.specs.Scopes.{Name}
-use Rattle.st_statics.specs.declared.rule.Rule.TheVariants.{UnknownName, WrongArguments}
-use Rattle.st_statics.specs.declared.rule.Broken.{Broken}
-use Rattle.st_statics.specs.Faults.{breaking, unless}
-use Rattle.st_statics.specs.declared.demand.Sorts.TheVariants.{Any}
-use Rattle.st_statics.specs.declared.demand.Demand.{Demand}
-use Rattle.st_statics.specs.declared.demand.Demand.TheVariants.{Asked}
-use Rattle.st_statics.specs.Environments.{Environment, Callee, callee_of}
-use Rattle.st_statics.specs.Nodes.{nodes_of_all}
-use Rattle.st_statics.specs.ExpressionRules.{wrong_node, count_of}
+use Rattle.st_types.specs.declared.kind.Kind.{Kind}
+use Rattle.st_types.specs.Expressions.{Exprs}
+use Rattle.st_meaning.specs.Scopes.{Name}
+use Rattle.st_rules.specs.declared.rule.Rule.TheVariants.{UnknownName, WrongArguments}
+use Rattle.st_rules.specs.declared.rule.Broken.{Broken}
+use Rattle.st_rules.specs.Faults.{breaking, unless}
+use Rattle.st_rules.specs.declared.demand.Sorts.TheVariants.{Any}
+use Rattle.st_rules.specs.declared.demand.Demand.{Demand}
+use Rattle.st_rules.specs.declared.demand.Demand.TheVariants.{Asked}
+use Rattle.st_rules.specs.Environments.{Environment, Callee, callee_of}
+use Rattle.st_rules.specs.Nodes.{nodes_of_all}
+use Rattle.st_rules.specs.ExpressionRules.{wrong_node, count_of}
 use Rattle.st_typing.specs.declared.demands.Demands.{Demands}
 use Rattle.st_typing.specs.declared.demands.Demands.TheVariants.{One, Two, Three}
 

@@ -2,3 +2,4 @@ pub mod Verdicts
 pub mod Answers
 pub mod Selections
 pub mod Arguments
+pub mod Spans

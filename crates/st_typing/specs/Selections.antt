@@ -2,16 +2,16 @@
 use Rattle.std.specs.Prelude.{◌≡◌, ◌++◌, ℕ, List, [], Option, Some, None, Result, Ok, Err, option_and_then, option_map}
 use Rattle.std.specs.Prelude.{if◌then◌else◌}
 use Rattle.std.specs.List.{Contains, flat_map}
-use Rattle.st_trees.specs.declared.data_type.VariableType.{VariableType}
-use Rattle.st_trees.specs.Expressions.{Selector, Selectors, Variable}
-use Rattle.st_types.specs.NameTypes.{Declared, selected_type, type_behind}
-use Rattle.st_statics.specs.declared.rule.Broken.{Broken}
-use Rattle.st_statics.specs.Environments.{Environment, type_of_place}
-use Rattle.st_statics.specs.Typings.{typing_of_type, is_nothing}
-use Rattle.st_statics.specs.Nodes.{nodes_of_selectors, nodes_of_place}
-use Rattle.st_statics.specs.ExpressionRules.{wrong_selector, wrong_selectors, wrong_variable, wrong_node}
-use Rattle.st_names.specs.declared.place_types.PlaceType.{PlaceType}
-use Rattle.st_names.specs.PlaceTypes.{place_type_view}
+use Rattle.st_types.specs.declared.data_type.VariableType.{VariableType}
+use Rattle.st_types.specs.Expressions.{Selector, Selectors, Variable}
+use Rattle.st_meaning.specs.NameTypes.{Declared, selected_type, type_behind}
+use Rattle.st_rules.specs.declared.rule.Broken.{Broken}
+use Rattle.st_rules.specs.Environments.{Environment, type_of_place}
+use Rattle.st_rules.specs.Typings.{typing_of_type, is_nothing}
+use Rattle.st_rules.specs.Nodes.{nodes_of_selectors, nodes_of_place}
+use Rattle.st_rules.specs.ExpressionRules.{wrong_selector, wrong_selectors, wrong_variable, wrong_node}
+use Rattle.symbols.specs.declared.place_types.PlaceType.{PlaceType}
+use Rattle.symbols.specs.PlaceTypes.{place_type_view}
 
 -- the type of what a selector selects of a type that is known
 abbrev pub selected : Declared → Option VariableType → Selector → Option VariableType

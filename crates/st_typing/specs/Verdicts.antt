@@ -1,7 +1,7 @@
 -- Faults one after another.
 use Rattle.std.specs.Prelude.{Option, Some, None, Result, Ok, Err}
-use Rattle.st_statics.specs.declared.rule.Broken.{Broken}
-use Rattle.st_statics.specs.declared.typings.Typing.{Typing}
+use Rattle.st_rules.specs.declared.rule.Broken.{Broken}
+use Rattle.st_rules.specs.declared.typings.Typing.{Typing}
 
 -- one fault, or else another
 abbrev pub or_broken : Option Broken → Option Broken → Option Broken

@@ -1,12 +1,12 @@
 //! The typings of calls of standard functions, from those of their arguments.
 
 ghost use Rattle.std.specs.Prelude.{◌≡◌, drop};
-ghost use Rattle.st_trees.specs.Expressions.{call, no_exprs, expr_then};
-ghost use Rattle.st_trees.specs.ExpressionViews.{expr_view};
-ghost use Rattle.st_statics.specs.Environments.{Environment, standard};
-ghost use Rattle.st_statics.specs.Faults.{Finds};
-ghost use Rattle.st_statics.specs.Nodes.{first_demand};
-ghost use Rattle.st_names.specs.Standard.{standard_view};
+ghost use Rattle.st_types.specs.Expressions.{call, no_exprs, expr_then};
+ghost use Rattle.st_types.specs.ExpressionViews.{expr_view};
+ghost use Rattle.st_rules.specs.Environments.{Environment, standard};
+ghost use Rattle.st_rules.specs.Faults.{Finds};
+ghost use Rattle.st_rules.specs.Nodes.{first_demand};
+ghost use Rattle.symbols.specs.Standard.{standard_view};
 ghost use Rattle.st_typing.specs.Answers.{IsTyped, Types};
 ghost use Rattle.st_typing.specs.Arguments.{Calls, demands_of_inputs, demands_view, unknown_name, wrong_count};
 ghost use Rattle.st_typing.specs.Arguments.{wrong_in_call};
@@ -15,10 +15,9 @@ use crate::demands::{Demands, common_of_three, common_of_two, demands_of_standar
 use crate::operands::{kind_of, typing_of_kind};
 use crate::operations::wrong_at;
 use crate::verdicts::{either, verdict};
-use st_names::Standard;
-use st_statics::{Broken, Demand, Rule, Sorts, Typing};
-use st_trees::Expr;
-use st_words::{Identifier, Kind};
+use st_rules::{Broken, Demand, Rule, Sorts, Typing};
+use st_types::{Expr, Identifier, Kind};
+use symbols::Standard;
 
 /// Too few or too many arguments of a call at a place (C10).
 pub fn wrong_count(place: usize) -> Broken

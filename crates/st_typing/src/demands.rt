@@ -1,16 +1,16 @@
 //! What standard functions take and give.
 
 ghost use Rattle.std.specs.Prelude.{◌≡◌, ◌∷◌, [], List, Option};
-ghost use Rattle.st_words.specs.declared.kind.Kind.{Kind};
-ghost use Rattle.st_types.specs.Resolution.{common_kind, standard_kind};
-ghost use Rattle.st_statics.specs.Demands.{demands_of_standard};
-ghost use Rattle.st_names.specs.Standard.{standard_view};
+ghost use Rattle.st_types.specs.declared.kind.Kind.{Kind};
+ghost use Rattle.st_meaning.specs.Resolution.{common_kind, standard_kind};
+ghost use Rattle.st_rules.specs.Demands.{demands_of_standard};
+ghost use Rattle.symbols.specs.Standard.{standard_view};
 ghost use Rattle.st_typing.specs.Arguments.{demands_view};
 
 use crate::kinds::or_kind;
-use st_names::Standard;
-use st_statics::{Demand, Sorts};
-use st_words::Kind;
+use st_rules::{Demand, Sorts};
+use st_types::Kind;
+use symbols::Standard;
 
 /// What a standard function asks of its arguments, in order.
 #[derive(Clone, Copy)]

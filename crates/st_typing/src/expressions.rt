@@ -2,15 +2,15 @@
 
 ghost use Rattle.std.specs.Prelude.{◌≡◌, map, Some};
 ghost use Rattle.std.specs.List.{flat_map};
-ghost use Rattle.st_trees.specs.Expressions.{read, call, exprs_of, selectors_of};
-ghost use Rattle.st_trees.specs.ExpressionViews.{expr_view, variable_view, selector_view};
-ghost use Rattle.st_statics.specs.Environments.{Environment, standard};
-ghost use Rattle.st_statics.specs.Faults.{Finds};
-ghost use Rattle.st_statics.specs.Nodes.{nodes_of_selector};
-ghost use Rattle.st_statics.specs.ExpressionRules.{wrong_expression, wrong_node};
-ghost use Rattle.st_names.specs.PlaceTypes.{place_type_view};
-ghost use Rattle.st_names.specs.Serving.{Serves};
-ghost use Rattle.st_names.specs.Standard.{standard_view};
+ghost use Rattle.st_types.specs.Expressions.{read, call, exprs_of, selectors_of};
+ghost use Rattle.st_types.specs.ExpressionViews.{expr_view, variable_view, selector_view};
+ghost use Rattle.st_rules.specs.Environments.{Environment, standard};
+ghost use Rattle.st_rules.specs.Faults.{Finds};
+ghost use Rattle.st_rules.specs.Nodes.{nodes_of_selector};
+ghost use Rattle.st_rules.specs.ExpressionRules.{wrong_expression, wrong_node};
+ghost use Rattle.symbols.specs.PlaceTypes.{place_type_view};
+ghost use Rattle.symbols.specs.Serving.{Serves};
+ghost use Rattle.symbols.specs.Standard.{standard_view};
 ghost use Rattle.st_typing.specs.Answers.{Types};
 ghost use Rattle.st_typing.specs.Arguments.{Calls, demands_of_inputs, wrong_in_call};
 ghost use Rattle.st_typing.specs.Selections.{SelectsAll, SelectsPlace};
@@ -23,10 +23,9 @@ use crate::operations::{negation, operation, wrong_at};
 use crate::readings::{typing_of_alone, typing_of_literal};
 use crate::selections::{select, typing_of_place};
 use crate::verdicts::verdict;
-use st_names::{Callee, PlaceType, Standard, UnitNames};
-use st_statics::{Broken, Demand, Sorts, Typing};
-use st_trees::{Expr, Selector, Variable};
-use st_words::{Identifier, Kind};
+use st_rules::{Broken, Demand, Sorts, Typing};
+use st_types::{Expr, Identifier, Kind, Selector, Variable};
+use symbols::{Callee, PlaceType, Standard, UnitNames};
 
 /// The typing of an expression, with nothing wrong in what is not untyped, or what is wrong in it.
 #[cycle(typing)]

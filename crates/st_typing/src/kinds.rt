@@ -1,12 +1,12 @@
 //! The types that literals take, and those that are expected.
 
 ghost use Rattle.std.specs.Prelude.{◌≡◌};
-ghost use Rattle.st_types.specs.Resolution.{is_whole_or_bits, taken_kind};
-ghost use Rattle.st_types.specs.Operators.{or_kind};
-ghost use Rattle.st_statics.specs.Demands.{is_kind};
-ghost use Rattle.st_statics.specs.ExpressionRules.{kind_or_taken};
+ghost use Rattle.st_meaning.specs.Resolution.{is_whole_or_bits, taken_kind};
+ghost use Rattle.st_meaning.specs.Operators.{or_kind};
+ghost use Rattle.st_rules.specs.Demands.{is_kind};
+ghost use Rattle.st_rules.specs.ExpressionRules.{kind_or_taken};
 
-use st_words::{Kind, Sort};
+use st_types::{Kind, Sort};
 
 fn is_whole_or_bits(sort: Sort) -> bool
     ensures { result ≡ is_whole_or_bits sort }

@@ -1,14 +1,16 @@
-//! The types of expressions, and what is wrong in them.
+//! The types of expressions and of the labels of a CASE, and what is wrong in them.
 //!
 //! An expression is judged from its leaves up: each name is looked up once, and what is untyped is settled once, where
-//! its type is known.
+//! its type is known. Labels are judged one by one, and against each other.
 #![tactic(auto)]
 
 mod calls;
 mod demands;
 mod expressions;
 mod kinds;
+mod labels;
 mod literals;
+mod lone_labels;
 mod operands;
 mod operations;
 mod places;
@@ -16,15 +18,18 @@ mod readings;
 mod selections;
 mod settling;
 mod sorts;
+mod spans;
 mod verdicts;
 
 pub use expressions::{place_of, typing, wrong_expression};
 pub use kinds::{kind_or_taken, or_kind, taken_kind};
+pub use labels::wrong_labels;
 pub use literals::wrong_number;
+pub use lone_labels::wrong_label;
 pub use operands::{demand_of_typing, is_nothing, kind_of, meets, settled};
 pub use places::{first_byte, place_of_literal};
 pub use readings::wrong_reading;
-pub use selections::{demand_of_type, typing_of_place};
+pub use selections::{demand_of_type, selected_type, type_behind, typing_of_place, wrong_selector};
 pub use settling::settle;
 pub use sorts::is_joining;
 pub use verdicts::{broken_at, either, in_case, unless};

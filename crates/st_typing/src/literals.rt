@@ -1,16 +1,16 @@
 //! Literals of numbers.
 
 ghost use Rattle.std.specs.Prelude.{◌≡◌};
-ghost use Rattle.st_words.specs.Kinds.{holds};
-ghost use Rattle.st_types.specs.Operators.{number_of};
-ghost use Rattle.st_types.specs.Resolution.{is_untyped_literal};
-ghost use Rattle.st_statics.specs.Faults.{Finds};
-ghost use Rattle.st_statics.specs.ExpressionRules.{wrong_number};
+ghost use Rattle.st_types.specs.Kinds.{holds};
+ghost use Rattle.st_meaning.specs.Operators.{number_of};
+ghost use Rattle.st_meaning.specs.Resolution.{is_untyped_literal};
+ghost use Rattle.st_rules.specs.Faults.{Finds};
+ghost use Rattle.st_rules.specs.ExpressionRules.{wrong_number};
 
 use crate::kinds::kind_or_taken;
-use st_statics::{Broken, Rule};
-use st_types::number_of;
-use st_words::{Kind, Literal, Number};
+use st_meaning::number_of;
+use st_rules::{Broken, Rule};
+use st_types::{Kind, Literal, Number};
 
 /// Whether the literal has no type of its own.
 pub fn is_untyped_literal(literal: &Literal) -> bool

@@ -1,22 +1,22 @@
 //! Typings, and what operators and places say to them.
 
 ghost use Rattle.std.specs.Prelude.{◌≡◌, ◌&&◌, if◌then◌else◌, None};
-ghost use Rattle.st_words.specs.declared.kind.Kind.TheVariants.{Bool};
-ghost use Rattle.st_types.specs.Resolution.{is_joining};
-ghost use Rattle.st_statics.specs.declared.rule.Rule.TheVariants.{WrongType};
-ghost use Rattle.st_statics.specs.declared.demand.Demand.TheVariants.{Asked};
-ghost use Rattle.st_statics.specs.declared.typings.Typing.TheVariants.{Elementary};
-ghost use Rattle.st_statics.specs.Faults.{Finds, breaking, unless};
-ghost use Rattle.st_statics.specs.Demands.{expected_of, sorts_of_unary, sorts_of_binary};
-ghost use Rattle.st_statics.specs.Typings.{kind_of, is_untyped_typing, is_nothing, typing_of_kind, joined, settled};
-ghost use Rattle.st_statics.specs.Typings.{meets, are_operands};
-ghost use Rattle.st_statics.specs.Nodes.{offered};
-ghost use Rattle.st_statics.specs.Roots.{demand_of_typing};
+ghost use Rattle.st_types.specs.declared.kind.Kind.TheVariants.{Bool};
+ghost use Rattle.st_meaning.specs.Resolution.{is_joining};
+ghost use Rattle.st_rules.specs.declared.rule.Rule.TheVariants.{WrongType};
+ghost use Rattle.st_rules.specs.declared.demand.Demand.TheVariants.{Asked};
+ghost use Rattle.st_rules.specs.declared.typings.Typing.TheVariants.{Elementary};
+ghost use Rattle.st_rules.specs.Faults.{Finds, breaking, unless};
+ghost use Rattle.st_rules.specs.Demands.{expected_of, sorts_of_unary, sorts_of_binary};
+ghost use Rattle.st_rules.specs.Typings.{kind_of, is_untyped_typing, is_nothing, typing_of_kind, joined, settled};
+ghost use Rattle.st_rules.specs.Typings.{meets, are_operands};
+ghost use Rattle.st_rules.specs.Nodes.{offered};
+ghost use Rattle.st_rules.specs.Roots.{demand_of_typing};
 
 use crate::kinds::{is_kind, taken_kind};
 use crate::sorts::{in_sorts, is_joining, sorts_of_binary, sorts_of_unary};
-use st_statics::{Broken, Demand, Rule, Sorts, Typing};
-use st_words::{BinaryOperator, Kind, UnaryOperator};
+use st_rules::{Broken, Demand, Rule, Sorts, Typing};
+use st_types::{BinaryOperator, Kind, UnaryOperator};
 
 /// The elementary or enumerated type that a typing is.
 pub fn kind_of(typing: Typing) -> Option<Kind>

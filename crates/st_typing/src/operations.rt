@@ -1,11 +1,11 @@
 //! The typings of operations, from those of their operands.
 
 ghost use Rattle.std.specs.Prelude.{◌≡◌};
-ghost use Rattle.st_trees.specs.Expressions.{unary, binary};
-ghost use Rattle.st_trees.specs.ExpressionViews.{expr_view};
-ghost use Rattle.st_statics.specs.Environments.{Environment};
-ghost use Rattle.st_statics.specs.Faults.{Finds};
-ghost use Rattle.st_statics.specs.ExpressionRules.{wrong_within, wrong_expression};
+ghost use Rattle.st_types.specs.Expressions.{unary, binary};
+ghost use Rattle.st_types.specs.ExpressionViews.{expr_view};
+ghost use Rattle.st_rules.specs.Environments.{Environment};
+ghost use Rattle.st_rules.specs.Faults.{Finds};
+ghost use Rattle.st_rules.specs.ExpressionRules.{wrong_within, wrong_expression};
 ghost use Rattle.st_typing.specs.Answers.{IsTyped, Types};
 
 use crate::operands::{
@@ -15,9 +15,8 @@ use crate::operands::{
 use crate::places::first_byte;
 use crate::settling::settle;
 use crate::verdicts::{either, verdict};
-use st_statics::{Broken, Demand, Typing};
-use st_trees::Expr;
-use st_words::{BinaryOperator, Kind, UnaryOperator};
+use st_rules::{Broken, Demand, Typing};
+use st_types::{BinaryOperator, Expr, Kind, UnaryOperator};
 
 /// What is wrong in an operand that is offered a type, if it is untyped.
 fn settle_untyped(offered: Option<Kind>, typing: Typing, expression: &Expr) -> Option<Broken>

@@ -1,11 +1,10 @@
 //! Where expressions begin.
 
 ghost use Rattle.std.specs.Prelude.{◌≡◌};
-ghost use Rattle.st_trees.specs.ExpressionViews.{expr_view};
-ghost use Rattle.st_statics.specs.ExpressionRules.{place_of_literal, first_byte};
+ghost use Rattle.st_types.specs.ExpressionViews.{expr_view};
+ghost use Rattle.st_rules.specs.ExpressionRules.{place_of_literal, first_byte};
 
-use st_trees::Expr;
-use st_words::Literal;
+use st_types::{Expr, Literal};
 
 /// The offset of the first byte of a literal.
 pub fn place_of_literal(literal: &Literal) -> usize

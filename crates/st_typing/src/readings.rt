@@ -1,22 +1,22 @@
 //! The typings of literals and of names alone.
 
 ghost use Rattle.std.specs.Prelude.{◌≡◌};
-ghost use Rattle.st_trees.specs.Expressions.{literal};
-ghost use Rattle.st_statics.specs.Environments.{Environment, type_of_name};
-ghost use Rattle.st_statics.specs.Faults.{Finds};
-ghost use Rattle.st_statics.specs.Readings.{wrong_reading};
-ghost use Rattle.st_statics.specs.Typings.{typing_of_reading, typing_of_alone};
-ghost use Rattle.st_statics.specs.ExpressionRules.{wrong_alone};
-ghost use Rattle.st_words.specs.declared.literal.Literal.TheVariants as literals;
-ghost use Rattle.st_names.specs.Enumerated.{reading_view};
-ghost use Rattle.st_names.specs.Serving.{Serves};
+ghost use Rattle.st_types.specs.Expressions.{literal};
+ghost use Rattle.st_rules.specs.Environments.{Environment, type_of_name};
+ghost use Rattle.st_rules.specs.Faults.{Finds};
+ghost use Rattle.st_rules.specs.Readings.{wrong_reading};
+ghost use Rattle.st_rules.specs.Typings.{typing_of_reading, typing_of_alone};
+ghost use Rattle.st_rules.specs.ExpressionRules.{wrong_alone};
+ghost use Rattle.st_types.specs.declared.literal.Literal.TheVariants as literals;
+ghost use Rattle.symbols.specs.Enumerated.{reading_view};
+ghost use Rattle.symbols.specs.Serving.{Serves};
 ghost use Rattle.st_typing.specs.Answers.{Gives, Types};
 
 use crate::literals::wrong_number;
 use crate::verdicts::verdict;
-use st_names::{Reading, UnitNames};
-use st_statics::{Broken, Rule, Typing};
-use st_words::{Identifier, Kind, Literal, Number};
+use st_rules::{Broken, Rule, Typing};
+use st_types::{Identifier, Kind, Literal, Number};
+use symbols::{Reading, UnitNames};
 
 /// What is wrong where a value of an enumerated type is named at a place: no type has it (C1), or several (C3).
 pub fn wrong_reading(place: usize, reading: Reading) -> Option<Broken>

@@ -1,22 +1,24 @@
 //! What is selected of variables: members and elements.
 
-ghost use Rattle.std.specs.Prelude.{◌≡◌, ◌∷◌, [], option_map};
-ghost use Rattle.st_trees.specs.ExpressionViews.{selector_view};
-ghost use Rattle.st_types.specs.NameTypes.{Declared, selected_type};
-ghost use Rattle.st_names.specs.PlaceTypes.{place_type_view};
-ghost use Rattle.st_names.specs.Tables.{ServesTables};
-ghost use Rattle.st_statics.specs.Environments.{Environment};
-ghost use Rattle.st_statics.specs.Roots.{demand_of_type};
-ghost use Rattle.st_statics.specs.Typings.{typing_of_type};
-ghost use Rattle.st_statics.specs.ExpressionRules.{wrong_selector};
+ghost use Rattle.std.specs.Prelude.{◌≡◌, ◌∷◌, [], map, option_map};
+ghost use Rattle.st_types.specs.Expressions.{selectors_of};
+ghost use Rattle.st_types.specs.ExpressionViews.{selector_view};
+ghost use Rattle.st_meaning.specs.NameTypes.{Declared, selected_type, type_behind};
+ghost use Rattle.symbols.specs.PlaceTypes.{place_type_view};
+ghost use Rattle.symbols.specs.Tables.{ServesTables};
+ghost use Rattle.st_rules.specs.Environments.{Environment};
+ghost use Rattle.st_rules.specs.Roots.{demand_of_type};
+ghost use Rattle.st_rules.specs.Typings.{typing_of_type};
+ghost use Rattle.st_rules.specs.ExpressionRules.{wrong_selector};
 ghost use Rattle.st_typing.specs.Selections.{Selects};
 
 use crate::operands::{demand_of_typing, is_nothing};
-use st_names::{PlaceType, TextTables};
-use st_statics::{Broken, Demand, Rule, Typing};
-use st_trees::Selector;
+use st_rules::{Broken, Demand, Rule, Typing};
+use st_types::Selector;
+use symbols::{PlaceType, TextTables};
 
-fn selected_type<'a>(
+/// The type of what a selector selects.
+pub fn selected_type<'a>(
     tables: &TextTables<'a>,
     declared: PlaceType<'a>,
     selector: &Selector,
@@ -30,9 +32,28 @@ fn selected_type<'a>(
     }
 }
 
+/// The type of what selectors select, one after another.
+pub fn type_behind<'a>(
+    tables: &TextTables<'a>,
+    declared: PlaceType<'a>,
+    selectors: &[Selector],
+) -> Option<PlaceType<'a>>
+    ensures { (text : Declared) → ServesTables tables.now text → option_map place_type_view result
+        ≡ type_behind text (selectors_of (map selector_view selectors.now)) (place_type_view declared.entry) }
+{
+    let mut behind = declared;
+    for selector in selectors {
+        match selected_type(tables, behind, selector) {
+            Some(next) => behind = next,
+            None => return None,
+        }
+    }
+    Some(behind)
+}
+
 /// What is wrong where a selector selects nothing: a member that a type has not (C1), or an element of what is no
 /// array (C3).
-fn wrong_selector(place: usize, selector: &Selector) -> Broken
+pub fn wrong_selector(place: usize, selector: &Selector) -> Broken
     ensures { wrong_selector place (selector_view selector.now) ≡ result ∷ [] }
 {
     match selector {

@@ -1,20 +1,19 @@
 //! Expressions of untyped literals, which take the type that they are offered.
 
 ghost use Rattle.std.specs.Prelude.{◌≡◌, true};
-ghost use Rattle.st_trees.specs.ExpressionViews.{expr_view};
-ghost use Rattle.st_types.specs.Resolution.{is_untyped, is_untyped_literal};
-ghost use Rattle.st_statics.specs.Environments.{Environment};
-ghost use Rattle.st_statics.specs.Faults.{Finds};
-ghost use Rattle.st_statics.specs.ExpressionRules.{wrong_literal, wrong_within};
+ghost use Rattle.st_types.specs.ExpressionViews.{expr_view};
+ghost use Rattle.st_meaning.specs.Resolution.{is_untyped, is_untyped_literal};
+ghost use Rattle.st_rules.specs.Environments.{Environment};
+ghost use Rattle.st_rules.specs.Faults.{Finds};
+ghost use Rattle.st_rules.specs.ExpressionRules.{wrong_literal, wrong_within};
 
 use crate::kinds::taken_kind;
 use crate::literals::wrong_number;
 use crate::operands::{wrong_binary, wrong_unary};
 use crate::places::first_byte;
 use crate::verdicts::either;
-use st_statics::{Broken, Typing};
-use st_trees::Expr;
-use st_words::{Kind, Literal};
+use st_rules::{Broken, Typing};
+use st_types::{Expr, Kind, Literal};
 
 fn settle_literal(offered: Option<Kind>, literal: &Literal) -> Option<Broken>
     ensures { (env : Environment) → is_untyped_literal literal.now ≡ true

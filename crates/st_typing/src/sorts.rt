@@ -1,11 +1,11 @@
 //! What operators take.
 
 ghost use Rattle.std.specs.Prelude.{◌≡◌};
-ghost use Rattle.st_types.specs.Resolution.{is_joining};
-ghost use Rattle.st_statics.specs.Demands.{in_sorts, sorts_of_unary, sorts_of_binary};
+ghost use Rattle.st_meaning.specs.Resolution.{is_joining};
+ghost use Rattle.st_rules.specs.Demands.{in_sorts, sorts_of_unary, sorts_of_binary};
 
-use st_statics::Sorts;
-use st_words::{BinaryOperator, Sort, UnaryOperator};
+use st_rules::Sorts;
+use st_types::{BinaryOperator, Sort, UnaryOperator};
 
 /// Whether the operator joins untyped operands to what is untyped.
 pub fn is_joining(operator: BinaryOperator) -> bool

@@ -1,11 +1,11 @@
 //! Faults one after another.
 
 ghost use Rattle.std.specs.Prelude.{◌≡◌, List, ℕ};
-ghost use Rattle.st_statics.specs.Faults.{Finds, breaking, in_case, unless};
-ghost use Rattle.st_names.specs.Searches.{FindsPlace};
+ghost use Rattle.st_rules.specs.Faults.{Finds, breaking, in_case, unless};
+ghost use Rattle.symbols.specs.Searches.{FindsPlace};
 ghost use Rattle.st_typing.specs.Verdicts.{or_broken, verdict};
 
-use st_statics::{Broken, Rule, Typing};
+use st_rules::{Broken, Rule, Typing};
 
 /// One fault, or else the other.
 pub fn either(fault: Option<Broken>, other: Option<Broken>) -> Option<Broken>

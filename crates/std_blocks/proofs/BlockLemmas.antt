@@ -3,22 +3,22 @@ use Rattle.std.proofs.Common.{◌≡◌, ℕ, suc, List, [], ◌∷◌, ◌++◌
 use Rattle.std.proofs.Common.{Option, Some, None, Result, Ok, Err, option_map, Bool, true, false, not, if◌then◌else◌}
 use Rattle.std.proofs.Common.{◌&&◌}
 use Rattle.std.specs.Prelude.{ℤ, pos, int_le, option_and_then, slice_get, slice_set}
-use Rattle.st_words.specs.Values.{Datum, datum_of_truth, is_true}
-use Rattle.st_types.specs.Failures.{Failure, ill_typed, or_failure}
-use Rattle.st_types.specs.Ticks.{proceed}
-use Rattle.st_types.specs.StandardBlocks.{StandardBlock, BlockMember, members_of, stepped, SR, RS, R_TRIG, F_TRIG}
-use Rattle.st_types.specs.StandardBlocks.{set_first}
-use Rattle.st_types.specs.StandardBlocks.{CTU, CTD, CTUD, up_count, down_count, up_down_count, int}
-use Rattle.st_words.specs.declared.kind.Kind.TheVariants.{Int}
+use Rattle.st_types.specs.Values.{Datum, datum_of_truth, is_true}
+use Rattle.st_meaning.specs.Failures.{Failure, ill_typed, or_failure}
+use Rattle.st_meaning.specs.Ticks.{proceed}
+use Rattle.st_meaning.specs.StandardBlocks.{StandardBlock, BlockMember, members_of, stepped, SR, RS, R_TRIG, F_TRIG}
+use Rattle.st_meaning.specs.StandardBlocks.{set_first}
+use Rattle.st_meaning.specs.StandardBlocks.{CTU, CTD, CTUD, up_count, down_count, up_down_count, int}
+use Rattle.st_types.specs.declared.kind.Kind.TheVariants.{Int}
 use Rattle.std.specs.Int.{int_max}
-use Rattle.st_types.specs.StandardBlocks.{reset_first, edge, Timer, TON, TOF, TP, on_delay, off_delay, pulse, timer_of}
-use Rattle.st_types.specs.StandardBlocks.{time}
-use Rattle.st_words.specs.Kinds.{holds, same_kind}
-use Rattle.st_types.specs.Stores.{may_replace}
+use Rattle.st_meaning.specs.StandardBlocks.{reset_first, edge, Timer, TON, TOF, TP, on_delay, off_delay, pulse, timer_of}
+use Rattle.st_meaning.specs.StandardBlocks.{time}
+use Rattle.st_types.specs.Kinds.{holds, same_kind}
+use Rattle.st_meaning.specs.Stores.{may_replace}
 use Rattle.slot_trees.specs.SlotExecution.{Slots, stored_at, stored_over}
 use Rattle.slot_trees.specs.SlotRuns.{member_slots, members_stored}
-use Rattle.st_words.specs.declared.fault.Fault.{Fault}
-use Rattle.st_words.specs.declared.fault.Fault.TheVariants.{Conversion}
+use Rattle.st_types.specs.declared.fault.Fault.{Fault}
+use Rattle.st_types.specs.declared.fault.Fault.TheVariants.{Conversion}
 use Rattle.std_blocks.specs.Members.{values_from, all_stored, block_stepped, Leaves}
 
 -- members are read as so many values

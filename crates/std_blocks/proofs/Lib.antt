@@ -1,2 +1,5 @@
+pub mod NumberLemmas
+pub mod Remainders
+pub mod ShiftLemmas
 pub mod BlockLemmas
 pub mod MemberLemmas

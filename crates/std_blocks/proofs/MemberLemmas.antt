@@ -4,14 +4,14 @@ use Rattle.std.proofs.Common.{◌∙◌, arith, Option, Some, None, Ok, Err, opt
 use Rattle.std.proofs.Common.{if◌then◌else◌, ◌&&◌, get_or}
 use Rattle.std.proofs.lemmas.Option.{slice_get_past}
 use Rattle.std.specs.Prelude.{ℤ, option_and_then, slice_get, slice_set}
-use Rattle.st_words.specs.Kinds.{holds, same_kind}
-use Rattle.st_words.specs.declared.kind.Kind.{Kind}
-use Rattle.st_words.specs.declared.fault.Fault.{Fault}
-use Rattle.st_words.specs.declared.fault.Fault.TheVariants.{Range}
-use Rattle.st_words.specs.Values.{Datum, IsHeld, in_range}
-use Rattle.st_types.specs.Failures.{ill_typed}
+use Rattle.st_types.specs.Kinds.{holds, same_kind}
+use Rattle.st_types.specs.declared.kind.Kind.{Kind}
+use Rattle.st_types.specs.declared.fault.Fault.{Fault}
+use Rattle.st_types.specs.declared.fault.Fault.TheVariants.{Range}
+use Rattle.st_types.specs.Values.{Datum, IsHeld, in_range}
+use Rattle.st_meaning.specs.Failures.{ill_typed}
 use Rattle.slot_trees.specs.SlotExecution.{stored_at, stored_over}
-use Rattle.st_types.specs.Ticks.{proceed}
+use Rattle.st_meaning.specs.Ticks.{proceed}
 use Rattle.std_blocks.specs.Members.{all_stored, values_from}
 
 front_is : (vs : List Datum) (k n : ℕ) (v : Datum) → slice_get vs k ≡ Some v → take (suc n) (drop k vs) ≡ v

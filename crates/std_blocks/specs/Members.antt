@@ -1,12 +1,12 @@
 -- Members of an instance in consecutive slots, and what a call of a standard block makes of them.
 use Rattle.std.specs.Prelude.{◌≡◌, ℕ, zero, suc, List, [], ◌∷◌, Option, Some, option_map, option_and_then, slice_get}
 use Rattle.std.specs.Prelude.{Result, Ok, Err}
-use Rattle.st_words.specs.declared.fault.Fault.{Fault}
-use Rattle.st_words.specs.declared.fault.Fault.TheVariants.{Conversion}
-use Rattle.st_words.specs.Values.{Datum}
-use Rattle.st_types.specs.Failures.{Failure, ill_typed, or_failure}
-use Rattle.st_types.specs.Ticks.{proceed}
-use Rattle.st_types.specs.StandardBlocks.{StandardBlock, members_of, stepped}
+use Rattle.st_types.specs.declared.fault.Fault.{Fault}
+use Rattle.st_types.specs.declared.fault.Fault.TheVariants.{Conversion}
+use Rattle.st_types.specs.Values.{Datum}
+use Rattle.st_meaning.specs.Failures.{Failure, ill_typed, or_failure}
+use Rattle.st_meaning.specs.Ticks.{proceed}
+use Rattle.st_meaning.specs.StandardBlocks.{StandardBlock, members_of, stepped}
 use Rattle.slot_trees.specs.SlotExecution.{Slots, stored_at}
 use Rattle.slot_trees.specs.SlotRuns.{member_slots, members_stored}
 

@@ -1,5 +1,5 @@
 -- Timers of the code as the definitions see them.
-use Rattle.st_types.specs.StandardBlocks as blocks
+use Rattle.st_meaning.specs.StandardBlocks as blocks
 use Rattle.std_blocks.specs.declared.timer.Timer.{Timer}
 
 abbrev pub timer_view : Timer → blocks.Timer

@@ -1,11 +1,11 @@
 //! Bistables.
 
 ghost use Rattle.std.specs.Prelude.{◌≡◌, ℕ};
-ghost use Rattle.st_types.specs.StandardBlocks.{SR, RS, set_first, reset_first};
+ghost use Rattle.st_meaning.specs.StandardBlocks.{SR, RS, set_first, reset_first};
 ghost use Rattle.std_blocks.specs.Members.{block_stepped, Leaves};
 
 use crate::members::{put_all, three_members};
-use st_words::{Fault, Value};
+use st_types::{Fault, Value};
 
 fn set_first(set: bool, reset: bool, q: bool) -> bool
     ensures { result ≡ set_first set reset q }

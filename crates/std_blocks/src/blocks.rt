@@ -1,14 +1,14 @@
 //! Standard function blocks.
 
 ghost use Rattle.std_blocks.specs.Members.{block_stepped, Leaves};
-ghost use Rattle.st_names.specs.Standard.{block_view};
+ghost use Rattle.symbols.specs.Standard.{block_view};
 
 use crate::bistables::{step_reset_first, step_set_first};
 use crate::counters::{step_down, step_up, step_up_down};
-use crate::edges::{step_falling, step_rising};
+use crate::edge_blocks::{step_falling, step_rising};
 use crate::timers::{step_off_delay, step_on_delay, step_pulse};
-use st_names::StandardBlock;
-use st_words::{Fault, Value};
+use st_types::{Fault, Value};
+use symbols::StandardBlock;
 
 /// A call of a standard block at a moment, in milliseconds: the members of its instance, which stand in the slots from
 /// one on, take the values that the definition of the block gives them, inputs first, then outputs and hidden members.

@@ -1,12 +1,12 @@
 //! Counters.
 
 ghost use Rattle.std.specs.Prelude.{◌+◌, ◌∷◌, [], ◌≤◌, ℕ, int_le, pos, length};
-ghost use Rattle.st_types.specs.StandardBlocks.{CTU, CTD, CTUD, int};
-ghost use Rattle.st_words.specs.Values.{datum_of_truth, is_true};
+ghost use Rattle.st_meaning.specs.StandardBlocks.{CTU, CTD, CTUD, int};
+ghost use Rattle.st_types.specs.Values.{datum_of_truth, is_true};
 ghost use Rattle.std_blocks.specs.Members.{all_stored, block_stepped, Leaves};
 
 use crate::members::{held_value, put_all, six_members, ten_members};
-use st_words::{Fault, Kind, Value};
+use st_types::{Fault, Kind, Value};
 use std_counts::{down_count, edge, up_count, up_down_count};
 
 /// Assigns the six members of an up counter or a down counter; F4 where one is of another type, or the count is none.

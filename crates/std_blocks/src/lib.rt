@@ -1,17 +1,24 @@
-//! What standard function blocks make of the members of their instances.
+//! What operators, standard functions and standard function blocks make of values.
 //!
-//! Each call is exactly its definition, whatever the types of the members: what no well-typed text meets ends with the
-//! fault that stands for it in a run. None of them takes memory.
+//! Each call is exactly its definition, whatever the types of what it is given: what no well-typed text meets ends with
+//! the fault that stands for it in a run. None of them takes memory.
 #![tactic(auto)]
 
 mod bistables;
 mod blocks;
 mod counters;
-mod edges;
+mod edge_blocks;
+mod functions;
 mod members;
+mod numbers;
+mod operators;
+mod shifts;
 mod timer;
 mod timers;
 
 pub use blocks::step;
+pub use functions::standard_value;
+pub use numbers::{bits, holds_word, is_at_most, is_negative, is_same_number};
+pub use operators::{apply, apply_unary, truth};
 pub use timer::Timer;
 pub use timers::{off_delay, on_delay, pulse};

@@ -1,12 +1,12 @@
 //! Members of an instance, which stand in consecutive slots.
 
 ghost use Rattle.std.specs.Prelude.{◌≡◌, ◌+◌, ◌<◌, ◌≤◌, ◌∷◌, [], length, option_map, IfOk, IfErr, Some, None, false};
-ghost use Rattle.st_words.specs.declared.fault.Fault.TheVariants.{Conversion};
-ghost use Rattle.st_words.specs.Kinds.{holds};
+ghost use Rattle.st_types.specs.declared.fault.Fault.TheVariants.{Conversion};
+ghost use Rattle.st_types.specs.Kinds.{holds};
 ghost use Rattle.slot_trees.specs.SlotExecution.{stored_at};
 ghost use Rattle.std_blocks.specs.Members.{values_from, all_stored, Leaves};
 
-use st_words::{Fault, Kind, Value};
+use st_types::{Fault, Kind, Value};
 
 type Six = (Value, Value, Value, Value, Value, Value);
 

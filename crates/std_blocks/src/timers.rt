@@ -2,15 +2,15 @@
 
 ghost use Rattle.std.specs.Prelude.{◌≡◌, ◌+◌, ◌∷◌, [], ◌<◌, ◌≤◌, ◌≤ℤ◌, ◌-ℤ◌, ◌^◌, ◌-◌, ℕ, length, neg_ℤ, pos};
 ghost use Rattle.std.specs.Int.{int_max, int_min};
-ghost use Rattle.st_words.specs.Values.{datum_of_truth};
-ghost use Rattle.st_types.specs.StandardBlocks.{TON, TOF, TP, time, running, elapsed, timed_from, timed_until};
-ghost use Rattle.st_types.specs.StandardBlocks.{stopped, ended, on_delay, off_delay, pulse, timer_of};
+ghost use Rattle.st_types.specs.Values.{datum_of_truth};
+ghost use Rattle.st_meaning.specs.StandardBlocks.{TON, TOF, TP, time, running, elapsed, timed_from, timed_until};
+ghost use Rattle.st_meaning.specs.StandardBlocks.{stopped, ended, on_delay, off_delay, pulse, timer_of};
 ghost use Rattle.std_blocks.specs.Members.{all_stored, block_stepped, Leaves};
 ghost use Rattle.std_blocks.specs.Timers.{timer_view};
 
 use crate::members::{held_value, put_all, six_members};
 use crate::timer::Timer;
-use st_words::{Fault, Kind, Value};
+use st_types::{Fault, Kind, Value};
 
 /// A timer that is to run: it starts where it did not run.
 fn running(now: u64, t: Timer) -> Timer

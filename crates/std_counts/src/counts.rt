@@ -1,9 +1,9 @@
 //! Counts of CTU, CTD and CTUD.
 
 ghost use Rattle.std.specs.Prelude.{◌≡◌};
-ghost use Rattle.st_types.specs.StandardBlocks.{one_up, one_down, counted, up_count, down_count, up_down_count};
+ghost use Rattle.st_meaning.specs.StandardBlocks.{one_up, one_down, counted, up_count, down_count, up_down_count};
 
-use st_words::Kind;
+use st_types::Kind;
 
 /// One more, but not past the end of INT.
 fn one_up(z: i128) -> i128

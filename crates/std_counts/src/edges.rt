@@ -1,7 +1,7 @@
 //! Edges of inputs.
 
 ghost use Rattle.std.specs.Prelude.{◌≡◌, not};
-ghost use Rattle.st_types.specs.StandardBlocks.{edge};
+ghost use Rattle.st_meaning.specs.StandardBlocks.{edge};
 
 /// Whether the input is TRUE, and its memory is not.
 pub fn edge(input: bool, memory: bool) -> bool

@@ -1,50 +1,50 @@
 use Rattle.std.proofs.Common.{◌≤◌, ap, arith, inl, inr, map, refl, rules, subst, sym, ◌∙◌, ◌≡◌}
-use Rattle.st_names.specs.Standard.{standard_view}
-use Rattle.st_types.specs.StandardFunctions.{CONVERT}
+use Rattle.symbols.specs.Standard.{standard_view}
+use Rattle.st_meaning.specs.StandardFunctions.{CONVERT}
 use Rattle.slot_trees.specs.SlotTrees.{binary, compute, load}
-use Rattle.slot_bodies.specs.Chains.{exprs_of}
-use Rattle.slot_bodies.specs.ExpressionViews.{place_view, slot_expr_view}
-use Rattle.code_drafts.proofs.Sizes.{expr_size, exprs_size}
+use Rattle.slot_trees.specs.Chains.{exprs_of}
+use Rattle.slot_trees.specs.ExpressionViews.{place_view, slot_expr_view}
+use Rattle.st_compile.proofs.Sizes.{expr_size, exprs_size}
 use Rattle.quick_trees.specs.Pieces.{IsTemporary, Stands}
 use Rattle.quick_checks.specs.Checking.{frame_of, point_of, site_of}
 use Rattle.quick_trees.specs.Calls.{quick_units}
 use Rattle.quick_trees.specs.Standing.{IsRead}
-use Rattle.st_words.specs.declared.kind.Kind.TheVariants.{Bool as Boolean}
-use Rattle.slot_bodies.specs.declared.expression.Operands as code_operands
-use Rattle.slot_bodies.specs.declared.expression.Place as code_place
-use Rattle.slot_bodies.specs.declared.expression.SlotExpr as code_expr
-use Rattle.st_words.specs.declared.kind.Kind.TheVariants.{Bool as Boolean}
+use Rattle.st_types.specs.declared.kind.Kind.TheVariants.{Bool as Boolean}
+use Rattle.slot_trees.specs.declared.expression.Operands as code_operands
+use Rattle.slot_trees.specs.declared.expression.Place as code_place
+use Rattle.slot_trees.specs.declared.expression.SlotExpr as code_expr
+use Rattle.st_types.specs.declared.kind.Kind.TheVariants.{Bool as Boolean}
 use Rattle.std.proofs.Common.{◌+◌, length}
 use Rattle.std.specs.Prelude.{option_map}
-use Rattle.slot_bodies.specs.Chains.{arms_of}
-use Rattle.slot_bodies.specs.StatementViews.{slot_arm_view, slot_stmt_view, slot_stmts_view}
-use Rattle.slot_bodies.specs.ExpressionViews.{anchor_view}
-use Rattle.slot_bodies.specs.declared.statement.SlotStmt as code_stmt
-use Rattle.slot_bodies.specs.declared.statement.SlotArm as code_arm
-use Rattle.slot_bodies.proofs.Bridge.{choose_view}
+use Rattle.slot_trees.specs.Chains.{arms_of}
+use Rattle.slot_trees.specs.StatementViews.{slot_arm_view, slot_stmt_view, slot_stmts_view}
+use Rattle.slot_trees.specs.ExpressionViews.{anchor_view}
+use Rattle.slot_trees.specs.declared.statement.SlotStmt as code_stmt
+use Rattle.slot_trees.specs.declared.statement.SlotArm as code_arm
+use Rattle.slot_trees.proofs.Bridge.{choose_view}
 use Rattle.slot_trees.specs.SlotTrees.{call, constant, empty, FOR, IF, REPEAT, WHILE}
-use Rattle.code_drafts.proofs.Elements.{body_smaller, condition_smaller, expr_smaller, stmt_smaller}
-use Rattle.code_drafts.proofs.Sizes.{stmt_size, stmts_size}
+use Rattle.st_compile.proofs.Elements.{body_smaller, condition_smaller, expr_smaller, stmt_smaller}
+use Rattle.st_compile.proofs.Sizes.{stmt_size, stmts_size}
 use Rattle.quick_trees.specs.Points.{Meets, Point, next}
 use Rattle.quick_checks.specs.Checking.{exits_of, kinds_read, landing_of, seat_of, words_read}
 use Rattle.quick_checks.proofs.Arguments.{arguments_all, arguments_more, function_stands, long_seats, long_words}
 use Rattle.std.proofs.Common.{suc}
-use Rattle.slot_bodies.specs.LibraryViews.{slot_function_view, slot_library_view}
-use Rattle.code_drafts.specs.Emitting.{filled}
-use Rattle.code_drafts.proofs.Depths.{function_lighter}
-use Rattle.code_drafts.proofs.Filled.{filled_function}
+use Rattle.slot_trees.specs.LibraryViews.{slot_function_view, slot_library_view}
+use Rattle.st_compile.specs.Emitting.{filled}
+use Rattle.st_compile.proofs.Depths.{function_lighter}
+use Rattle.st_compile.proofs.Filled.{filled_function}
 use Rattle.quick_checks.proofs.Standings.{passes_same}
 use Rattle.quick_checks.proofs.Standings.{arms_next, arms_over, meets_same, stmts_next, stmts_on, stmts_over, ticked}
 use Rattle.std.specs.Prelude.{Some, slice_get}
 use Rattle.std.proofs.Common.{ℕ}
 use Rattle.quick_trees.specs.Points.{AreNoted, GoesBack, Joins, along, past_branch}
 use Rattle.quick_trees.specs.Standing.{StmtsStand}
-use Rattle.slot_bodies.specs.declared.statement.SlotCaseArm as code_case_arm
-use Rattle.slot_bodies.specs.Chains.{case_arms_of}
-use Rattle.slot_bodies.specs.StatementViews.{slot_case_arm_view}
-use Rattle.slot_bodies.proofs.Bridge.{select_view}
+use Rattle.slot_trees.specs.declared.statement.SlotCaseArm as code_case_arm
+use Rattle.slot_trees.specs.Chains.{case_arms_of}
+use Rattle.slot_trees.specs.StatementViews.{slot_case_arm_view}
+use Rattle.slot_trees.proofs.Bridge.{select_view}
 use Rattle.slot_trees.specs.SlotTrees.{CASE}
-use Rattle.code_drafts.proofs.Elements.{case_smaller}
+use Rattle.st_compile.proofs.Elements.{case_smaller}
 use Rattle.quick_code.specs.declared.quick_code.Way.{Way}
 use Rattle.quick_trees.specs.Pieces.{AreBoth}
 use Rattle.quick_checks.specs.Choices.{body_at}
@@ -53,13 +53,13 @@ use Rattle.quick_trees.specs.Functions.{IsMovedWithin}
 use Rattle.quick_checks.proofs.Evaluated.{read_evaluated}
 use Rattle.quick_checks.proofs.ChosenArms.{body_is, case_stands}
 use Rattle.std.proofs.Common.{List, []}
-use Rattle.st_names.specs.Standard.{block_view}
+use Rattle.symbols.specs.Standard.{block_view}
 use Rattle.slot_trees.specs.SlotTrees.{SlotArgument, invoke, own_block, standard_block}
-use Rattle.slot_bodies.specs.StatementViews.{block_code_view, slot_argument_view}
-use Rattle.code_drafts.proofs.Depths.{block_lighter}
-use Rattle.code_drafts.proofs.Elements.{argument_smaller}
-use Rattle.code_drafts.proofs.Filled.{filled_body}
-use Rattle.code_drafts.proofs.Sizes.{argument_size, arguments_size, stmt_size}
+use Rattle.slot_trees.specs.StatementViews.{block_code_view, slot_argument_view}
+use Rattle.st_compile.proofs.Depths.{block_lighter}
+use Rattle.st_compile.proofs.Elements.{argument_smaller}
+use Rattle.st_compile.proofs.Filled.{filled_body}
+use Rattle.st_compile.proofs.Sizes.{argument_size, arguments_size, stmt_size}
 use Rattle.quick_trees.specs.Pieces.{Input}
 use Rattle.quick_trees.specs.Standing.{InputsRead}
 use Rattle.quick_checks.specs.declared.members.Taken.{Taken}
@@ -72,7 +72,7 @@ use Rattle.quick_checks.proofs.Unaries.{unary_read}
 use Rattle.quick_checks.proofs.AlongSubscripts.{led_first, led_last, led_more, place_seen, subscripts_larger}
 use Rattle.quick_checks.proofs.Sums.{sum_read}
 use Rattle.quick_checks.proofs.Chosen.{choice_stands, if_chosen, if_stands}
-use Rattle.code_drafts.proofs.Sizes.{arms_size}
+use Rattle.st_compile.proofs.Sizes.{arms_size}
 use Rattle.std.proofs.Common.{pos}
 use Rattle.quick_checks.proofs.AlongSubscripts.{within_made, within_read, within_stands, within_stored}
 use Rattle.quick_checks.proofs.+check.Goals as goal

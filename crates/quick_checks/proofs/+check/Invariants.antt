@@ -1,32 +1,32 @@
 use Rattle.std.proofs.Common.{◌≡◌, ℕ, List, ◌++◌, map, drop, length, ◌+◌, ◌-◌, ◌*◌}
-use Rattle.slot_bodies.specs.Chains.{arms_of, exprs_of, stmts_of}
-use Rattle.slot_bodies.specs.ExpressionViews.{slot_expr_view}
-use Rattle.slot_bodies.specs.LibraryViews.{slot_library_view}
-use Rattle.slot_bodies.specs.StatementViews.{slot_arm_view, slot_stmt_view, slot_stmts_view}
-use Rattle.code_drafts.specs.Emitting.{filled}
-use Rattle.code_drafts.proofs.Sizes.{weight, arms_size, expr_size, exprs_size, step_size, stmt_size, stmts_size}
-use Rattle.st_words.specs.declared.kind.Kind.{Kind}
+use Rattle.slot_trees.specs.Chains.{arms_of, exprs_of, stmts_of}
+use Rattle.slot_trees.specs.ExpressionViews.{slot_expr_view}
+use Rattle.slot_trees.specs.LibraryViews.{slot_library_view}
+use Rattle.slot_trees.specs.StatementViews.{slot_arm_view, slot_stmt_view, slot_stmts_view}
+use Rattle.st_compile.specs.Emitting.{filled}
+use Rattle.st_compile.proofs.Sizes.{weight, arms_size, expr_size, exprs_size, step_size, stmt_size, stmts_size}
+use Rattle.st_types.specs.declared.kind.Kind.{Kind}
 use Rattle.quick_trees.specs.Points.{Point}
 use Rattle.quick_trees.specs.Standing.{AreArguments, ArmsStand, StmtsStand}
 use Rattle.quick_checks.specs.Checking.{Always, exits_of, kinds_read, landing_of, point_of, words_read}
 use Rattle.std.proofs.Common.{◌<◌}
 use Rattle.std.specs.Prelude.{Some, option_map, slice_get}
-use Rattle.slot_bodies.specs.Chains.{case_arms_of}
-use Rattle.slot_bodies.specs.StatementViews.{slot_case_arm_view}
-use Rattle.code_drafts.proofs.Sizes.{case_size}
+use Rattle.slot_trees.specs.Chains.{case_arms_of}
+use Rattle.slot_trees.specs.StatementViews.{slot_case_arm_view}
+use Rattle.st_compile.proofs.Sizes.{case_size}
 use Rattle.quick_code.specs.declared.quick_code.Way.{Way}
 use Rattle.quick_trees.specs.Pieces.{AreBoth}
 use Rattle.quick_trees.specs.Points.{Joins, along}
 use Rattle.quick_checks.specs.Choices.{body_at}
-use Rattle.slot_bodies.specs.StatementViews.{slot_argument_view}
-use Rattle.code_drafts.proofs.Sizes.{argument_size, arguments_size}
+use Rattle.slot_trees.specs.StatementViews.{slot_argument_view}
+use Rattle.st_compile.proofs.Sizes.{argument_size, arguments_size}
 use Rattle.quick_trees.specs.Pieces.{Input}
 use Rattle.quick_trees.specs.Standing.{InputsRead}
 use Rattle.quick_checks.specs.Checking.{inputs_taken}
-use Rattle.slot_bodies.specs.declared.expression.Place as code_place
-use Rattle.slot_bodies.specs.Chains.{subscripts_of}
-use Rattle.slot_bodies.specs.ExpressionViews.{subscript_view}
-use Rattle.code_drafts.proofs.Sizes.{subscripts_size}
+use Rattle.slot_trees.specs.declared.expression.Place as code_place
+use Rattle.slot_trees.specs.Chains.{subscripts_of}
+use Rattle.slot_trees.specs.ExpressionViews.{subscript_view}
+use Rattle.st_compile.proofs.Sizes.{subscripts_size}
 use Rattle.quick_checks.proofs.+check.Given as goal
 
 -- Calls go down in depth, and else into parts of trees.

@@ -1,6 +1,6 @@
 use Rattle.std.proofs.Common.{◌≡◌, take, drop, true}
 use Rattle.csv.specs.Records.{fields_of}
-use Rattle.st_plans.specs.Plans.{holds_each}
+use Rattle.st_meaning.specs.Plans.{holds_each}
 use Rattle.image.specs.Plants.{spelled_values}
 use Rattle.image.proofs.row.image.Given as goal
 

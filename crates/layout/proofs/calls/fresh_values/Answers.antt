@@ -1,12 +1,12 @@
 use Rattle.std.proofs.Common.{◌≡◌, ◌≤◌, refl, sym, ap, subst, ◌∙◌, arith, ◌∷◌, [], ◌++◌, length, map, None}
-use Rattle.st_trees.specs.DeclarationViews.{variable_block_view}
-use Rattle.st_words.specs.declared.limits.TheConstants.{MAX_PATHS}
-use Rattle.st_layouts.specs.LayoutVariables.{owned_variable}
-use Rattle.st_layouts.specs.Libraries.{result_site}
-use Rattle.st_layouts.specs.Types.{sites_of_blocks}
+use Rattle.st_types.specs.DeclarationViews.{variable_block_view}
+use Rattle.st_types.specs.declared.limits.TheConstants.{MAX_PATHS}
+use Rattle.layout.specs.LayoutVariables.{owned_variable}
+use Rattle.layout.specs.Libraries.{result_site}
+use Rattle.layout.specs.Types.{sites_of_blocks}
 use Rattle.layout.specs.Layouts.{GrowsBy, are_expandable}
 use Rattle.layout.specs.NamedSites.{named_site_view}
-use Rattle.layout.specs.TextLayouts.{variables_among}
+use Rattle.layout.specs.KeptLayouts.{variables_among}
 use Rattle.layout.specs.Variables.{variable_view}
 use Rattle.layout.specs.declared.growing.Growing.{Growing}
 use Rattle.layout.proofs.CallLemmas.{grown_within, started_are}

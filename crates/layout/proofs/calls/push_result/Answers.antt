@@ -1,8 +1,8 @@
 use Rattle.std.proofs.Common.{rules, ◌≡◌, refl, ap, length, [], true, false, Err, None}
-use Rattle.st_layouts.specs.LayoutVariables.{owned_variable}
-use Rattle.st_layouts.specs.Libraries.{result_site}
-use Rattle.st_layouts.specs.Shapes.{is_sound, size, instance_count}
-use Rattle.st_layouts.specs.TextLayouts.{variable_shape}
+use Rattle.layout.specs.LayoutVariables.{owned_variable}
+use Rattle.layout.specs.Libraries.{result_site}
+use Rattle.layout.specs.Shapes.{is_sound, size, instance_count}
+use Rattle.layout.specs.TextLayouts.{variable_shape}
 use Rattle.layout.proofs.LayoutLemmas.{both_sound, exceeds_one, grows_by_one}
 use Rattle.layout.proofs.calls.push_result.Goals as goal
 

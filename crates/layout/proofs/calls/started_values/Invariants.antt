@@ -1,5 +1,5 @@
 use Rattle.std.proofs.Common.{◌≡◌, ◌++◌, drop, map}
-use Rattle.layout.specs.TextLayouts.{variables_among}
+use Rattle.layout.specs.KeptLayouts.{variables_among}
 use Rattle.layout.proofs.calls.started_values.Given as goal
 
 -- what is there and what is still to come

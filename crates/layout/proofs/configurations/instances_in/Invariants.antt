@@ -1,5 +1,5 @@
 use Rattle.std.proofs.Common.{◌≡◌, ◌++◌, map, drop}
-use Rattle.st_trees.specs.ConfigurationViews.{resource_view}
+use Rattle.st_types.specs.ConfigurationViews.{resource_view}
 use Rattle.layout.specs.Instances.{instances_in, instance_view}
 use Rattle.layout.proofs.configurations.instances_in.Given as goal
 

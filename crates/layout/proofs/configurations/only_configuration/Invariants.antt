@@ -1,8 +1,8 @@
 use Rattle.std.proofs.Common.{◌≡◌, ◌++◌, map, drop, option_map}
 use Rattle.std.specs.Prelude.{option_to_list}
-use Rattle.st_trees.specs.ConfigurationViews.{configuration_view}
-use Rattle.st_trees.specs.SourceViews.{element_view, source_view}
-use Rattle.st_layouts.specs.LayoutVariables.{configurations_in}
+use Rattle.st_types.specs.ConfigurationViews.{configuration_view}
+use Rattle.st_types.specs.SourceViews.{element_view, source_view}
+use Rattle.layout.specs.LayoutVariables.{configurations_in}
 use Rattle.layout.proofs.configurations.only_configuration.Given as goal
 
 -- what was found and what is still to come

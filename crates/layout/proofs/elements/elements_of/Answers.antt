@@ -1,10 +1,10 @@
 use Rattle.std.proofs.Common.{rules, arith, ap, ◌∙◌, ◌∷◌, [], ◌++◌, ◌+◌, ◌-◌, map, slice_get}
 use Rattle.std.proofs.lemmas.List.{map-append}
-use Rattle.st_layouts.specs.Types.{count_of}
-use Rattle.st_layouts.specs.Sites.{element_initial, given}
-use Rattle.layout.specs.Sites.{element_part, element_parts, given_view, kept_part, part_view}
+use Rattle.layout.specs.Types.{count_of}
+use Rattle.layout.specs.Sites.{element_initial, given}
+use Rattle.layout.specs.KeptSites.{element_part, element_parts, given_view, kept_part, part_view}
 use Rattle.layout.proofs.PushLemmas.{moved}
-use Rattle.layout.proofs.SiteLemmas.{elements_more}
+use Rattle.layout.proofs.KeptSiteLemmas.{elements_more}
 use Rattle.layout.proofs.elements.elements_of.Goals as goal
 
 pub loop-preserved : goal.loop-preserved

@@ -1,7 +1,7 @@
 use Rattle.std.proofs.Common.{◌≡◌, ◌++◌, ◌-◌, map, length}
-use Rattle.st_layouts.specs.Types as made
-use Rattle.st_layouts.specs.Types.{count_of}
-use Rattle.layout.specs.Sites.{element_parts, kept, kept_part, part_view, site_view}
+use Rattle.layout.specs.Types as made
+use Rattle.layout.specs.Types.{count_of}
+use Rattle.layout.specs.KeptSites.{element_parts, kept, kept_part, part_view, site_view}
 use Rattle.layout.proofs.elements.elements_of.Given as goal
 
 -- what is there and what is still to come

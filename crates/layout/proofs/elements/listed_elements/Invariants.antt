@@ -1,8 +1,8 @@
 use Rattle.std.proofs.Common.{◌≡◌, ◌++◌, map, drop}
-use Rattle.st_trees.specs.Initials.{elements_of}
-use Rattle.st_trees.specs.InitialViews.{element_view}
-use Rattle.st_layouts.specs.Sites.{listed_elements}
-use Rattle.layout.specs.Sites.{given_view}
+use Rattle.st_types.specs.Initials.{elements_of}
+use Rattle.st_types.specs.InitialViews.{element_view}
+use Rattle.layout.specs.Sites.{listed_elements}
+use Rattle.layout.specs.KeptSites.{given_view}
 use Rattle.layout.proofs.elements.listed_elements.Given as goal
 
 -- what is there and what is still to come

@@ -1,6 +1,6 @@
 use Rattle.std.proofs.Common.{ap, ◌∙◌, ◌∷◌, [], ◌++◌, ◌+◌, ◌-◌, arith, map, replicate}
 use Rattle.std.proofs.lemmas.List.{map-append}
-use Rattle.layout.specs.Sites.{given_view}
+use Rattle.layout.specs.KeptSites.{given_view}
 use Rattle.layout.proofs.PushLemmas.{moved, replicate_more}
 use Rattle.layout.proofs.elements.push_repeated.Goals as goal
 

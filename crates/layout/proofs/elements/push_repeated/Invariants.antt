@@ -1,5 +1,5 @@
 use Rattle.std.proofs.Common.{◌≡◌, ◌++◌, ◌-◌, map, replicate}
-use Rattle.layout.specs.Sites.{given_view}
+use Rattle.layout.specs.KeptSites.{given_view}
 use Rattle.layout.proofs.elements.push_repeated.Given as goal
 
 -- what is there and what is still to come

@@ -1,6 +1,6 @@
 use Rattle.std.proofs.Common.{◌≡◌, ◌++◌, drop, map}
 use Rattle.std.specs.Vec.{vec_items}
-use Rattle.st_trees.specs.SourceViews.{element_view}
+use Rattle.st_types.specs.SourceViews.{element_view}
 use Rattle.layout.specs.TypeNames.{names_in_text}
 use Rattle.layout.proofs.enumerations.enumerations_in.Given as goal
 

@@ -1,6 +1,6 @@
 use Rattle.std.proofs.Common.{◌≡◌, ◌++◌, drop, map}
 use Rattle.std.specs.Vec.{vec_items}
-use Rattle.st_trees.specs.DeclarationViews.{type_declaration_view}
+use Rattle.st_types.specs.DeclarationViews.{type_declaration_view}
 use Rattle.layout.specs.TypeNames.{names_of_types}
 use Rattle.layout.proofs.enumerations.push_enumerations.Given as goal
 

@@ -2,11 +2,11 @@ use Rattle.std.proofs.Common.{rules, arith, ◌≡◌, refl, ap, subst, ◌∙�
 use Rattle.std.proofs.Common.{drop, Err}
 use Rattle.std.proofs.Math.ListN.{drop_of_length-le}
 use Rattle.std.specs.Vec.{vec_len}
-use Rattle.st_layouts.specs.Shapes.{is_sound, size, instance_count}
-use Rattle.st_layouts.specs.Types.{composition_of, shape_within}
+use Rattle.layout.specs.Shapes.{is_sound, size, instance_count}
+use Rattle.layout.specs.Types.{composition_of, shape_within}
 use Rattle.layout.specs.Compositions.{composition_view}
 use Rattle.layout.specs.Growth.{Exceeds, Grows}
-use Rattle.layout.specs.Sites.{part_view, site_view}
+use Rattle.layout.specs.KeptSites.{part_view, site_view}
 use Rattle.layout.specs.declared.growing.Growing.{Growing}
 use Rattle.layout.proofs.GrowthLemmas.{Remains, grows_nothing, begun, next, turned, ended, no_room, no_room_itself}
 use Rattle.layout.proofs.GrowthLemmas.{taken_back}

@@ -1,11 +1,11 @@
 use Rattle.std.proofs.Common.{◌≡◌, ◌≤◌, ◌-◌, length, drop, true}
-use Rattle.st_words.specs.declared.limits.TheConstants.{MAX_PATHS}
-use Rattle.st_types.specs.NameTypes.{Declared}
-use Rattle.st_layouts.specs.Shapes.{is_sound}
-use Rattle.st_layouts.specs.Types as made
-use Rattle.st_layouts.specs.Types.{shape_within}
+use Rattle.st_types.specs.declared.limits.TheConstants.{MAX_PATHS}
+use Rattle.st_meaning.specs.NameTypes.{Declared}
+use Rattle.layout.specs.Shapes.{is_sound}
+use Rattle.layout.specs.Types as made
+use Rattle.layout.specs.Types.{shape_within}
 use Rattle.layout.specs.Compositions.{ServesTypes}
-use Rattle.layout.specs.Sites.{kept, site_view}
+use Rattle.layout.specs.KeptSites.{kept, site_view}
 use Rattle.layout.specs.declared.limits.TheConstants.{MAX_INSTANCES}
 use Rattle.layout.proofs.GrowthLemmas.{Remains}
 use Rattle.layout.proofs.growing.+push_site.Given as goal

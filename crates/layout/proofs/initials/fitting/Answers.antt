@@ -1,6 +1,6 @@
 use Rattle.std.proofs.Common.{ap, sym, ◌∙◌}
-use Rattle.st_types.specs.Operators.{value_of_literal, value_of_number}
-use Rattle.st_layouts.specs.Sites.{fitting}
+use Rattle.st_meaning.specs.Operators.{value_of_literal, value_of_number}
+use Rattle.layout.specs.Sites.{fitting}
 use Rattle.layout.proofs.InitialLemmas.{ran_ok}
 use Rattle.layout.proofs.initials.fitting.Goals as goal
 

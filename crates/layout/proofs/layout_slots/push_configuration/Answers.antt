@@ -1,7 +1,7 @@
 use Rattle.std.proofs.Common.{rules, ◌≡◌, ap, ap₂, subst, ◌∙◌, ◌+◌, ◌++◌, length, map, Err, None}
-use Rattle.st_trees.specs.ConfigurationViews.{global_block_view, resource_view}
-use Rattle.st_layouts.specs.LayoutVariables.{variables_of_globals, variables_of_resources}
-use Rattle.st_layouts.specs.TextLayouts.{instances_of}
+use Rattle.st_types.specs.ConfigurationViews.{global_block_view, resource_view}
+use Rattle.layout.specs.LayoutVariables.{variables_of_globals, variables_of_resources}
+use Rattle.layout.specs.TextLayouts.{instances_of}
 use Rattle.layout.specs.Growth.{Exceeds}
 use Rattle.layout.specs.Instances.{instance_view, instances_in, variables_of_programs}
 use Rattle.layout.specs.Layouts.{GrowsBy, are_expandable, layout_size}

@@ -1,6 +1,6 @@
 use Rattle.std.proofs.Common.{rules, arith, ◌≡◌, ap, subst, sym, ◌∙◌, ◌+◌, ◌++◌, drop, map, Err, Some}
-use Rattle.st_types.specs.NameTypes.{unit_named}
-use Rattle.st_layouts.specs.LayoutVariables.{owned_variable, program_sites}
+use Rattle.st_meaning.specs.NameTypes.{unit_named}
+use Rattle.layout.specs.LayoutVariables.{owned_variable, program_sites}
 use Rattle.layout.specs.Instances.{instance_view, variables_of_programs}
 use Rattle.layout.specs.Slots.{owner_view}
 use Rattle.layout.specs.Variables.{variable_view}

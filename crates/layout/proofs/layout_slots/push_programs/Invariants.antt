@@ -1,6 +1,6 @@
 use Rattle.std.proofs.Common.{◌≡◌, ◌≤◌, [], length, map, drop, true}
-use Rattle.st_words.specs.declared.limits.TheConstants.{MAX_PATHS}
-use Rattle.st_types.specs.NameTypes.{Declared}
+use Rattle.st_types.specs.declared.limits.TheConstants.{MAX_PATHS}
+use Rattle.st_meaning.specs.NameTypes.{Declared}
 use Rattle.layout.specs.Compositions.{ServesTypes}
 use Rattle.layout.specs.Instances.{instance_view, variables_of_programs}
 use Rattle.layout.specs.Layouts.{are_expandable}

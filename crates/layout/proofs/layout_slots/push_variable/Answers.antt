@@ -1,9 +1,9 @@
 use Rattle.std.proofs.Common.{rules, ◌≡◌, refl, length, true, Err}
-use Rattle.st_layouts.specs.Shapes.{is_sound, size, instance_count}
-use Rattle.st_layouts.specs.TextLayouts.{variable_shape}
+use Rattle.layout.specs.Shapes.{is_sound, size, instance_count}
+use Rattle.layout.specs.TextLayouts.{variable_shape}
 use Rattle.layout.specs.Variables.{variable_view}
 use Rattle.layout.proofs.LayoutLemmas.{both_sound, exceeds_one, grows_by_one}
-use Rattle.layout.proofs.SiteLemmas.{kept_alone}
+use Rattle.layout.proofs.KeptSiteLemmas.{kept_alone}
 use Rattle.layout.proofs.layout_slots.push_variable.Goals as goal
 
 pub returns-in_err-push_site-clause-err : goal.returns-in_err-push_site-clause-err

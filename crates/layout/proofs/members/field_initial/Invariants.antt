@@ -1,7 +1,7 @@
 use Rattle.std.proofs.Common.{◌≡◌, map, drop}
-use Rattle.st_trees.specs.Initials.{members_of}
-use Rattle.st_trees.specs.InitialViews.{member_view}
-use Rattle.st_layouts.specs.Sites.{field_initial}
+use Rattle.st_types.specs.Initials.{members_of}
+use Rattle.st_types.specs.InitialViews.{member_view}
+use Rattle.layout.specs.Sites.{field_initial}
 use Rattle.layout.proofs.members.field_initial.Given as goal
 
 abbrev pub invariant-loop-member : goal.invariant-loop-member

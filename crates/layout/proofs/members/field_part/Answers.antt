@@ -1,6 +1,6 @@
 use Rattle.std.proofs.Common.{rules, refl, sym}
-use Rattle.st_trees.specs.DeclarationViews.{field_view}
-use Rattle.st_layouts.specs.Types.{site_of_field}
+use Rattle.st_types.specs.DeclarationViews.{field_view}
+use Rattle.layout.specs.Types.{site_of_field}
 use Rattle.layout.proofs.members.field_part.Goals as goal
 
 pub returns : goal.returns

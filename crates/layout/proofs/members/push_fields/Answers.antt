@@ -1,7 +1,7 @@
 use Rattle.std.proofs.Common.{arith, refl, ◌++◌, map}
-use Rattle.st_trees.specs.DeclarationViews.{field_view}
-use Rattle.st_layouts.specs.Types.{site_of_field}
-use Rattle.layout.specs.Sites.{kept_part, member_part, part_view}
+use Rattle.st_types.specs.DeclarationViews.{field_view}
+use Rattle.layout.specs.Types.{site_of_field}
+use Rattle.layout.specs.KeptSites.{kept_part, member_part, part_view}
 use Rattle.layout.proofs.PushLemmas.{pushed}
 use Rattle.layout.proofs.members.push_fields.Goals as goal
 

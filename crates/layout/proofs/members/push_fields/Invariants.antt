@@ -1,8 +1,8 @@
 use Rattle.std.proofs.Common.{◌≡◌, ◌++◌, map, drop}
-use Rattle.st_trees.specs.DeclarationViews.{field_view}
-use Rattle.st_layouts.specs.Types as made
-use Rattle.st_layouts.specs.Types.{site_of_field}
-use Rattle.layout.specs.Sites.{kept, kept_part, member_part, part_view, site_view}
+use Rattle.st_types.specs.DeclarationViews.{field_view}
+use Rattle.layout.specs.Types as made
+use Rattle.layout.specs.Types.{site_of_field}
+use Rattle.layout.specs.KeptSites.{kept, kept_part, member_part, part_view, site_view}
 use Rattle.layout.proofs.members.push_fields.Given as goal
 
 -- what is there and what is still to come

@@ -1,6 +1,6 @@
 use Rattle.std.proofs.Common.{◌≡◌, ◌++◌, map, drop}
-use Rattle.st_trees.specs.DeclarationViews.{declaration_view}
-use Rattle.st_layouts.specs.Types.{sites_of_declarations}
+use Rattle.st_types.specs.DeclarationViews.{declaration_view}
+use Rattle.layout.specs.Types.{sites_of_declarations}
 use Rattle.layout.specs.NamedSites.{named_site_view}
 use Rattle.layout.proofs.named_sites.push_declarations.Given as goal
 

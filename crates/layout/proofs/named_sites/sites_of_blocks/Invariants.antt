@@ -1,6 +1,6 @@
 use Rattle.std.proofs.Common.{◌≡◌, ◌++◌, map, drop}
-use Rattle.st_trees.specs.DeclarationViews.{variable_block_view}
-use Rattle.st_layouts.specs.Types.{sites_of_blocks}
+use Rattle.st_types.specs.DeclarationViews.{variable_block_view}
+use Rattle.layout.specs.Types.{sites_of_blocks}
 use Rattle.layout.specs.NamedSites.{named_site_view}
 use Rattle.layout.proofs.named_sites.sites_of_blocks.Given as goal
 

@@ -1,13 +1,13 @@
 use Rattle.std.proofs.Common.{rules, arith, ◌≡◌, refl, ap, sym, subst, ◌∙◌, ℕ, suc, ◌+◌, ◌*◌, ◌-◌, ◌≤◌, [], drop, map}
 use Rattle.std.proofs.Common.{false, None}
 use Rattle.std.proofs.Math.ListN.{drop_of_length-le}
-use Rattle.st_words.specs.declared.limits.TheConstants.{MAX_PATHS}
-use Rattle.st_types.specs.NameTypes.{Declared}
-use Rattle.st_names.specs.PlaceTypes.{place_type_view}
-use Rattle.st_layouts.specs.Types as made
-use Rattle.st_layouts.specs.Types.{composition_of, count_of, is_within_depth}
+use Rattle.st_types.specs.declared.limits.TheConstants.{MAX_PATHS}
+use Rattle.st_meaning.specs.NameTypes.{Declared}
+use Rattle.symbols.specs.PlaceTypes.{place_type_view}
+use Rattle.layout.specs.Types as made
+use Rattle.layout.specs.Types.{composition_of, count_of, is_within_depth}
 use Rattle.layout.specs.Compositions.{ServesTypes, composition_view}
-use Rattle.layout.specs.Sites.{part_view}
+use Rattle.layout.specs.KeptSites.{part_view}
 use Rattle.layout.specs.Sizes.{IsSized, KnowsSizes, cut}
 use Rattle.layout.proofs.SizeLemmas.{SizedSoFar, if_none, if_some, nothing_within, no_elements, own_small}
 use Rattle.layout.proofs.SizeLemmas.{part_too_deep}

@@ -1,5 +1,5 @@
 use Rattle.std.proofs.Common.{drop}
-use Rattle.st_types.specs.NameTypes.{Declared}
+use Rattle.st_meaning.specs.NameTypes.{Declared}
 use Rattle.layout.specs.Compositions.{ServesTypes}
 use Rattle.layout.specs.Sizes.{KnowsSizes}
 use Rattle.layout.proofs.SizeLemmas.{SizedSoFar}

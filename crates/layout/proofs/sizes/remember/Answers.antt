@@ -1,5 +1,5 @@
 use Rattle.std.proofs.Common.{ap, sym, subst, ◌∙◌, option_map}
-use Rattle.st_names.specs.PlaceTypes.{place_type_view}
+use Rattle.symbols.specs.PlaceTypes.{place_type_view}
 use Rattle.layout.specs.Sizes.{IsSized}
 use Rattle.layout.proofs.SizeLemmas.{is_named, knows_more}
 use Rattle.layout.proofs.sizes.remember.Goals as goal

@@ -1,6 +1,6 @@
 use Rattle.std.proofs.Common.{◌≡◌, ◌≤◌, [], drop, map}
 use Rattle.indexmap.specs.IndexMap.{index_map_len, insert_all}
-use Rattle.st_words.specs.Paths.{same_path}
+use Rattle.st_types.specs.Paths.{same_path}
 use Rattle.layout.specs.Indexed.{entry_of}
 use Rattle.layout.proofs.slot_index.indexed.Given as goal
 

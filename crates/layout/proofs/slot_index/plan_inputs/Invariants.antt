@@ -1,6 +1,6 @@
 use Rattle.std.proofs.Common.{◌≡◌, ◌++◌, drop, map}
 use Rattle.layout.specs.Indexed.{slot_of_entry}
-use Rattle.layout.specs.TextLayouts.{inputs_among}
+use Rattle.layout.specs.KeptLayouts.{inputs_among}
 use Rattle.layout.proofs.slot_index.plan_inputs.Given as goal
 
 -- what is there and what is still to come

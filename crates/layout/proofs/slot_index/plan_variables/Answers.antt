@@ -1,9 +1,9 @@
 use Rattle.std.proofs.Common.{rules, ◌≡◌, ◌∙◌, ◌++◌, ◌+◌, ◌∷◌, [], ap, sym, append_assoc, drop, map, Some}
 use Rattle.std.specs.Prelude.{slice_get}
-use Rattle.st_words.specs.Paths.{Path}
+use Rattle.st_types.specs.Paths.{Path}
 use Rattle.layout.specs.declared.slots.SlotFacts.{SlotFacts}
 use Rattle.layout.specs.Indexed.{slot_of_entry}
-use Rattle.layout.specs.TextLayouts.{variables_among}
+use Rattle.layout.specs.KeptLayouts.{variables_among}
 use Rattle.layout.proofs.IndexLemmas.{variables_from}
 use Rattle.layout.proofs.slot_index.plan_variables.Goals as goal
 

@@ -1,6 +1,6 @@
 use Rattle.std.proofs.Common.{◌≡◌, ◌++◌, drop, map}
 use Rattle.layout.specs.Indexed.{slot_of_entry}
-use Rattle.layout.specs.TextLayouts.{variables_among}
+use Rattle.layout.specs.KeptLayouts.{variables_among}
 use Rattle.layout.proofs.slot_index.plan_variables.Given as goal
 
 -- what is there and what is still to come

@@ -1,5 +1,5 @@
 use Rattle.std.proofs.Common.{refl}
-use Rattle.st_layouts.specs.Types.{site_of_member}
+use Rattle.layout.specs.Types.{site_of_member}
 use Rattle.layout.specs.StandardMembers.{standard_member_view}
 use Rattle.layout.proofs.standard_members.member_part.Goals as goal
 

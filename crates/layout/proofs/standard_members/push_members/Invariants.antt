@@ -1,7 +1,7 @@
 use Rattle.std.proofs.Common.{◌≡◌, ◌++◌, map, drop}
-use Rattle.st_layouts.specs.Types as made
-use Rattle.st_layouts.specs.Types.{site_of_member}
-use Rattle.layout.specs.Sites.{kept, kept_part, member_part, part_view, site_view}
+use Rattle.layout.specs.Types as made
+use Rattle.layout.specs.Types.{site_of_member}
+use Rattle.layout.specs.KeptSites.{kept, kept_part, member_part, part_view, site_view}
 use Rattle.layout.specs.StandardMembers.{standard_member_view}
 use Rattle.layout.proofs.standard_members.push_members.Given as goal
 

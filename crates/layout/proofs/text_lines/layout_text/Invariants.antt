@@ -1,6 +1,6 @@
 use Rattle.std.proofs.Common.{◌≡◌, ◌++◌, drop, map}
 use Rattle.std.specs.Vec.{vec_items}
-use Rattle.st_plans.specs.Layouts.{layout_text}
+use Rattle.st_meaning.specs.Layouts.{layout_text}
 use Rattle.layout.proofs.text_lines.layout_text.Given as goal
 
 abbrev pub invariant-loop-variable : goal.invariant-loop-variable

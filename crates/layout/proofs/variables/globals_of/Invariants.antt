@@ -1,6 +1,6 @@
 use Rattle.std.proofs.Common.{◌≡◌, ◌++◌, map, drop, None}
-use Rattle.st_trees.specs.ConfigurationViews.{global_block_view}
-use Rattle.st_layouts.specs.LayoutVariables.{variables_of_globals}
+use Rattle.st_types.specs.ConfigurationViews.{global_block_view}
+use Rattle.layout.specs.LayoutVariables.{variables_of_globals}
 use Rattle.layout.specs.Variables.{variable_view}
 use Rattle.layout.proofs.variables.globals_of.Given as goal
 

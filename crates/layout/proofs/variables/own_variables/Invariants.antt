@@ -1,5 +1,5 @@
 use Rattle.std.proofs.Common.{◌≡◌, ◌++◌, map, drop, Option, option_map}
-use Rattle.st_layouts.specs.LayoutVariables.{owned_variable}
+use Rattle.layout.specs.LayoutVariables.{owned_variable}
 use Rattle.layout.specs.NamedSites.{named_site_view}
 use Rattle.layout.specs.Slots.{owner_view}
 use Rattle.layout.specs.Variables.{variable_view}

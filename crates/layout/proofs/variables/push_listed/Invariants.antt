@@ -1,5 +1,5 @@
 use Rattle.std.proofs.Common.{◌≡◌, ◌++◌, map, drop, None}
-use Rattle.st_layouts.specs.LayoutVariables.{owned_variable}
+use Rattle.layout.specs.LayoutVariables.{owned_variable}
 use Rattle.layout.specs.NamedSites.{named_as, named_site_view}
 use Rattle.layout.specs.Variables.{variable_view}
 use Rattle.layout.proofs.variables.push_listed.Given as goal

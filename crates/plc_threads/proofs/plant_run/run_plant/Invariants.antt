@@ -1,5 +1,5 @@
 use Rattle.std.proofs.Common.{◌++◌, Some, length}
-use Rattle.st_plans.specs.Logs.{done_count}
+use Rattle.st_meaning.specs.Logs.{done_count}
 use Rattle.serial_core.specs.Steps.{made}
 use Rattle.plc_threads.proofs.plant_run.run_plant.Given as goal
 

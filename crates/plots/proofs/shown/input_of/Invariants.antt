@@ -1,5 +1,5 @@
 use Rattle.std.proofs.Common.{◌≡◌, ◌<◌, ℕ, Some, false, slice_get}
-use Rattle.st_plans.specs.declared.plan.PlanInput.{PlanInput}
+use Rattle.st_meaning.specs.declared.plan.PlanInput.{PlanInput}
 use Rattle.plots.specs.Calls.{is_written}
 use Rattle.plots.proofs.shown.input_of.Given as goal
 

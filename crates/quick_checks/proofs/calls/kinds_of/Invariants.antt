@@ -1,5 +1,5 @@
 use Rattle.std.proofs.Common.{◌≡◌, length, take, map, ◌-◌}
-use Rattle.st_words.specs.Values.{Datum}
+use Rattle.st_types.specs.Values.{Datum}
 use Rattle.quick_checks.proofs.calls.kinds_of.Given as goal
 
 abbrev pub invariant-loop-index : goal.invariant-loop-index

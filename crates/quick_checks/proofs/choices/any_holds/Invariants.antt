@@ -1,6 +1,6 @@
 use Rattle.std.proofs.Common.{◌≡◌, length, drop, ◌-◌}
 use Rattle.std.specs.List.{list_any}
-use Rattle.st_types.specs.Execution.{label_holds}
+use Rattle.st_meaning.specs.Execution.{label_holds}
 use Rattle.quick_checks.proofs.choices.any_holds.Given as goal
 
 abbrev pub invariant-loop-index : goal.invariant-loop-index

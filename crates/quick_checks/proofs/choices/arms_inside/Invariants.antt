@@ -1,5 +1,5 @@
 use Rattle.std.proofs.Common.{◌≡◌, ℤ, length, drop, map, ◌+◌, ◌-◌, ◌+ℤ◌, ◌≤◌}
-use Rattle.slot_bodies.specs.StatementViews.{slot_case_arm_view}
+use Rattle.slot_trees.specs.StatementViews.{slot_case_arm_view}
 use Rattle.quick_code.specs.Words.{case_of}
 use Rattle.quick_checks.specs.Choices.{chosen}
 use Rattle.quick_checks.proofs.choices.arms_inside.Given as goal

@@ -1,6 +1,6 @@
 use Rattle.std.proofs.Common.{◌≡◌, ℕ, ℤ, pos, length, map, ◌-◌, ◌+ℤ◌, ◌<◌, ◌≤◌}
 use Rattle.std.specs.Prelude.{Some, slice_get}
-use Rattle.slot_bodies.specs.StatementViews.{slot_case_arm_view}
+use Rattle.slot_trees.specs.StatementViews.{slot_case_arm_view}
 use Rattle.quick_checks.specs.Choices.{chosen}
 use Rattle.quick_checks.proofs.choices.choices_of.Given as goal
 

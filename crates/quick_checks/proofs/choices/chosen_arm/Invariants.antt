@@ -1,5 +1,5 @@
 use Rattle.std.proofs.Common.{◌≡◌, length, drop, map, ◌+◌, ◌-◌}
-use Rattle.slot_bodies.specs.StatementViews.{slot_case_arm_view}
+use Rattle.slot_trees.specs.StatementViews.{slot_case_arm_view}
 use Rattle.quick_checks.specs.Choices.{chosen}
 use Rattle.quick_checks.proofs.choices.chosen_arm.Given as goal
 

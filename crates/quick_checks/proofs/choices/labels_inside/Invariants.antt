@@ -1,6 +1,6 @@
 use Rattle.std.proofs.Common.{◌≡◌, ℤ, length, drop, ◌-◌, ◌+ℤ◌}
 use Rattle.std.specs.List.{list_any}
-use Rattle.st_types.specs.Execution.{label_holds}
+use Rattle.st_meaning.specs.Execution.{label_holds}
 use Rattle.quick_code.specs.Words.{case_of}
 use Rattle.quick_checks.proofs.choices.labels_inside.Given as goal
 

@@ -1,7 +1,7 @@
 use Rattle.std.proofs.Common.{◌≡◌, ◌<◌, arith, subst, to_z}
 use Rattle.std.specs.Int.{w128}
 use Rattle.std.proofs.lemmas.Int.{to_z_pos}
-use Rattle.st_words.specs.Kinds.{row_of}
+use Rattle.st_types.specs.Kinds.{row_of}
 use Rattle.quick_trees.specs.Pieces.{IsNumberAt, Stands}
 use Rattle.quick_checks.specs.Checking.{frame_of}
 use Rattle.quick_checks.proofs.functions.expect_shifted.Goals as goal

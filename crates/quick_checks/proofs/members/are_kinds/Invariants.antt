@@ -1,6 +1,6 @@
 use Rattle.std.proofs.Common.{◌≡◌, ℕ, length, ◌+◌, ◌-◌, ◌<◌}
 use Rattle.std.specs.Prelude.{Some, slice_get}
-use Rattle.st_words.specs.declared.kind.Kind.{Kind}
+use Rattle.st_types.specs.declared.kind.Kind.{Kind}
 use Rattle.quick_checks.specs.Checking.{frame_of}
 use Rattle.quick_checks.specs.Members.{IsMember}
 use Rattle.quick_checks.proofs.members.are_kinds.Given as goal

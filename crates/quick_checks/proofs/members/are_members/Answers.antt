@@ -1,11 +1,11 @@
 use Rattle.std.proofs.Common.{◌≡◌, ◌+◌, ℕ, inl, inr, map, subst, sym}
 use Rattle.std.specs.Prelude.{Some, slice_get}
-use Rattle.st_words.specs.declared.kind.Kind.{Kind}
-use Rattle.st_types.specs.StandardBlocks.{BlockMember, members_of}
-use Rattle.st_names.specs.Standard.{block_view}
-use Rattle.st_names.specs.declared.standard_blocks.StandardBlock as code_block
-use Rattle.st_names.specs.declared.standard_blocks.StandardBlock.TheVariants.{Ctd, Ctu, FTrig, RTrig, Rs, Sr}
-use Rattle.st_names.specs.declared.standard_blocks.StandardBlock.TheVariants.{Tof, Ton, Tp}
+use Rattle.st_types.specs.declared.kind.Kind.{Kind}
+use Rattle.st_meaning.specs.StandardBlocks.{BlockMember, members_of}
+use Rattle.symbols.specs.Standard.{block_view}
+use Rattle.symbols.specs.declared.standard_blocks.StandardBlock as code_block
+use Rattle.symbols.specs.declared.standard_blocks.StandardBlock.TheVariants.{Ctd, Ctu, Ctud, FTrig, RTrig, Rs, Sr}
+use Rattle.symbols.specs.declared.standard_blocks.StandardBlock.TheVariants.{Tof, Ton, Tp}
 use Rattle.quick_trees.specs.Calls.{AreMembers}
 use Rattle.quick_checks.specs.declared.draft.QuickDraft.{QuickDraft}
 use Rattle.quick_checks.specs.Members.{IsMember}
@@ -49,3 +49,7 @@ returns-in-Ton c = λ yes now. elim c.in-Ton.is [
   | inr (inr e) ↦ of_block c.args.draft.now now c.args.block Tp c.args.first c.args.word e
       (c.are_kinds-in-Ton.ensures yes)
 ]
+
+pub returns-in-Ctud : goal.returns-in-Ctud
+returns-in-Ctud c = λ yes now. of_block c.args.draft.now now c.args.block Ctud c.args.first c.args.word c.in-Ctud.is
+    (c.are_kinds-in-Ctud.ensures yes)

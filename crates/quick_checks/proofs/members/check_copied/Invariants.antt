@@ -1,5 +1,5 @@
 use Rattle.std.proofs.Common.{drop, length, map, ◌-◌}
-use Rattle.slot_bodies.specs.StatementViews.{slot_argument_view}
+use Rattle.slot_trees.specs.StatementViews.{slot_argument_view}
 use Rattle.quick_trees.specs.Points.{Point}
 use Rattle.quick_trees.specs.Standing.{OutputsCopied}
 use Rattle.quick_checks.specs.Checking.{Ever, point_of}

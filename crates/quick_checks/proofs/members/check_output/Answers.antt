@@ -1,7 +1,7 @@
 use Rattle.std.proofs.Common.{◌≡◌, ◌∙◌, ap}
 use Rattle.slot_trees.specs.SlotTrees.{copied}
-use Rattle.slot_bodies.specs.ExpressionViews.{anchor_view, place_view}
-use Rattle.slot_bodies.specs.StatementViews.{slot_argument_view}
+use Rattle.slot_trees.specs.ExpressionViews.{anchor_view, place_view}
+use Rattle.slot_trees.specs.StatementViews.{slot_argument_view}
 use Rattle.quick_trees.specs.Calls.{quick_units}
 use Rattle.quick_checks.specs.Checking.{frame_of, point_of, site_of}
 use Rattle.quick_checks.proofs.Instances.{copied_next}

@@ -2,9 +2,9 @@ use Rattle.std.proofs.Common.{rules, ◌≡◌, ◌∙◌, ap, ℕ, length, arit
 use Rattle.std.specs.Prelude.{Some, slice_get}
 use Rattle.std.proofs.lemmas.Bool.{cases_order}
 use Rattle.std.proofs.lemmas.Option.{slice_get_within}
-use Rattle.st_words.specs.declared.kind.Kind.{Kind}
-use Rattle.st_words.specs.Values.{Datum}
-use Rattle.slot_bodies.specs.LibraryViews.{slot_function_view}
+use Rattle.st_types.specs.declared.kind.Kind.{Kind}
+use Rattle.st_types.specs.Values.{Datum}
+use Rattle.slot_trees.specs.LibraryViews.{slot_function_view}
 use Rattle.quick_trees.specs.Calls.{kinds_in}
 use Rattle.quick_checks.specs.Checking.{kinds_read}
 use Rattle.quick_checks.proofs.Arguments.{long_kinds, long_words}

@@ -1,8 +1,8 @@
 use Rattle.std.proofs.Common.{◌≡◌, ℕ, length, ◌-◌, ◌<◌}
 use Rattle.std.specs.Prelude.{Some, slice_get}
-use Rattle.st_words.specs.declared.kind.Kind.{Kind}
-use Rattle.st_words.specs.Values.{Datum}
-use Rattle.slot_bodies.specs.LibraryViews.{slot_function_view}
+use Rattle.st_types.specs.declared.kind.Kind.{Kind}
+use Rattle.st_types.specs.Values.{Datum}
+use Rattle.slot_trees.specs.LibraryViews.{slot_function_view}
 use Rattle.quick_trees.specs.Calls.{kinds_in}
 use Rattle.quick_checks.specs.Checking.{kinds_read}
 use Rattle.quick_checks.proofs.prologues.are_inputs.Given as goal

@@ -1,4 +1,4 @@
-use Rattle.slot_bodies.specs.LibraryViews.{slot_function_view}
+use Rattle.slot_trees.specs.LibraryViews.{slot_function_view}
 use Rattle.quick_checks.specs.Checking.{frame_of, words_read}
 use Rattle.quick_checks.proofs.Arguments.{begun_all, begun_more}
 use Rattle.quick_checks.proofs.prologues.begin.Goals as goal

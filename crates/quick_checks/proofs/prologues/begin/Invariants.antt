@@ -1,5 +1,5 @@
 use Rattle.std.proofs.Common.{ℕ, List, length, map, ◌-◌, ◌++◌}
-use Rattle.slot_bodies.specs.LibraryViews.{slot_function_view}
+use Rattle.slot_trees.specs.LibraryViews.{slot_function_view}
 use Rattle.quick_trees.specs.Points.{Point}
 use Rattle.quick_trees.specs.Sites.{Seat}
 use Rattle.quick_trees.specs.Calls.{AreBegun}

@@ -1,6 +1,6 @@
 use Rattle.std.proofs.Common.{◌+◌, ◌*◌, ◌<◌, ℕ, length, map}
-use Rattle.slot_bodies.specs.Chains.{subscripts_of}
-use Rattle.slot_bodies.specs.ExpressionViews.{subscript_view}
+use Rattle.slot_trees.specs.Chains.{subscripts_of}
+use Rattle.slot_trees.specs.ExpressionViews.{subscript_view}
 use Rattle.quick_trees.specs.Pieces.{LeadsBehind}
 use Rattle.quick_checks.specs.Checking.{frame_of, site_of}
 use Rattle.quick_checks.specs.Within.{IsReached}

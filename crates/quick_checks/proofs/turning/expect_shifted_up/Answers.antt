@@ -1,5 +1,5 @@
 use Rattle.std.proofs.Common.{◌≡◌, arith}
-use Rattle.st_words.specs.Kinds.{row_of}
+use Rattle.st_types.specs.Kinds.{row_of}
 use Rattle.quick_checks.proofs.turning.expect_shifted_up.Goals as goal
 
 pub returns : goal.returns

@@ -1,6 +1,6 @@
 use Rattle.std.proofs.Common.{◌≡◌, ◌∙◌, ◌-◌, ◌<◌, Some, ap, arith, subst, suc, sym}
 use Rattle.std.specs.Prelude.{if◌then◌else◌, slice_get}
-use Rattle.st_words.specs.Kinds.{row_of}
+use Rattle.st_types.specs.Kinds.{row_of}
 use Rattle.quick_code.specs.declared.quick_instr.QuickInstr.TheVariants.{AddLint, ShiftRight}
 use Rattle.quick_trees.specs.Functions.{IsMovedWithin, IsTurnedBy}
 use Rattle.quick_trees.specs.Points.{Point, next}

@@ -1,8 +1,8 @@
 use Rattle.std.proofs.Common.{◌≡◌, ℕ, zero, suc, ◌+◌, pos, negsuc, [], ◌∷◌, Some, false, refl, sym}
 use Rattle.std.proofs.Common.{subst, arith, inl, inr}
 use Rattle.std.specs.Prelude.{slice_get}
-use Rattle.st_words.specs.declared.kind.Kind.TheVariants.{Int}
-use Rattle.tree_code.specs.MarkedRuns.{marked_ran, marked_units_within}
+use Rattle.st_types.specs.declared.kind.Kind.TheVariants.{Int}
+use Rattle.machine_code.specs.MarkedRuns.{marked_ran, marked_units_within}
 use Rattle.quick_trees.specs.declared.noting.Noting.TheVariants.{Exact, LookAhead, AssignmentAhead}
 use Rattle.quick_trees.specs.declared.noting.Noting.TheVariants.{Looked, Assigned}
 use Rattle.quick_trees.specs.Example.{way}
@@ -11,8 +11,8 @@ use Rattle.quick_trees.proofs.Tellings.{at, each_tells}
 use Rattle.std.proofs.Common.{ℤ, ◌+ℤ◌}
 use Rattle.std.specs.List.{list_any}
 use Rattle.std.proofs.lemmas.Int.{ints}
-use Rattle.st_trees.specs.declared.statement.Label.TheVariants.{Range, Single}
-use Rattle.st_types.specs.Execution.{label_holds}
+use Rattle.st_types.specs.declared.statement.Label.TheVariants.{Range, Single}
+use Rattle.st_meaning.specs.Execution.{label_holds}
 use Rattle.quick_code.specs.declared.quick_code.Way.{Way}
 use Rattle.quick_code.specs.Words.{case_of}
 use Rattle.quick_trees.specs.Calls.{quick_units}

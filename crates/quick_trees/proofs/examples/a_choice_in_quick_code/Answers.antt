@@ -1,14 +1,14 @@
 use Rattle.std.proofs.Common.{◌≡◌, ℕ, ◌≤◌, ◌<◌, pos, [], ◌∷◌, refl, sym, subst, arith, inl, inr}
-use Rattle.st_words.specs.declared.kind.Kind.TheVariants.{Word}
-use Rattle.st_words.specs.declared.operator.BinaryOperator.TheVariants.{And, Xor}
+use Rattle.st_types.specs.declared.kind.Kind.TheVariants.{Word}
+use Rattle.st_types.specs.declared.operator.BinaryOperator.TheVariants.{And, Xor}
 use Rattle.quick_code.specs.declared.operation.Operation.TheVariants as op
 use Rattle.quick_code.specs.declared.operation.Signed.TheVariants.{Lint}
 use Rattle.quick_code.specs.declared.quick_instr.QuickInstr.TheVariants.{AndBy, XorBy}
 use Rattle.quick_code.specs.QuickSteps.{look}
 use Rattle.quick_code.specs.Words.{made}
 use Rattle.slot_trees.specs.SlotTrees.{binary, own}
-use Rattle.tree_code.specs.MarkedEvaluation.{marked_truth}
-use Rattle.tree_code.specs.MarkedRuns.{marked_ran, marked_units_within}
+use Rattle.machine_code.specs.MarkedEvaluation.{marked_truth}
+use Rattle.machine_code.specs.MarkedRuns.{marked_ran, marked_units_within}
 use Rattle.quick_trees.specs.declared.noting.Noting.TheVariants.{Exact, LookAhead, BothAhead}
 use Rattle.quick_trees.specs.declared.noting.Noting.TheVariants.{LookedAssignmentAhead, Assigned}
 use Rattle.quick_trees.specs.ChoiceExample.{bits, choice_frame, is_odd}

@@ -1,9 +1,9 @@
 use Rattle.std.proofs.Common.{pos, [], ◌∷◌, refl}
 use Rattle.std.proofs.Common.{inl, inr}
-use Rattle.st_words.specs.declared.kind.Kind.TheVariants.{Int}
-use Rattle.tree_code.specs.MarkedEvaluation.{marked_truth}
-use Rattle.tree_code.specs.MarkedExecution.{marked_guarded, marked_loop, marked_turns}
-use Rattle.tree_code.specs.MarkedRuns.{marked_ran, marked_units_within}
+use Rattle.st_types.specs.declared.kind.Kind.TheVariants.{Int}
+use Rattle.machine_code.specs.MarkedEvaluation.{marked_truth}
+use Rattle.machine_code.specs.MarkedExecution.{marked_guarded, marked_loop, marked_turns}
+use Rattle.machine_code.specs.MarkedRuns.{marked_ran, marked_units_within}
 use Rattle.quick_trees.specs.declared.noting.Noting.TheVariants.{Exact, LookAhead}
 use Rattle.quick_trees.specs.declared.noting.Noting.TheVariants.{Looked, LookedAssignmentAhead, Assigned}
 use Rattle.quick_trees.specs.Example.{way}

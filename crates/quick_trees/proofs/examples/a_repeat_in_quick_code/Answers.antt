@@ -1,15 +1,15 @@
 use Rattle.std.proofs.Common.{pos, [], ◌∷◌, refl}
 use Rattle.std.proofs.Common.{inl, inr}
-use Rattle.st_words.specs.declared.kind.Kind.TheVariants.{Int}
-use Rattle.tree_code.specs.MarkedEvaluation.{marked_truth}
-use Rattle.tree_code.specs.MarkedExecution.{marked_loop, marked_turns}
-use Rattle.tree_code.specs.MarkedRuns.{marked_ran, marked_units_within}
+use Rattle.st_types.specs.declared.kind.Kind.TheVariants.{Int}
+use Rattle.machine_code.specs.MarkedEvaluation.{marked_truth}
+use Rattle.machine_code.specs.MarkedExecution.{marked_loop, marked_turns}
+use Rattle.machine_code.specs.MarkedRuns.{marked_ran, marked_units_within}
 use Rattle.quick_trees.specs.declared.noting.Noting.TheVariants.{Exact, LookAhead, BothAhead}
 use Rattle.quick_trees.specs.declared.noting.Noting.TheVariants.{Looked, LookedAssignmentAhead, Assigned}
 use Rattle.quick_trees.specs.Example.{way}
 use Rattle.quick_trees.specs.Points.{assignment_of, look_of}
 use Rattle.quick_trees.proofs.Tellings.{at, each_tells}
-use Rattle.tree_code.specs.MarkedExecution.{marked_until}
+use Rattle.machine_code.specs.MarkedExecution.{marked_until}
 use Rattle.quick_code.specs.declared.quick_instr.QuickInstr.TheVariants.{AddIntBy, WhenAtMost, WhenNotEqualTo}
 use Rattle.quick_trees.proofs.examples.a_repeat_in_quick_code.Goals as goal
 

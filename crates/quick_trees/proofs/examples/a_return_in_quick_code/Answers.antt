@@ -1,18 +1,18 @@
 use Rattle.std.proofs.Common.{◌≡◌, ℕ, zero, suc, ◌<◌, pos, negsuc, List, [], ◌∷◌, Some, true, false, refl, sym}
 use Rattle.std.proofs.Common.{ap, subst, arith, inl, inr, ◌∙◌}
 use Rattle.std.specs.Prelude.{slice_get}
-use Rattle.st_words.specs.declared.kind.Kind.TheVariants.{Int}
-use Rattle.tree_code.specs.MarkedEvaluation.{marked_truth}
-use Rattle.tree_code.specs.MarkedExecution.{marked_guarded, marked_loop, marked_runs_on, marked_step_on, marked_turns}
-use Rattle.tree_code.specs.MarkedRuns.{marked_ran, marked_units_within}
+use Rattle.st_types.specs.declared.kind.Kind.TheVariants.{Int}
+use Rattle.machine_code.specs.MarkedEvaluation.{marked_truth}
+use Rattle.machine_code.specs.MarkedExecution.{marked_guarded, marked_loop, marked_runs_on, marked_step_on, marked_turns}
+use Rattle.machine_code.specs.MarkedRuns.{marked_ran, marked_units_within}
 use Rattle.quick_trees.specs.declared.pace.Pace.TheVariants.{Literal}
 use Rattle.quick_trees.specs.declared.noting.Noting.TheVariants.{Exact, LookAhead, AssignmentAhead}
 use Rattle.quick_trees.specs.declared.noting.Noting.TheVariants.{Looked, Assigned}
 use Rattle.quick_trees.specs.Example.{int, way}
 use Rattle.quick_trees.specs.Points.{assignment_of, look_of}
 use Rattle.quick_trees.proofs.Tellings.{at, each_tells}
-use Rattle.st_words.specs.declared.kind.Kind.{Kind}
-use Rattle.st_words.specs.Values.{Datum}
+use Rattle.st_types.specs.declared.kind.Kind.{Kind}
+use Rattle.st_types.specs.Values.{Datum}
 use Rattle.quick_code.specs.declared.quick_instr.QuickInstr.TheVariants.{WhenFrom}
 use Rattle.quick_trees.specs.Calls.{AreInputs, kinds_in, quick_units}
 use Rattle.quick_trees.specs.ReturnExample.{found, return_frame}

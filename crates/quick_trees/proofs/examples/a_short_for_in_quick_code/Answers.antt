@@ -1,8 +1,8 @@
 use Rattle.std.proofs.Common.{◌≡◌, ℕ, ℤ, pos, negsuc, [], ◌∷◌, refl, ap, arith, inl, inr, Some}
 use Rattle.std.specs.Prelude.{slice_get}
-use Rattle.st_words.specs.declared.kind.Kind.TheVariants.{Usint}
-use Rattle.tree_code.specs.MarkedExecution.{marked_guarded, marked_loop, marked_runs_on, marked_step_on, marked_turns}
-use Rattle.tree_code.specs.MarkedRuns.{marked_ran, marked_units_within}
+use Rattle.st_types.specs.declared.kind.Kind.TheVariants.{Usint}
+use Rattle.machine_code.specs.MarkedExecution.{marked_guarded, marked_loop, marked_runs_on, marked_step_on, marked_turns}
+use Rattle.machine_code.specs.MarkedRuns.{marked_ran, marked_units_within}
 use Rattle.quick_trees.specs.declared.pace.Pace.TheVariants.{Literal}
 use Rattle.quick_trees.specs.declared.noting.Noting.TheVariants.{Exact, AssignmentAhead, Assigned}
 use Rattle.quick_trees.specs.Example.{way}

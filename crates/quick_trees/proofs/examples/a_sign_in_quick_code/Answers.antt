@@ -1,12 +1,12 @@
 use Rattle.std.proofs.Common.{pos, [], ◌∷◌, refl, inl, inr}
-use Rattle.st_words.specs.declared.kind.Kind.TheVariants.{Int, Bool as Boolean}
-use Rattle.tree_code.specs.MarkedRuns.{marked_ran, marked_units_within}
+use Rattle.st_types.specs.declared.kind.Kind.TheVariants.{Int, Bool as Boolean}
+use Rattle.machine_code.specs.MarkedRuns.{marked_ran, marked_units_within}
 use Rattle.quick_trees.specs.declared.noting.Noting.TheVariants.{Exact, LookAhead, BothAhead, LookedAssignmentAhead}
 use Rattle.quick_trees.specs.declared.noting.Noting.TheVariants.{Assigned}
 use Rattle.quick_trees.specs.Example.{way}
 use Rattle.quick_trees.specs.Points.{assignment_of, look_of}
 use Rattle.quick_trees.proofs.Tellings.{at, each_tells}
-use Rattle.st_words.specs.declared.kind.Kind.TheVariants.{Dword}
+use Rattle.st_types.specs.declared.kind.Kind.TheVariants.{Dword}
 use Rattle.quick_code.specs.declared.quick_instr.QuickInstr.TheVariants.{SubtractInt, Xor, XorBy}
 use Rattle.quick_trees.proofs.examples.a_sign_in_quick_code.Goals as goal
 

@@ -1,13 +1,13 @@
 use Rattle.std.proofs.Common.{[], ◌∷◌, refl, inl}
-use Rattle.st_words.specs.declared.kind.Kind.TheVariants.{Bool as Boolean}
-use Rattle.tree_code.specs.MarkedRuns.{marked_ran, marked_units_within}
+use Rattle.st_types.specs.declared.kind.Kind.TheVariants.{Bool as Boolean}
+use Rattle.machine_code.specs.MarkedRuns.{marked_ran, marked_units_within}
 use Rattle.quick_trees.specs.declared.noting.Noting.TheVariants.{Exact, LookAhead, AssignmentAhead, BothAhead, Looked}
 use Rattle.quick_trees.specs.declared.noting.Noting.TheVariants.{LookedAssignmentAhead, Assigned}
 use Rattle.quick_trees.specs.Example.{way}
 use Rattle.quick_trees.specs.Calls.{quick_units}
 use Rattle.quick_trees.specs.Points.{assignment_of, look_of}
 use Rattle.quick_trees.proofs.Tellings.{at, each_tells}
-use Rattle.st_names.specs.declared.standard_blocks.StandardBlock.TheVariants.{RTrig}
+use Rattle.symbols.specs.declared.standard_blocks.StandardBlock.TheVariants.{RTrig}
 use Rattle.quick_trees.proofs.examples.a_standard_block_in_quick_code.Goals as goal
 
 pub returns-clause-stands : goal.returns-clause-stands

@@ -1,7 +1,7 @@
 use Rattle.std.proofs.Common.{◌≡◌, ℕ, zero, suc, ◌+◌, ◌<◌, pos, negsuc, Some, [], ◌∷◌, refl, arith, inl}
 use Rattle.std.specs.Prelude.{slice_get}
-use Rattle.st_words.specs.declared.kind.Kind.TheVariants.{Int}
-use Rattle.tree_code.specs.MarkedRuns.{marked_ran, marked_units_within}
+use Rattle.st_types.specs.declared.kind.Kind.TheVariants.{Int}
+use Rattle.machine_code.specs.MarkedRuns.{marked_ran, marked_units_within}
 use Rattle.quick_trees.specs.declared.noting.Noting.TheVariants.{Exact, LookAhead, Looked}
 use Rattle.quick_trees.specs.Example.{way, variable}
 use Rattle.quick_trees.specs.Points.{look_of}

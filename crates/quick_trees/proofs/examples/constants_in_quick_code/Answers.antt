@@ -1,6 +1,6 @@
 use Rattle.std.proofs.Common.{pos, negsuc, [], ◌∷◌, refl, inl, inr}
-use Rattle.st_words.specs.declared.kind.Kind.TheVariants.{Int, Dint}
-use Rattle.tree_code.specs.MarkedRuns.{marked_ran, marked_units_within}
+use Rattle.st_types.specs.declared.kind.Kind.TheVariants.{Int, Dint}
+use Rattle.machine_code.specs.MarkedRuns.{marked_ran, marked_units_within}
 use Rattle.quick_trees.specs.declared.noting.Noting.TheVariants.{Exact, LookAhead, BothAhead, LookedAssignmentAhead}
 use Rattle.quick_trees.specs.declared.noting.Noting.TheVariants.{Assigned}
 use Rattle.quick_trees.specs.Example.{way}

@@ -1,6 +1,6 @@
 use Rattle.std.proofs.Common.{[], ◌∷◌, arith, inl, inr, refl}
-use Rattle.st_words.specs.declared.kind.Kind.TheVariants.{Int, Word}
-use Rattle.tree_code.specs.MarkedRuns.{marked_ran, marked_units_within}
+use Rattle.st_types.specs.declared.kind.Kind.TheVariants.{Int, Word}
+use Rattle.machine_code.specs.MarkedRuns.{marked_ran, marked_units_within}
 use Rattle.quick_code.specs.declared.quick_instr.QuickInstr.TheVariants.{ShiftRight}
 use Rattle.quick_trees.specs.declared.noting.Noting.TheVariants.{Exact, LookAhead, AssignmentAhead}
 use Rattle.quick_trees.specs.declared.noting.Noting.TheVariants.{Looked, Assigned}

@@ -1,5 +1,5 @@
 use Rattle.std.proofs.Common.{◌∙◌, ◌+◌, ap, subst, sym, Option}
-use Rattle.st_plans.specs.declared.entry.Activation.{Activation}
+use Rattle.st_types.specs.declared.entry.Activation.{Activation}
 use Rattle.ready_list.specs.Ready.{IsFirst, sooner_of}
 use Rattle.ready_list.proofs.BestLemmas.{IsFirst-step}
 use Rattle.ready_list.proofs.order.first_of.Goals as goal

@@ -1,6 +1,6 @@
 use Rattle.std.proofs.Common.{Result, sym, ap, ◌∙◌, arith}
-use Rattle.st_words.specs.declared.fault.Fault.{Fault}
-use Rattle.st_words.specs.Values.{Datum}
+use Rattle.st_types.specs.declared.fault.Fault.{Fault}
+use Rattle.st_types.specs.Values.{Datum}
 use Rattle.retain_records.proofs.ValueLemmas.{kept, value_found}
 use Rattle.retain_records.proofs.value_bytes.value_at.Goals as goal
 

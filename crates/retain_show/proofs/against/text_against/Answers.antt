@@ -1,6 +1,6 @@
 use Rattle.std.proofs.Common.{rules, ap, subst, sym, ◌≡◌, ◌∙◌, map, IfOk}
 use Rattle.std.specs.Vec.{vec_items}
-use Rattle.retain_areas.specs.Recovered.{Found, recovered}
+use Rattle.retain_store.specs.Recovered.{Found, recovered}
 use Rattle.retain_show.specs.Against.{against}
 use Rattle.retain_show.proofs.StartLemmas.{found_is}
 use Rattle.retain_show.proofs.against.text_against.Goals as goal

@@ -1,6 +1,6 @@
 use Rattle.std.proofs.Common.{rules, ap, sym, ◌≡◌, ◌∙◌, map}
 use Rattle.std.specs.Vec.{vec_items}
-use Rattle.retain_areas.specs.Recovered.{Found, recovered}
+use Rattle.retain_store.specs.Recovered.{Found, recovered}
 use Rattle.retain_show.specs.Against.{changes}
 use Rattle.retain_show.proofs.StartLemmas.{found_is}
 use Rattle.retain_show.proofs.against.text_changes.Goals as goal

@@ -2,7 +2,7 @@ use Rattle.std.proofs.Common.{rules, subst, ◌++◌, OnOk, map, true}
 use Rattle.std.specs.Vec.{vec_items}
 use Rattle.std.specs.Io.KnownBytes.{Appends}
 use Rattle.st_print.proofs.AppendLemmas.{appends_both}
-use Rattle.retain_areas.specs.Recovered.{Nothing}
+use Rattle.retain_store.specs.Recovered.{Nothing}
 use Rattle.retain_show.specs.Shown.{shown_text}
 use Rattle.retain_show.specs.Against.{saved_shown}
 use Rattle.retain_show.specs.Wanted.{all_shown, line_view}

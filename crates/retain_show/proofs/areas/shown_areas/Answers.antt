@@ -1,6 +1,6 @@
 use Rattle.std.proofs.Common.{◌≡◌, ◌∙◌, rules, arith, length}
-use Rattle.retain_areas.specs.declared.shape.TheConstants.{FILE_BYTES}
-use Rattle.retain_areas.proofs.Formats.{long_too_long}
+use Rattle.retain_store.specs.declared.shape.TheConstants.{FILE_BYTES}
+use Rattle.retain_store.proofs.Formats.{long_too_long}
 use Rattle.retain_show.proofs.AreaLemmas.{both_areas}
 use Rattle.retain_show.specs.Shown.{both_shown}
 use Rattle.retain_show.proofs.areas.shown_areas.Goals as goal

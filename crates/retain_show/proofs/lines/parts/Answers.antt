@@ -1,5 +1,5 @@
 use Rattle.std.proofs.Common.{sym, rules}
-use Rattle.cut_bytes.proofs.CutLemmas.{parted_at, parted_at_none, shorter_behind}
+use Rattle.retain_records.proofs.CutLemmas.{parted_at, parted_at_none, shorter_behind}
 use Rattle.retain_show.proofs.TextLemmas.{one_more, last_one}
 use Rattle.retain_show.proofs.lines.parts.Goals as goal
 

@@ -1,7 +1,7 @@
 use Rattle.std.proofs.Common.{◌++◌, rules, sym, subst, arith, OnOk}
 use Rattle.std.specs.Io.KnownBytes.{Appends}
-use Rattle.cut_bytes.specs.Cuts.{parted}
-use Rattle.cut_bytes.proofs.CutLemmas.{parted_at, parted_at_none}
+use Rattle.retain_records.specs.Cuts.{parted}
+use Rattle.retain_records.proofs.CutLemmas.{parted_at, parted_at_none}
 use Rattle.st_print.proofs.AppendLemmas.{appends_both}
 use Rattle.retain_show.specs.Shown.{line_shown}
 use Rattle.retain_show.proofs.TextLemmas.{all_lines, behind_part, line_last, line_more}

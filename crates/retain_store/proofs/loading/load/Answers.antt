@@ -1,8 +1,8 @@
 use Rattle.std.proofs.Common.{◌≡◌, ◌<◌, List, ℕ, length, arith, ap, sym, ◌∙◌}
-use Rattle.retain_areas.specs.declared.shape.TheConstants.{FILE_BYTES}
+use Rattle.retain_store.specs.declared.shape.TheConstants.{FILE_BYTES}
 use Rattle.disk.specs.Runs.{weakens, joins}
-use Rattle.retain_areas.specs.Recovered.{recovered}
-use Rattle.retain_areas.proofs.Formats.{short_nothing, long_too_long}
+use Rattle.retain_store.specs.Recovered.{recovered}
+use Rattle.retain_store.proofs.Formats.{short_nothing, long_too_long}
 use Rattle.retain_store.proofs.loading.load.Goals as goal
 
 pub returns-in_err-len-clause-any_moment : goal.returns-in_err-len-clause-any_moment

@@ -1,5 +1,5 @@
 use Rattle.std.proofs.Common.{arith}
-use Rattle.retain_areas.proofs.Stretches.{two_parts}
+use Rattle.retain_store.proofs.Stretches.{two_parts}
 use Rattle.retain_store.proofs.Quiet.{quiet_one, quiet_next}
 use Rattle.retain_store.proofs.loading.read_areas.Goals as goal
 

@@ -1,13 +1,13 @@
 use Rattle.std.proofs.Common.{List, ℕ, ap, sym, subst, ◌∙◌}
-use Rattle.retain_areas.specs.declared.shape.TheConstants.{AREA_BYTES}
+use Rattle.retain_store.specs.declared.shape.TheConstants.{AREA_BYTES}
 use Rattle.retain_store.specs.declared.loading.Loaded.{Loaded}
 use Rattle.retain_store.specs.Opening.{IsLoaded}
-use Rattle.retain_areas.specs.Recovered.{recovered}
-use Rattle.retain_areas.specs.Areas.{IsSurveyed}
-use Rattle.retain_areas.specs.Surveys.{held}
-use Rattle.retain_areas.proofs.AreaLemmas.{shut_area}
-use Rattle.retain_areas.proofs.Formats.{short_nothing}
-use Rattle.retain_areas.proofs.Surveys.{surveyed_closed}
+use Rattle.retain_store.specs.Recovered.{recovered}
+use Rattle.retain_store.specs.Areas.{IsSurveyed}
+use Rattle.retain_store.specs.Surveys.{held}
+use Rattle.retain_store.proofs.AreaLemmas.{shut_area}
+use Rattle.retain_store.proofs.Formats.{short_nothing}
+use Rattle.retain_store.proofs.Surveys.{surveyed_closed}
 use Rattle.retain_store.proofs.Keeps.{keeps_record, keeps_formatted}
 use Rattle.retain_store.proofs.loading.recover.Goals as goal
 

@@ -1,6 +1,6 @@
 use Rattle.std.proofs.Common.{◌≡◌, ◌≤◌, ◌++◌, drop, vec_len, vec_capacity}
 use Rattle.std.specs.List.{AllByRecursion}
-use Rattle.st_words.specs.Values.{IsHeld}
+use Rattle.st_types.specs.Values.{IsHeld}
 use Rattle.serial_core.specs.Retained.{retained_values}
 use Rattle.serial_core.proofs.keeping.retain.Given as goal
 

@@ -1,6 +1,6 @@
 use Rattle.std.proofs.Common.{subst, sym, Some}
-use Rattle.st_words.specs.declared.fault.Fault.{Fault}
-use Rattle.st_types.specs.Failures.{in_runs}
+use Rattle.st_types.specs.declared.fault.Fault.{Fault}
+use Rattle.st_meaning.specs.Failures.{in_runs}
 use Rattle.machine_code.specs.declared.instr.Instr.TheVariants.{Step}
 use Rattle.machine_code.specs.Machine.{act}
 use Rattle.machine_code.specs.Tracking.{tracked, tracking, are_read}

@@ -1,5 +1,5 @@
 use Rattle.std.proofs.Common.{◌≡◌, ◌≤◌, ◌-◌, length, []}
-use Rattle.st_types.specs.Failures.{in_runs}
+use Rattle.st_meaning.specs.Failures.{in_runs}
 use Rattle.machine_code.specs.Machine.{exec}
 use Rattle.machine_code.specs.Tracking.{tracking, tracked}
 use Rattle.slot_machine.proofs.machine.run.Given as goal

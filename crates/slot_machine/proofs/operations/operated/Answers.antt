@@ -1,5 +1,5 @@
 use Rattle.std.proofs.Common.{◌∙◌}
-use Rattle.st_names.specs.Standard.{standard_view}
+use Rattle.symbols.specs.Standard.{standard_view}
 use Rattle.slot_machine.proofs.Computing.{operated_there, operated_missing}
 use Rattle.slot_machine.proofs.operations.operated.Goals as goal
 

@@ -1,5 +1,5 @@
 use Rattle.std.proofs.Common.{◌∙◌, ap, sym, []}
-use Rattle.st_types.specs.Failures.{in_runs}
+use Rattle.st_meaning.specs.Failures.{in_runs}
 use Rattle.slot_machine.proofs.Tops.{tops_there, tops_missing}
 use Rattle.slot_machine.proofs.operations.turn.Goals as goal
 

@@ -1,9 +1,9 @@
 use Rattle.std.proofs.Common.{◌≡◌, ap, ap₂, sym, ◌∙◌, rules, false, w64, FitsSigned}
 use Rattle.std.specs.Prelude.{◌+ℤ◌}
 use Rattle.std.proofs.lemmas.Int.{to_z-of_z}
-use Rattle.st_words.specs.Values.{in_range}
-use Rattle.st_words.specs.Words.{is_wide}
-use Rattle.st_types.specs.Loops.{unless_fault}
+use Rattle.st_types.specs.Values.{in_range}
+use Rattle.st_types.specs.Words.{is_wide}
+use Rattle.st_meaning.specs.Loops.{unless_fault}
 use Rattle.slot_memory.proofs.SteppedLemmas.{number_is}
 use Rattle.slot_memory.proofs.control.stepped_on.Goals as goal
 

@@ -1,5 +1,5 @@
 use Rattle.std.proofs.Common.{refl}
-use Rattle.st_types.specs.Loops.{turns, looped, guarded}
+use Rattle.st_meaning.specs.Loops.{turns, looped, guarded}
 use Rattle.slot_trees.specs.SlotExecution.{slot_runs_on, slot_step_on}
 use Rattle.slot_trees.specs.SlotRuns.{slots_ran, slot_units_within}
 use Rattle.slot_trees.proofs.ProgramExampleLemmas.{program_link}

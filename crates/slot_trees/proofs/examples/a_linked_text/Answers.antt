@@ -1,7 +1,7 @@
 use Rattle.std.proofs.Common.{refl}
-use Rattle.st_types.specs.StandardBlocks.{block_of}
-use Rattle.st_types.specs.StandardFunctions.{standard_of, standard_functions}
-use Rattle.st_layouts.specs.Types.{shape_within, is_within_depth}
+use Rattle.st_meaning.specs.StandardBlocks.{block_of}
+use Rattle.st_meaning.specs.StandardFunctions.{standard_of, standard_functions}
+use Rattle.layout.specs.Types.{shape_within, is_within_depth}
 use Rattle.slot_trees.specs.SlotRuns.{slots_ran, slot_units_within}
 use Rattle.slot_trees.proofs.examples.a_linked_text.Goals as goal
 

@@ -1,4 +1,4 @@
-use Rattle.st_layouts.specs.TextLayouts.{slots_of_text}
+use Rattle.layout.specs.TextLayouts.{slots_of_text}
 use Rattle.slot_trees.proofs.ProgramLinks.{program_of_source}
 use Rattle.slot_trees.proofs.ProgramSim.{ends_alike, outcome_alike, store_alike}
 use Rattle.slot_trees.proofs.laws.linked_texts_mean_the_same.Goals as goal

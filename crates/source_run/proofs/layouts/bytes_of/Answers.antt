@@ -1,7 +1,7 @@
 use Rattle.std.proofs.Common.{◌≡◌, ◌<◌, arith, length}
 use Rattle.std.proofs.lemmas.Bool.Decides.{nat_tests}
-use Rattle.retain_areas.specs.declared.shape.TheConstants.{FILE_BYTES}
-use Rattle.retain_areas.proofs.Formats.{long_too_long}
+use Rattle.retain_store.specs.declared.shape.TheConstants.{FILE_BYTES}
+use Rattle.retain_store.proofs.Formats.{long_too_long}
 use Rattle.source_run.proofs.layouts.bytes_of.Goals as goal
 
 pub returns-then-length-clause-refused : goal.returns-then-length-clause-refused

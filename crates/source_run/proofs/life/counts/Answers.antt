@@ -1,6 +1,6 @@
 use Rattle.std.proofs.Common.{◌∙◌, arith}
-use Rattle.config.specs.PlanViews.{plan_view}
-use Rattle.st_plans.proofs.CountLemmas.{each_counted, rows_counted}
+use Rattle.plan.specs.PlanViews.{plan_view}
+use Rattle.st_meaning.proofs.CountLemmas.{each_counted, rows_counted}
 use Rattle.source_run.proofs.life.counts.Goals as goal
 
 pub returns-clause-rows : goal.returns-clause-rows

@@ -1,10 +1,10 @@
 use Rattle.std.proofs.Common.{◌≡◌, ◌<◌, ◌∙◌, ap, sym, rules, ◌+◌, length, take, count_by}
 use Rattle.std.proofs.Math.Seq.{take-length}
-use Rattle.st_plans.specs.Logs.{outcomes_of, beginning}
-use Rattle.config.specs.PlanViews.{plan_view}
-use Rattle.traces.specs.Replays.{is_faulted}
-use Rattle.traces.proofs.FindingLemmas.{count_no, count_yes}
-use Rattle.trace_lines.proofs.TraceLemmas.{outcomes_long}
+use Rattle.st_meaning.specs.Logs.{outcomes_of, beginning}
+use Rattle.plan.specs.PlanViews.{plan_view}
+use Rattle.commit_lock.specs.Replays.{is_faulted}
+use Rattle.commit_lock.proofs.FindingLemmas.{count_no, count_yes}
+use Rattle.trace.proofs.TraceLemmas.{outcomes_long}
 use Rattle.source_run.proofs.life.faults.Goals.{then-is_faulted_at, else-is_faulted_at}
 use Rattle.source_run.proofs.life.faults.Goals as goal
 

@@ -1,5 +1,5 @@
 use Rattle.std.proofs.Common.{◌++◌, ◌∷◌, [], ◌-◌, ◌^◌, ◌≡◌, ◌<◌, length, rules, subst}
-use Rattle.traces.proofs.FindingLemmas.{AreOverruns, overruns_more, sum_more}
+use Rattle.commit_lock.proofs.FindingLemmas.{AreOverruns, overruns_more, sum_more}
 use Rattle.source_run.proofs.life.overruns.Goals as goal
 
 pub loop-program-preserved : goal.loop-program-preserved

@@ -1,5 +1,5 @@
 use Rattle.std.proofs.Common.{◌≡◌, ◌-◌, ◌^◌, ℕ, List, min, sum}
-use Rattle.traces.proofs.FindingLemmas.{AreOverruns}
+use Rattle.commit_lock.proofs.FindingLemmas.{AreOverruns}
 use Rattle.source_run.proofs.life.overruns.Given as goal
 
 abbrev pub invariant-loop-program : goal.invariant-loop-program

@@ -3,7 +3,7 @@ use Rattle.std.specs.Vec.{vec_items}
 use Rattle.std.proofs.lemmas.List.{length-append}
 use Rattle.std.proofs.lemmas.Slice.Zip.{zip_end, zip_turn}
 use Rattle.st_print.proofs.AppendLemmas.{appends_both}
-use Rattle.trace_lines.proofs.PutLemmas.{both_more}
+use Rattle.trace.proofs.PutLemmas.{both_more}
 use Rattle.source_run.specs.Reports.{variable_line, variables_text}
 use Rattle.source_run.proofs.ReportLemmas.{all_written}
 use Rattle.source_run.proofs.report.write_variables.Goals as goal

@@ -1,7 +1,7 @@
 use Rattle.std.proofs.Common.{rules}
-use Rattle.st_words.specs.declared.limits.TheConstants.{MAX_LOG_ROOM}
+use Rattle.st_types.specs.declared.limits.TheConstants.{MAX_LOG_ROOM}
 use Rattle.image.specs.Plants.{AreRowsOf}
-use Rattle.commit_lock.specs.Starting.{IsNew}
+use Rattle.durable_core.specs.Starting.{IsNew}
 use Rattle.source_run.proofs.SettleLemmas.{handed_on, reported}
 use Rattle.source_run.proofs.running.run_plan.Goals as goal
 

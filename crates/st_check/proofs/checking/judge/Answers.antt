@@ -1,5 +1,5 @@
-use Rattle.st_trees.specs.SourceViews.{source_view}
-use Rattle.st_statics.specs.Rules.{wrong_declarations, wrong_types, wrong_starts, wrong_bodies}
+use Rattle.st_types.specs.SourceViews.{source_view}
+use Rattle.st_rules.specs.Rules.{wrong_declarations, wrong_types, wrong_starts, wrong_bodies}
 use Rattle.st_check.proofs.JudgeLemmas.{judges_behind, refuses_front}
 use Rattle.st_check.proofs.checking.judge.Goals as goal
 

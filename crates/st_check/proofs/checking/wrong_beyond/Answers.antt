@@ -1,5 +1,5 @@
 use Rattle.std.proofs.lemmas.Result.{IfOk-weaker}
-use Rattle.st_trees.specs.SourceViews.{source_view}
+use Rattle.st_types.specs.SourceViews.{source_view}
 use Rattle.st_check.specs.Surplus.{surplus_names}
 use Rattle.st_check.proofs.JudgeLemmas.{surplus_is_wrong, none_is_surplus}
 use Rattle.st_check.proofs.checking.wrong_beyond.Goals as goal

@@ -1,12 +1,12 @@
 use Rattle.std.proofs.Common.{◌≡◌, ◌∙◌, ap, subst, map}
 use Rattle.std.specs.List.{flat_map}
 use Rattle.std.proofs.lemmas.Result.{IfOk-weaker}
-use Rattle.st_trees.specs.SourceViews.{source_view}
-use Rattle.st_trees.specs.UnitViews.{unit_view}
-use Rattle.st_types.specs.NameTypes.{declared_in, units_in}
-use Rattle.st_statics.specs.BodyRules.{wrong_body}
-use Rattle.st_statics.specs.Faults.{Finds}
-use Rattle.st_statics.specs.Rules.{environment, wrong_types, wrong_starts, wrong_bodies}
+use Rattle.st_types.specs.SourceViews.{source_view}
+use Rattle.st_types.specs.UnitViews.{unit_view}
+use Rattle.st_meaning.specs.NameTypes.{declared_in, units_in}
+use Rattle.st_rules.specs.BodyRules.{wrong_body}
+use Rattle.st_rules.specs.Faults.{Finds}
+use Rattle.st_rules.specs.Rules.{environment, wrong_types, wrong_starts, wrong_bodies}
 use Rattle.st_typing.proofs.Finding.{of_first, of_second, of_third}
 use Rattle.st_check.proofs.checking.wrong_by_names.Goals as goal
 

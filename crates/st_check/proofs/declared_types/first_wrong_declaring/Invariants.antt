@@ -1,9 +1,9 @@
 use Rattle.std.proofs.Common.{◌≡◌, map, drop}
 use Rattle.std.specs.List.{flat_map}
-use Rattle.st_types.specs.NameTypes.{Declared}
-use Rattle.st_statics.specs.TypeRules.{wrong_declaring}
-use Rattle.st_names.specs.Tables.{ServesTables}
-use Rattle.st_names.specs.Texts.{ServesText}
+use Rattle.st_meaning.specs.NameTypes.{Declared}
+use Rattle.st_rules.specs.TypeRules.{wrong_declaring}
+use Rattle.symbols.specs.Tables.{ServesTables}
+use Rattle.symbols.specs.Texts.{ServesText}
 use Rattle.st_decl.specs.DeclaringViews.{declaring_view}
 use Rattle.st_check.proofs.declared_types.first_wrong_declaring.Given as goal
 

@@ -1,8 +1,8 @@
 use Rattle.std.proofs.Common.{subst, sym, ◌∙◌}
-use Rattle.st_trees.specs.InitialViews.{initial_view}
-use Rattle.st_statics.specs.Environments.{is_block_type}
-use Rattle.st_statics.specs.Faults.{Finds}
-use Rattle.st_statics.specs.TypeRules.{wrong_declaring}
+use Rattle.st_types.specs.InitialViews.{initial_view}
+use Rattle.st_rules.specs.Environments.{is_block_type}
+use Rattle.st_rules.specs.Faults.{Finds}
+use Rattle.st_rules.specs.TypeRules.{wrong_declaring}
 use Rattle.st_decl.specs.DeclaringViews.{declaring_view}
 use Rattle.st_check.proofs.TypeLemmas.{declaring_told, is_started}
 use Rattle.st_check.proofs.declared_types.wrong_declaring.Goals as goal

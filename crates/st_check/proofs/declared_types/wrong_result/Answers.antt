@@ -1,7 +1,7 @@
 use Rattle.std.proofs.Common.{subst, sym, ap, ◌∙◌}
-use Rattle.st_statics.specs.Faults.{Finds}
-use Rattle.st_statics.specs.Typings.{is_composite}
-use Rattle.st_statics.specs.TypeRules.{wrong_result}
+use Rattle.st_rules.specs.Faults.{Finds}
+use Rattle.st_rules.specs.Typings.{is_composite}
+use Rattle.st_rules.specs.TypeRules.{wrong_result}
 use Rattle.st_check.proofs.TypeLemmas.{result_told}
 use Rattle.st_check.proofs.declared_types.wrong_result.Goals as goal
 

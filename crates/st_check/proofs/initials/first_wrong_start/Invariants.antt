@@ -1,10 +1,10 @@
 use Rattle.std.proofs.Common.{◌≡◌, map, drop}
 use Rattle.std.specs.List.{flat_map}
-use Rattle.st_types.specs.NameTypes.{Declared}
-use Rattle.st_statics.specs.InitialRules.{wrong_start}
-use Rattle.st_names.specs.Fields.{ServesFields}
-use Rattle.st_names.specs.Tables.{ServesTables}
-use Rattle.st_names.specs.Texts.{ServesText}
+use Rattle.st_meaning.specs.NameTypes.{Declared}
+use Rattle.st_rules.specs.InitialRules.{wrong_start}
+use Rattle.symbols.specs.Fields.{ServesFields}
+use Rattle.symbols.specs.Tables.{ServesTables}
+use Rattle.symbols.specs.Texts.{ServesText}
 use Rattle.st_decl.specs.StartViews.{start_view}
 use Rattle.st_check.proofs.initials.first_wrong_start.Given as goal
 

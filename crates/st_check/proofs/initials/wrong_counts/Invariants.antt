@@ -1,7 +1,7 @@
 use Rattle.std.proofs.Common.{◌≡◌, map, drop}
-use Rattle.st_trees.specs.Initials.{elements_of}
-use Rattle.st_trees.specs.InitialViews.{element_view}
-use Rattle.st_statics.specs.InitialRules.{wrong_counts}
+use Rattle.st_types.specs.Initials.{elements_of}
+use Rattle.st_types.specs.InitialViews.{element_view}
+use Rattle.st_rules.specs.InitialRules.{wrong_counts}
 use Rattle.st_check.proofs.initials.wrong_counts.Given as goal
 
 abbrev pub invariant-loop-element : goal.invariant-loop-element

@@ -1,9 +1,9 @@
 use Rattle.std.proofs.Common.{subst}
 use Rattle.std.specs.Prelude.{is_some, option_map}
-use Rattle.st_types.specs.ResolvedUnits.{field_of}
-use Rattle.st_statics.specs.declared.rule.Rule.TheVariants.{UnknownName}
-use Rattle.st_statics.specs.Faults.{breaking, unless, Finds}
-use Rattle.st_names.specs.PlaceTypes.{place_type_view}
+use Rattle.st_meaning.specs.ResolvedUnits.{field_of}
+use Rattle.st_rules.specs.declared.rule.Rule.TheVariants.{UnknownName}
+use Rattle.st_rules.specs.Faults.{breaking, unless, Finds}
+use Rattle.symbols.specs.PlaceTypes.{place_type_view}
 use Rattle.st_check.proofs.InitialLemmas.{field_here}
 use Rattle.st_check.proofs.initials.wrong_fields.Goals as goal
 

@@ -1,8 +1,8 @@
 use Rattle.std.proofs.Common.{map}
 use Rattle.std.specs.Prelude.{option_map}
-use Rattle.st_trees.specs.Initials.{elements_of}
-use Rattle.st_trees.specs.InitialViews.{element_view}
-use Rattle.st_names.specs.PlaceTypes.{place_type_view}
+use Rattle.st_types.specs.Initials.{elements_of}
+use Rattle.st_types.specs.InitialViews.{element_view}
+use Rattle.symbols.specs.PlaceTypes.{place_type_view}
 use Rattle.st_check.proofs.InitialLemmas.{list_told}
 use Rattle.st_check.proofs.initials.wrong_list.Goals as goal
 

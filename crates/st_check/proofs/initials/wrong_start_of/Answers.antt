@@ -1,12 +1,12 @@
 use Rattle.std.proofs.Common.{◌≡◌, subst, sym, ap, ◌∙◌, map, rules}
 use Rattle.std.specs.Prelude.{option_map}
-use Rattle.st_trees.proofs.Bridge.{structure_view}
-use Rattle.st_trees.specs.declared.initial.Initial as code_initial
-use Rattle.st_trees.specs.Initials.{elements_of, list}
-use Rattle.st_trees.specs.InitialViews.{element_view, initial_view}
-use Rattle.st_statics.specs.Faults.{Finds}
-use Rattle.st_statics.specs.InitialRules.{wrong_start_of}
-use Rattle.st_names.specs.PlaceTypes.{place_type_view}
+use Rattle.st_types.proofs.Bridge.{structure_view}
+use Rattle.st_types.specs.declared.initial.Initial as code_initial
+use Rattle.st_types.specs.Initials.{elements_of, list}
+use Rattle.st_types.specs.InitialViews.{element_view, initial_view}
+use Rattle.st_rules.specs.Faults.{Finds}
+use Rattle.st_rules.specs.InitialRules.{wrong_start_of}
+use Rattle.symbols.specs.PlaceTypes.{place_type_view}
 use Rattle.st_check.proofs.initials.wrong_start_of.Goals as goal
 
 pub returns-in-List : goal.returns-in-List

@@ -1,8 +1,8 @@
 use Rattle.std.proofs.Common.{map}
 use Rattle.std.specs.Prelude.{option_map}
-use Rattle.st_trees.specs.Initials.{members_of}
-use Rattle.st_trees.specs.InitialViews.{member_view}
-use Rattle.st_names.specs.PlaceTypes.{place_type_view}
+use Rattle.st_types.specs.Initials.{members_of}
+use Rattle.st_types.specs.InitialViews.{member_view}
+use Rattle.symbols.specs.PlaceTypes.{place_type_view}
 use Rattle.st_check.proofs.InitialLemmas.{structure_told}
 use Rattle.st_check.proofs.initials.wrong_structure.Goals as goal
 

@@ -1,7 +1,7 @@
 use Rattle.std.proofs.Common.{◌≡◌, ◌++◌, map, drop}
 use Rattle.std.specs.List.{flat_map}
-use Rattle.st_trees.specs.ConfigurationViews.{resource_view}
-use Rattle.st_statics.specs.TypeRules.{wrong_priority}
+use Rattle.st_types.specs.ConfigurationViews.{resource_view}
+use Rattle.st_rules.specs.TypeRules.{wrong_priority}
 use Rattle.st_check.proofs.priorities.push_resources.Given as goal
 
 abbrev pub invariant-loop-resource : goal.invariant-loop-resource

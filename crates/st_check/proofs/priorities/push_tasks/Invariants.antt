@@ -1,6 +1,6 @@
 use Rattle.std.proofs.Common.{◌≡◌, ◌++◌, drop}
 use Rattle.std.specs.List.{flat_map}
-use Rattle.st_statics.specs.TypeRules.{wrong_priority}
+use Rattle.st_rules.specs.TypeRules.{wrong_priority}
 use Rattle.st_check.proofs.priorities.push_tasks.Given as goal
 
 abbrev pub invariant-loop-task : goal.invariant-loop-task

@@ -1,9 +1,9 @@
 use Rattle.std.proofs.Common.{◌≡◌, ◌∙◌, ap, subst, map}
 use Rattle.std.specs.List.{flat_map}
-use Rattle.st_types.specs.NameTypes.{declared_in}
-use Rattle.st_statics.specs.Faults.{Finds}
-use Rattle.st_statics.specs.InitialRules.{starts_of_declaring, wrong_start}
-use Rattle.st_statics.specs.Rules.{starts_in}
+use Rattle.st_meaning.specs.NameTypes.{declared_in}
+use Rattle.st_rules.specs.Faults.{Finds}
+use Rattle.st_rules.specs.InitialRules.{starts_of_declaring, wrong_start}
+use Rattle.st_rules.specs.Rules.{starts_in}
 use Rattle.st_decl.specs.DeclaringViews.{declaring_view}
 use Rattle.st_decl.specs.StartViews.{start_view}
 use Rattle.st_check.proofs.starts.wrong_starts.Goals as goal

@@ -1,13 +1,13 @@
 use Rattle.std.proofs.Common.{◌≡◌, ◌∙◌, ◌++◌, ap, sym, subst, map}
 use Rattle.std.specs.List.{flat_map}
-use Rattle.st_trees.specs.SourceViews.{source_view}
-use Rattle.st_types.specs.NameTypes.{declared_in}
-use Rattle.st_statics.specs.declared.rule.Rule.TheVariants.{TooManyNames, OutOfRange}
-use Rattle.st_statics.specs.DeclaredTypes.{declarings_in, arrays_in, results_in}
-use Rattle.st_statics.specs.Faults.{breaking, Finds}
-use Rattle.st_statics.specs.TypeRules.{wrong_declaring, wrong_element, wrong_result, wrong_bound_numbers}
-use Rattle.st_statics.specs.TypeRules.{wrong_priorities_of}
-use Rattle.st_names.specs.Searches.{FindsPlace}
+use Rattle.st_types.specs.SourceViews.{source_view}
+use Rattle.st_meaning.specs.NameTypes.{declared_in}
+use Rattle.st_rules.specs.declared.rule.Rule.TheVariants.{TooManyNames, OutOfRange}
+use Rattle.st_rules.specs.DeclaredTypes.{declarings_in, arrays_in, results_in}
+use Rattle.st_rules.specs.Faults.{breaking, Finds}
+use Rattle.st_rules.specs.TypeRules.{wrong_declaring, wrong_element, wrong_result, wrong_bound_numbers}
+use Rattle.st_rules.specs.TypeRules.{wrong_priorities_of}
+use Rattle.symbols.specs.Searches.{FindsPlace}
 use Rattle.st_decl.specs.DeclaringViews.{declaring_view}
 use Rattle.st_check.specs.Surplus.{surplus_names}
 use Rattle.st_typing.proofs.Finding.{finds_either}

@@ -1,5 +1,5 @@
 use Rattle.std.proofs.Common.{◌≡◌, ◌≤◌, arith}
-use Rattle.slot_bodies.specs.StatementViews.{slot_stmts_view}
+use Rattle.slot_trees.specs.StatementViews.{slot_stmts_view}
 use Rattle.st_compile.proofs.Resets.{least_memory}
 use Rattle.st_compile.proofs.compiler.compile.Goals as goal
 

@@ -1,12 +1,12 @@
 use Rattle.std.proofs.Common.{◌≡◌, ◌<◌, rules, ◌∙◌, ap, length, arith, sym, subst, Err}
 use Rattle.std.specs.Prelude.{IfErr}
 use Rattle.machine_code.specs.declared.limits.TheConstants.{MAX_INSTRUCTIONS}
-use Rattle.slot_bodies.specs.LibraryViews.{IsKeptOf, slot_library_view}
+use Rattle.slot_trees.specs.LibraryViews.{IsKeptOf, slot_library_view}
 use Rattle.slot_trees.specs.SlotTrees.{SlotLibrary}
-use Rattle.slot_bodies.specs.StatementViews.{slot_stmts_view}
-use Rattle.tree_code.specs.Programs.{program_code, ProgramFits}
-use Rattle.code_drafts.specs.Emitting.{filled}
-use Rattle.code_drafts.specs.declared.compile_error.CompileError.TheVariants.{TooManyInstructions}
+use Rattle.slot_trees.specs.StatementViews.{slot_stmts_view}
+use Rattle.machine_code.specs.Programs.{program_code, ProgramFits}
+use Rattle.st_compile.specs.Emitting.{filled}
+use Rattle.st_compile.specs.declared.compile_error.CompileError.TheVariants.{TooManyInstructions}
 use Rattle.st_compile.proofs.Kept.{kept_code, kept_fits}
 use Rattle.st_compile.proofs.Lengths.{program_long}
 use Rattle.st_compile.proofs.compiler.compile_within.Goals as goal

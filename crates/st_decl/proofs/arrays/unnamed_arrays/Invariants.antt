@@ -1,6 +1,6 @@
 use Rattle.std.proofs.Common.{◌≡◌, ◌++◌, map, drop}
 use Rattle.std.specs.List.{flat_map}
-use Rattle.st_statics.specs.DeclaredTypes.{array_of_type}
+use Rattle.st_rules.specs.DeclaredTypes.{array_of_type}
 use Rattle.st_decl.specs.DeclaringViews.{declaring_view}
 use Rattle.st_decl.proofs.arrays.unnamed_arrays.Given as goal
 

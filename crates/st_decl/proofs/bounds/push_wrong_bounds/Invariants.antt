@@ -1,6 +1,6 @@
 use Rattle.std.proofs.Common.{◌≡◌, ◌++◌, map, drop}
 use Rattle.std.specs.List.{flat_map}
-use Rattle.st_statics.specs.TypeRules.{wrong_bounds}
+use Rattle.st_rules.specs.TypeRules.{wrong_bounds}
 use Rattle.st_decl.proofs.bounds.push_wrong_bounds.Given as goal
 
 abbrev pub invariant-loop-array : goal.invariant-loop-array

@@ -1,6 +1,6 @@
 use Rattle.std.proofs.Common.{refl}
-use Rattle.st_trees.specs.Expressions.{exprs_of, selectors_of}
-use Rattle.st_statics.specs.Containment.{calls_in, calls_in_all, calls_in_selector, calls_in_selectors}
+use Rattle.st_types.specs.Expressions.{exprs_of, selectors_of}
+use Rattle.st_rules.specs.Containment.{calls_in, calls_in_all, calls_in_selector, calls_in_selectors}
 use Rattle.st_decl.proofs.PushLemmas.{tree_turn, tree_all}
 use Rattle.st_decl.proofs.calls.+push_expr.Goals as goal
 

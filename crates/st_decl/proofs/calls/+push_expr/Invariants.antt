@@ -1,7 +1,7 @@
 use Rattle.std.proofs.Common.{◌≡◌, ◌++◌, map, drop}
-use Rattle.st_trees.specs.ExpressionViews.{expr_view, selector_view}
-use Rattle.st_trees.specs.Expressions.{exprs_of, selectors_of}
-use Rattle.st_statics.specs.Containment.{calls_in_all, calls_in_selectors}
+use Rattle.st_types.specs.ExpressionViews.{expr_view, selector_view}
+use Rattle.st_types.specs.Expressions.{exprs_of, selectors_of}
+use Rattle.st_rules.specs.Containment.{calls_in_all, calls_in_selectors}
 use Rattle.st_decl.proofs.calls.+push_expr.Given as goal
 
 abbrev pub invariant-push_exprs-loop-expression : goal.invariant-push_exprs-loop-expression

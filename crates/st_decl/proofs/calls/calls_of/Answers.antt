@@ -1,9 +1,9 @@
 use Rattle.std.proofs.Common.{rules, ◌≡◌, sym, ap, ◌∙◌, map}
 use Rattle.std.specs.List.{flat_map}
-use Rattle.st_trees.specs.Statements.{stmts_of}
-use Rattle.st_trees.specs.StatementViews.{stmt_view}
-use Rattle.st_trees.specs.UnitViews.{unit_view}
-use Rattle.st_statics.specs.Containment.{calls_in_statement}
+use Rattle.st_types.specs.Statements.{stmts_of}
+use Rattle.st_types.specs.StatementViews.{stmt_view}
+use Rattle.st_types.specs.UnitViews.{unit_view}
+use Rattle.st_rules.specs.Containment.{calls_in_statement}
 use Rattle.st_decl.specs.Flattened.{all_in}
 use Rattle.st_decl.proofs.FlatLemmas.{calls_by_statements}
 use Rattle.st_decl.proofs.calls.calls_of.Goals as goal

@@ -1,7 +1,7 @@
 use Rattle.std.proofs.Common.{◌≡◌, ◌++◌, map, drop}
 use Rattle.std.specs.List.{flat_map}
-use Rattle.st_statics.specs.Containment.{calls_in_argument}
-use Rattle.st_trees.specs.StatementViews.{argument_view}
+use Rattle.st_rules.specs.Containment.{calls_in_argument}
+use Rattle.st_types.specs.StatementViews.{argument_view}
 use Rattle.st_decl.proofs.calls.push_arguments.Given as goal
 
 abbrev pub invariant-loop-argument : goal.invariant-loop-argument

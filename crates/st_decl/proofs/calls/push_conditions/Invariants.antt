@@ -1,7 +1,7 @@
 use Rattle.std.proofs.Common.{◌≡◌, ◌++◌, map, drop}
-use Rattle.st_statics.specs.Containment.{calls_in_conditions}
-use Rattle.st_trees.specs.StatementViews.{arm_view}
-use Rattle.st_trees.specs.Statements.{arms_of}
+use Rattle.st_rules.specs.Containment.{calls_in_conditions}
+use Rattle.st_types.specs.StatementViews.{arm_view}
+use Rattle.st_types.specs.Statements.{arms_of}
 use Rattle.st_decl.proofs.calls.push_conditions.Given as goal
 
 abbrev pub invariant-loop-arm : goal.invariant-loop-arm

@@ -1,7 +1,7 @@
 use Rattle.std.proofs.Common.{◌≡◌, ◌++◌, map, drop}
 use Rattle.std.specs.List.{flat_map}
-use Rattle.st_statics.specs.Containment.{calls_in_statement}
-use Rattle.st_trees.specs.StatementViews.{stmt_view}
+use Rattle.st_rules.specs.Containment.{calls_in_statement}
+use Rattle.st_types.specs.StatementViews.{stmt_view}
 use Rattle.st_decl.proofs.calls.push_statements.Given as goal
 
 abbrev pub invariant-loop-statement : goal.invariant-loop-statement

@@ -1,8 +1,8 @@
 use Rattle.std.proofs.Common.{ap, ◌∙◌, map}
 use Rattle.std.specs.List.{flat_map}
-use Rattle.st_trees.specs.SourceViews.{source_view}
-use Rattle.st_statics.specs.DeclaredTypes.{named_arrays_of_element, arrays_in, unnamed_arrays_in}
-use Rattle.st_statics.specs.TypeRules.{wrong_bounds}
+use Rattle.st_types.specs.SourceViews.{source_view}
+use Rattle.st_rules.specs.DeclaredTypes.{named_arrays_of_element, arrays_in, unnamed_arrays_in}
+use Rattle.st_rules.specs.TypeRules.{wrong_bounds}
 use Rattle.st_decl.proofs.FaultLemmas.{two_pushed}
 use Rattle.st_decl.proofs.declarations.first_wrong_bounds.Goals as goal
 

@@ -1,9 +1,9 @@
 use Rattle.std.proofs.Common.{rules, ap, ◌∙◌, map}
 use Rattle.std.specs.List.{flat_map}
-use Rattle.st_trees.specs.DeclarationViews.{type_declaration_view}
-use Rattle.st_trees.specs.SourceViews.{source_view}
-use Rattle.st_types.specs.NameTypes.{declared_in}
-use Rattle.st_statics.specs.InitialRules.{starts_of_declaring}
+use Rattle.st_types.specs.DeclarationViews.{type_declaration_view}
+use Rattle.st_types.specs.SourceViews.{source_view}
+use Rattle.st_meaning.specs.NameTypes.{declared_in}
+use Rattle.st_rules.specs.InitialRules.{starts_of_declaring}
 use Rattle.st_decl.proofs.declarations.starts_in.Goals as goal
 
 pub returns : goal.returns

@@ -1,7 +1,7 @@
 use Rattle.std.proofs.Common.{◌∙◌}
 use Rattle.std.specs.List.{flat_map}
-use Rattle.st_trees.specs.SourceViews.{source_view}
-use Rattle.st_statics.specs.TypeRules.{retained_addresses_of}
+use Rattle.st_types.specs.SourceViews.{source_view}
+use Rattle.st_rules.specs.TypeRules.{retained_addresses_of}
 use Rattle.st_decl.proofs.declarations.wrong_address.Goals as goal
 
 pub returns : goal.returns

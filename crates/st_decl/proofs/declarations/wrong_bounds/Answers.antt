@@ -1,13 +1,13 @@
 use Rattle.std.proofs.Common.{subst}
 use Rattle.std.specs.List.{flat_map}
-use Rattle.st_trees.specs.SourceViews.{source_view}
-use Rattle.st_types.specs.NameTypes.{declared_in}
-use Rattle.st_statics.specs.declared.rule.Rule.TheVariants.{WrongBounds}
-use Rattle.st_statics.specs.DeclaredTypes.{arrays_in}
-use Rattle.st_statics.specs.Faults.{breaking, Finds}
-use Rattle.st_statics.specs.TypeRules.{wrong_bounds}
-use Rattle.st_statics.specs.InitialRules.{too_long}
-use Rattle.st_statics.specs.Rules.{starts_in}
+use Rattle.st_types.specs.SourceViews.{source_view}
+use Rattle.st_meaning.specs.NameTypes.{declared_in}
+use Rattle.st_rules.specs.declared.rule.Rule.TheVariants.{WrongBounds}
+use Rattle.st_rules.specs.DeclaredTypes.{arrays_in}
+use Rattle.st_rules.specs.Faults.{breaking, Finds}
+use Rattle.st_rules.specs.TypeRules.{wrong_bounds}
+use Rattle.st_rules.specs.InitialRules.{too_long}
+use Rattle.st_rules.specs.Rules.{starts_in}
 use Rattle.st_decl.proofs.FaultLemmas.{fault_in_front, faults_behind}
 use Rattle.st_decl.proofs.declarations.wrong_bounds.Goals as goal
 

@@ -1,15 +1,15 @@
 use Rattle.std.proofs.Common.{subst, ◌++◌}
 use Rattle.std.specs.List.{flat_map}
-use Rattle.st_trees.specs.SourceViews.{source_view}
-use Rattle.st_types.specs.NameTypes.{declared_in}
-use Rattle.st_statics.specs.declared.rule.Rule.TheVariants.{DeclaredTwice, TooDeep, WrongBounds, RetainedAddress}
-use Rattle.st_statics.specs.DeclaredTypes.{arrays_in}
-use Rattle.st_statics.specs.TwiceDeclared.{twice_declared}
-use Rattle.st_statics.specs.Containment.{too_deep}
-use Rattle.st_statics.specs.Faults.{breaking, Finds}
-use Rattle.st_statics.specs.TypeRules.{wrong_bounds, retained_addresses_of}
-use Rattle.st_statics.specs.InitialRules.{too_long}
-use Rattle.st_statics.specs.Rules.{starts_in}
+use Rattle.st_types.specs.SourceViews.{source_view}
+use Rattle.st_meaning.specs.NameTypes.{declared_in}
+use Rattle.st_rules.specs.declared.rule.Rule.TheVariants.{DeclaredTwice, TooDeep, WrongBounds, RetainedAddress}
+use Rattle.st_rules.specs.DeclaredTypes.{arrays_in}
+use Rattle.st_rules.specs.TwiceDeclared.{twice_declared}
+use Rattle.st_rules.specs.Containment.{too_deep}
+use Rattle.st_rules.specs.Faults.{breaking, Finds}
+use Rattle.st_rules.specs.TypeRules.{wrong_bounds, retained_addresses_of}
+use Rattle.st_rules.specs.InitialRules.{too_long}
+use Rattle.st_rules.specs.Rules.{starts_in}
 use Rattle.st_decl.proofs.FaultLemmas.{fault_of_first, fault_of_middle}
 use Rattle.st_decl.proofs.declarations.wrong_declaration.Goals as goal
 

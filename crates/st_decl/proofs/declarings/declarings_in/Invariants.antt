@@ -1,8 +1,8 @@
 use Rattle.std.proofs.Common.{◌≡◌, ◌++◌, map, drop}
 use Rattle.std.specs.List.{flat_map}
 use Rattle.st_decl.specs.DeclaringViews.{declaring_view}
-use Rattle.st_statics.specs.DeclaredTypes.{declarings_of_element}
-use Rattle.st_trees.specs.SourceViews.{element_view}
+use Rattle.st_rules.specs.DeclaredTypes.{declarings_of_element}
+use Rattle.st_types.specs.SourceViews.{element_view}
 use Rattle.st_decl.proofs.declarings.declarings_in.Given as goal
 
 abbrev pub invariant-loop-element : goal.invariant-loop-element

@@ -1,7 +1,7 @@
 use Rattle.std.proofs.Common.{◌≡◌, ◌++◌, map, drop}
 use Rattle.st_decl.specs.DeclaringViews.{declaring_view}
-use Rattle.st_statics.specs.DeclaredTypes as rules
-use Rattle.st_trees.specs.DeclarationViews.{declaration_view}
+use Rattle.st_rules.specs.DeclaredTypes as rules
+use Rattle.st_types.specs.DeclarationViews.{declaration_view}
 use Rattle.st_decl.proofs.declarings.push_block.Given as goal
 
 abbrev pub invariant-loop-declaration : goal.invariant-loop-declaration

@@ -1,8 +1,8 @@
 use Rattle.std.proofs.Common.{◌≡◌, ◌++◌, map, drop}
 use Rattle.std.specs.List.{flat_map}
 use Rattle.st_decl.specs.DeclaringViews.{declaring_view}
-use Rattle.st_statics.specs.DeclaredTypes.{declarings_of_globals}
-use Rattle.st_trees.specs.ConfigurationViews.{global_block_view}
+use Rattle.st_rules.specs.DeclaredTypes.{declarings_of_globals}
+use Rattle.st_types.specs.ConfigurationViews.{global_block_view}
 use Rattle.st_decl.proofs.declarings.push_configuration.Given as goal
 
 abbrev pub invariant-loop-block : goal.invariant-loop-block

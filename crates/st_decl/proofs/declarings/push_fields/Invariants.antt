@@ -1,7 +1,7 @@
 use Rattle.std.proofs.Common.{◌≡◌, ◌++◌, map, drop}
 use Rattle.st_decl.specs.DeclaringViews.{declaring_view}
-use Rattle.st_statics.specs.DeclaredTypes as rules
-use Rattle.st_trees.specs.DeclarationViews.{field_view}
+use Rattle.st_rules.specs.DeclaredTypes as rules
+use Rattle.st_types.specs.DeclarationViews.{field_view}
 use Rattle.st_decl.proofs.declarings.push_fields.Given as goal
 
 abbrev pub invariant-loop-field : goal.invariant-loop-field

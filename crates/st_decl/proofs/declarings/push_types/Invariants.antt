@@ -1,8 +1,8 @@
 use Rattle.std.proofs.Common.{◌≡◌, ◌++◌, map, drop}
 use Rattle.std.specs.List.{flat_map}
 use Rattle.st_decl.specs.DeclaringViews.{declaring_view}
-use Rattle.st_statics.specs.DeclaredTypes.{declarings_of_definition}
-use Rattle.st_trees.specs.DeclarationViews.{type_declaration_view}
+use Rattle.st_rules.specs.DeclaredTypes.{declarings_of_definition}
+use Rattle.st_types.specs.DeclarationViews.{type_declaration_view}
 use Rattle.st_decl.proofs.declarings.push_types.Given as goal
 
 abbrev pub invariant-loop-declaration : goal.invariant-loop-declaration

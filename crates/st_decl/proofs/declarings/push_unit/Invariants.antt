@@ -1,8 +1,8 @@
 use Rattle.std.proofs.Common.{◌≡◌, ◌++◌, map, drop}
 use Rattle.std.specs.List.{flat_map}
 use Rattle.st_decl.specs.DeclaringViews.{declaring_view}
-use Rattle.st_statics.specs.DeclaredTypes.{declarings_of_block}
-use Rattle.st_trees.specs.DeclarationViews.{variable_block_view}
+use Rattle.st_rules.specs.DeclaredTypes.{declarings_of_block}
+use Rattle.st_types.specs.DeclarationViews.{variable_block_view}
 use Rattle.st_decl.proofs.declarings.push_unit.Given as goal
 
 abbrev pub invariant-loop-block : goal.invariant-loop-block

@@ -1,7 +1,7 @@
 use Rattle.std.proofs.Common.{◌≡◌, ◌++◌, map, drop}
-use Rattle.st_trees.specs.DeclarationViews.{type_declaration_view}
-use Rattle.st_trees.specs.SourceViews.{element_view}
-use Rattle.st_types.specs.NameTypes.{types_in}
+use Rattle.st_types.specs.DeclarationViews.{type_declaration_view}
+use Rattle.st_types.specs.SourceViews.{element_view}
+use Rattle.st_meaning.specs.NameTypes.{types_in}
 use Rattle.st_decl.proofs.elements.types_in.Given as goal
 
 abbrev pub invariant-loop-element : goal.invariant-loop-element

@@ -1,7 +1,7 @@
 use Rattle.std.proofs.Common.{◌≡◌, ◌++◌, map, drop}
-use Rattle.st_trees.specs.UnitViews.{unit_view}
-use Rattle.st_trees.specs.SourceViews.{element_view}
-use Rattle.st_types.specs.NameTypes.{units_in}
+use Rattle.st_types.specs.UnitViews.{unit_view}
+use Rattle.st_types.specs.SourceViews.{element_view}
+use Rattle.st_meaning.specs.NameTypes.{units_in}
 use Rattle.st_decl.proofs.elements.units_in.Given as goal
 
 abbrev pub invariant-loop-element : goal.invariant-loop-element

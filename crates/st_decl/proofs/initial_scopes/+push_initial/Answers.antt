@@ -1,6 +1,6 @@
 use Rattle.std.proofs.Common.{refl}
-use Rattle.st_trees.specs.Initials.{elements_of, members_of}
-use Rattle.st_statics.specs.InitialScopes.{scopes_in_initial, scopes_in_list, scopes_in_list_element, scopes_in_members}
+use Rattle.st_types.specs.Initials.{elements_of, members_of}
+use Rattle.st_rules.specs.InitialScopes.{scopes_in_initial, scopes_in_list, scopes_in_list_element, scopes_in_members}
 use Rattle.st_decl.proofs.PushLemmas.{tree_turn, tree_all}
 use Rattle.st_decl.proofs.initial_scopes.+push_initial.Goals as goal
 

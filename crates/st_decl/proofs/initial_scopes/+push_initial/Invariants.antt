@@ -1,7 +1,7 @@
 use Rattle.std.proofs.Common.{◌≡◌, ◌++◌, map, drop}
-use Rattle.st_trees.specs.Initials.{elements_of, members_of}
-use Rattle.st_trees.specs.InitialViews.{element_view, member_view}
-use Rattle.st_statics.specs.InitialScopes.{scopes_in_list, scopes_in_members}
+use Rattle.st_types.specs.Initials.{elements_of, members_of}
+use Rattle.st_types.specs.InitialViews.{element_view, member_view}
+use Rattle.st_rules.specs.InitialScopes.{scopes_in_list, scopes_in_members}
 use Rattle.st_decl.proofs.initial_scopes.+push_initial.Given as goal
 
 abbrev pub invariant-push_list-loop-element : goal.invariant-push_list-loop-element

@@ -1,6 +1,6 @@
 use Rattle.std.proofs.Common.{refl, [], ◌∷◌}
-use Rattle.st_trees.specs.Initials.{members_of}
-use Rattle.st_statics.specs.InitialScopes.{names_of_members}
+use Rattle.st_types.specs.Initials.{members_of}
+use Rattle.st_rules.specs.InitialScopes.{names_of_members}
 use Rattle.st_decl.proofs.PushLemmas.{tree_turn, tree_all, seen_push}
 use Rattle.st_decl.proofs.initial_scopes.names_of_members.Goals as goal
 

@@ -1,7 +1,7 @@
 use Rattle.std.proofs.Common.{◌≡◌, ◌++◌, map, drop}
-use Rattle.st_trees.specs.Initials.{members_of}
-use Rattle.st_trees.specs.InitialViews.{member_view}
-use Rattle.st_statics.specs.InitialScopes.{names_of_members}
+use Rattle.st_types.specs.Initials.{members_of}
+use Rattle.st_types.specs.InitialViews.{member_view}
+use Rattle.st_rules.specs.InitialScopes.{names_of_members}
 use Rattle.st_decl.proofs.initial_scopes.names_of_members.Given as goal
 
 abbrev pub invariant-loop-member : goal.invariant-loop-member

@@ -1,6 +1,6 @@
 use Rattle.std.proofs.Common.{◌≡◌, ◌++◌, map, drop}
 use Rattle.st_decl.specs.Parts.{part_view, link_of}
-use Rattle.st_names.specs.Found.{found}
+use Rattle.symbols.specs.Found.{found}
 use Rattle.st_decl.proofs.links.links_of.Given as goal
 
 abbrev pub invariant-loop-part : goal.invariant-loop-part

@@ -1,5 +1,5 @@
 use Rattle.std.proofs.Common.{◌≡◌, List, ℕ, map, drop}
-use Rattle.st_names.specs.Found.{found, or_found}
+use Rattle.symbols.specs.Found.{found, or_found}
 use Rattle.st_decl.specs.Parts.{number_in}
 use Rattle.st_decl.proofs.links.numbered.Given as goal
 

@@ -1,5 +1,5 @@
 use Rattle.std.proofs.Common.{◌≡◌, ◌++◌, map, drop}
-use Rattle.st_trees.specs.DeclarationViews.{type_declaration_view}
+use Rattle.st_types.specs.DeclarationViews.{type_declaration_view}
 use Rattle.st_decl.proofs.links.push_type_names.Given as goal
 
 abbrev pub invariant-loop-declaration : goal.invariant-loop-declaration

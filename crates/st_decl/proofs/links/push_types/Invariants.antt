@@ -1,8 +1,8 @@
 use Rattle.std.proofs.Common.{◌≡◌, ◌++◌, map, drop}
 use Rattle.st_decl.specs.Parts.{link_of}
-use Rattle.st_names.specs.Found.{found}
-use Rattle.st_statics.specs.Containment.{parts_of_definition}
-use Rattle.st_trees.specs.DeclarationViews.{type_declaration_view}
+use Rattle.symbols.specs.Found.{found}
+use Rattle.st_rules.specs.Containment.{parts_of_definition}
+use Rattle.st_types.specs.DeclarationViews.{type_declaration_view}
 use Rattle.st_decl.proofs.links.push_types.Given as goal
 
 abbrev pub invariant-loop-declaration : goal.invariant-loop-declaration

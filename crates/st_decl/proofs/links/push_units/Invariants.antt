@@ -1,9 +1,9 @@
 use Rattle.std.proofs.Common.{◌≡◌, ◌++◌, map, drop}
-use Rattle.st_trees.specs.UnitViews.{unit_view}
-use Rattle.st_types.specs.NameTypes.{Declared}
-use Rattle.st_statics.specs.Containment.{parts_of_unit}
-use Rattle.st_names.specs.Found.{found}
-use Rattle.st_names.specs.Texts.{ServesText}
+use Rattle.st_types.specs.UnitViews.{unit_view}
+use Rattle.st_meaning.specs.NameTypes.{Declared}
+use Rattle.st_rules.specs.Containment.{parts_of_unit}
+use Rattle.symbols.specs.Found.{found}
+use Rattle.symbols.specs.Texts.{ServesText}
 use Rattle.st_decl.specs.Parts.{link_of}
 use Rattle.st_decl.proofs.links.push_units.Given as goal
 

@@ -1,7 +1,7 @@
 use Rattle.std.proofs.Common.{◌≡◌, nat_lt, map, drop}
-use Rattle.st_trees.specs.Initials.{elements_of}
-use Rattle.st_trees.specs.InitialViews.{element_view}
-use Rattle.st_statics.specs.InitialRules.{count_of_elements}
+use Rattle.st_types.specs.Initials.{elements_of}
+use Rattle.st_types.specs.InitialViews.{element_view}
+use Rattle.st_rules.specs.InitialRules.{count_of_elements}
 use Rattle.st_decl.proofs.long_lists.exceeds.Given as goal
 
 abbrev pub invariant-loop-element : goal.invariant-loop-element

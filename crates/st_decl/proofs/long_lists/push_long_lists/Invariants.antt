@@ -1,8 +1,8 @@
 use Rattle.std.proofs.Common.{◌≡◌, ◌++◌, map, drop}
 use Rattle.std.specs.List.{flat_map}
-use Rattle.st_types.specs.NameTypes.{Declared}
-use Rattle.st_statics.specs.InitialRules.{too_long}
-use Rattle.st_names.specs.Texts.{ServesText}
+use Rattle.st_meaning.specs.NameTypes.{Declared}
+use Rattle.st_rules.specs.InitialRules.{too_long}
+use Rattle.symbols.specs.Texts.{ServesText}
 use Rattle.st_decl.specs.StartViews.{start_view}
 use Rattle.st_decl.proofs.long_lists.push_long_lists.Given as goal
 

@@ -1,7 +1,7 @@
 use Rattle.std.proofs.Common.{◌≡◌, ◌++◌, map, drop}
 use Rattle.std.specs.List.{flat_map}
-use Rattle.st_trees.specs.ConfigurationViews.{global_block_view}
-use Rattle.st_statics.specs.NameScopes.{globals_of_block}
+use Rattle.st_types.specs.ConfigurationViews.{global_block_view}
+use Rattle.st_rules.specs.NameScopes.{globals_of_block}
 use Rattle.st_decl.proofs.names_of.globals_of.Given as goal
 
 abbrev pub invariant-loop-block : goal.invariant-loop-block

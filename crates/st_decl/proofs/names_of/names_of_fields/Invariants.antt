@@ -1,5 +1,5 @@
 use Rattle.std.proofs.Common.{◌≡◌, ◌++◌, map, drop}
-use Rattle.st_trees.specs.DeclarationViews.{field_view}
+use Rattle.st_types.specs.DeclarationViews.{field_view}
 use Rattle.st_decl.proofs.names_of.names_of_fields.Given as goal
 
 abbrev pub invariant-loop-field : goal.invariant-loop-field

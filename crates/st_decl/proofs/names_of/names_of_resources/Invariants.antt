@@ -1,5 +1,5 @@
 use Rattle.std.proofs.Common.{◌≡◌, ◌++◌, map, drop}
-use Rattle.st_trees.specs.ConfigurationViews.{resource_view}
+use Rattle.st_types.specs.ConfigurationViews.{resource_view}
 use Rattle.st_decl.proofs.names_of.names_of_resources.Given as goal
 
 abbrev pub invariant-loop-resource : goal.invariant-loop-resource

@@ -1,6 +1,6 @@
 use Rattle.std.proofs.Common.{◌≡◌, ◌++◌, map, drop}
 use Rattle.std.specs.List.{flat_map}
-use Rattle.st_trees.specs.DeclarationViews.{declaration_view}
+use Rattle.st_types.specs.DeclarationViews.{declaration_view}
 use Rattle.st_decl.proofs.names_of.push_declared.Given as goal
 
 abbrev pub invariant-loop-declaration : goal.invariant-loop-declaration

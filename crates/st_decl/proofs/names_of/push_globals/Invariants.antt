@@ -1,7 +1,7 @@
 use Rattle.std.proofs.Common.{◌≡◌, ◌++◌, map, drop}
 use Rattle.std.specs.List.{flat_map}
-use Rattle.st_trees.specs.ConfigurationViews.{global_declaration_view}
-use Rattle.st_statics.specs.NameScopes.{listed_names}
+use Rattle.st_types.specs.ConfigurationViews.{global_declaration_view}
+use Rattle.st_rules.specs.NameScopes.{listed_names}
 use Rattle.st_decl.proofs.names_of.push_globals.Given as goal
 
 abbrev pub invariant-loop-declaration : goal.invariant-loop-declaration

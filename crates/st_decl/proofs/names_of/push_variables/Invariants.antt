@@ -1,7 +1,7 @@
 use Rattle.std.proofs.Common.{◌≡◌, ◌++◌, map, drop}
 use Rattle.std.specs.List.{flat_map}
-use Rattle.st_trees.specs.DeclarationViews.{variable_block_view}
-use Rattle.st_statics.specs.NameScopes.{variables_of_block}
+use Rattle.st_types.specs.DeclarationViews.{variable_block_view}
+use Rattle.st_rules.specs.NameScopes.{variables_of_block}
 use Rattle.st_decl.proofs.names_of.push_variables.Given as goal
 
 abbrev pub invariant-loop-block : goal.invariant-loop-block

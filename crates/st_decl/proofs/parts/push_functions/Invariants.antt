@@ -1,8 +1,8 @@
 use Rattle.std.proofs.Common.{◌≡◌, ◌++◌, map, drop, filter}
-use Rattle.st_types.specs.NameTypes.{Declared}
-use Rattle.st_statics.specs.Containment as rules
-use Rattle.st_statics.specs.Containment.{is_function}
-use Rattle.st_names.specs.Texts.{ServesText}
+use Rattle.st_meaning.specs.NameTypes.{Declared}
+use Rattle.st_rules.specs.Containment as rules
+use Rattle.st_rules.specs.Containment.{is_function}
+use Rattle.symbols.specs.Texts.{ServesText}
 use Rattle.st_decl.specs.Parts.{part_view}
 use Rattle.st_decl.proofs.parts.push_functions.Given as goal
 

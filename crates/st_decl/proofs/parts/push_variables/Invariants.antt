@@ -1,7 +1,7 @@
 use Rattle.std.proofs.Common.{◌≡◌, ◌++◌, map, drop}
 use Rattle.st_decl.specs.Parts.{part_view}
-use Rattle.st_statics.specs.Containment.{part_of_type}
-use Rattle.st_trees.specs.DeclarationViews.{declaration_view}
+use Rattle.st_rules.specs.Containment.{part_of_type}
+use Rattle.st_types.specs.DeclarationViews.{declaration_view}
 use Rattle.st_decl.proofs.parts.push_variables.Given as goal
 
 abbrev pub invariant-loop-declaration : goal.invariant-loop-declaration

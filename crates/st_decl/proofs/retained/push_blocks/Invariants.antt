@@ -1,7 +1,7 @@
 use Rattle.std.proofs.Common.{◌≡◌, ◌++◌, map, drop}
 use Rattle.std.specs.List.{flat_map}
-use Rattle.st_statics.specs.TypeRules.{retained_address}
-use Rattle.st_trees.specs.ConfigurationViews.{global_block_view}
+use Rattle.st_rules.specs.TypeRules.{retained_address}
+use Rattle.st_types.specs.ConfigurationViews.{global_block_view}
 use Rattle.st_decl.proofs.retained.push_blocks.Given as goal
 
 abbrev pub invariant-loop-block : goal.invariant-loop-block

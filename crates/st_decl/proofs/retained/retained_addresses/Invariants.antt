@@ -1,7 +1,7 @@
 use Rattle.std.proofs.Common.{◌≡◌, ◌++◌, map, drop}
 use Rattle.std.specs.List.{flat_map}
-use Rattle.st_statics.specs.TypeRules.{retained_addresses_of}
-use Rattle.st_trees.specs.SourceViews.{element_view}
+use Rattle.st_rules.specs.TypeRules.{retained_addresses_of}
+use Rattle.st_types.specs.SourceViews.{element_view}
 use Rattle.st_decl.proofs.retained.retained_addresses.Given as goal
 
 abbrev pub invariant-loop-element : goal.invariant-loop-element

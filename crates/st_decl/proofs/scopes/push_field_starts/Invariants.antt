@@ -1,7 +1,7 @@
 use Rattle.std.proofs.Common.{◌≡◌, ◌++◌, map, drop}
 use Rattle.std.specs.List.{flat_map}
-use Rattle.st_trees.specs.DeclarationViews.{field_view}
-use Rattle.st_statics.specs.InitialScopes.{scopes_in_optional}
+use Rattle.st_types.specs.DeclarationViews.{field_view}
+use Rattle.st_rules.specs.InitialScopes.{scopes_in_optional}
 use Rattle.st_decl.proofs.scopes.push_field_starts.Given as goal
 
 abbrev pub invariant-loop-field : goal.invariant-loop-field

@@ -1,7 +1,7 @@
 use Rattle.std.proofs.Common.{◌≡◌, ◌++◌, map, drop}
 use Rattle.std.specs.List.{flat_map}
-use Rattle.st_trees.specs.ConfigurationViews.{global_declaration_view}
-use Rattle.st_statics.specs.InitialScopes.{scopes_in_optional}
+use Rattle.st_types.specs.ConfigurationViews.{global_declaration_view}
+use Rattle.st_rules.specs.InitialScopes.{scopes_in_optional}
 use Rattle.st_decl.proofs.scopes.push_global_starts.Given as goal
 
 abbrev pub invariant-loop-declaration : goal.invariant-loop-declaration

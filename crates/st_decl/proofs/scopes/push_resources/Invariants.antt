@@ -1,6 +1,6 @@
 use Rattle.std.proofs.Common.{◌≡◌, ◌++◌, map, drop}
-use Rattle.st_trees.specs.ConfigurationViews.{resource_view}
-use Rattle.st_statics.specs.NameScopes.{names_in}
+use Rattle.st_types.specs.ConfigurationViews.{resource_view}
+use Rattle.st_rules.specs.NameScopes.{names_in}
 use Rattle.st_decl.proofs.scopes.push_resources.Given as goal
 
 abbrev pub invariant-loop-resource : goal.invariant-loop-resource

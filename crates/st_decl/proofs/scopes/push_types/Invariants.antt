@@ -1,7 +1,7 @@
 use Rattle.std.proofs.Common.{◌≡◌, ◌++◌, map, drop}
 use Rattle.std.specs.List.{flat_map}
-use Rattle.st_trees.specs.DeclarationViews.{type_declaration_view}
-use Rattle.st_statics.specs.NameScopes.{scopes_of_type}
+use Rattle.st_types.specs.DeclarationViews.{type_declaration_view}
+use Rattle.st_rules.specs.NameScopes.{scopes_of_type}
 use Rattle.st_decl.proofs.scopes.push_types.Given as goal
 
 abbrev pub invariant-loop-declaration : goal.invariant-loop-declaration

@@ -1,9 +1,9 @@
 use Rattle.std.proofs.Common.{refl, ap, ◌∙◌, ◌∷◌, ◌++◌, map, option_map}
-use Rattle.st_trees.specs.Initials.{elements_of, members_of}
-use Rattle.st_trees.specs.InitialViews.{initial_view}
-use Rattle.st_types.specs.ResolvedUnits.{field_of}
-use Rattle.st_statics.specs.InitialRules.{start, starts_below, starts_of_element, starts_of_elements, starts_of_members}
-use Rattle.st_names.specs.PlaceTypes.{place_type_view}
+use Rattle.st_types.specs.Initials.{elements_of, members_of}
+use Rattle.st_types.specs.InitialViews.{initial_view}
+use Rattle.st_meaning.specs.ResolvedUnits.{field_of}
+use Rattle.st_rules.specs.InitialRules.{start, starts_below, starts_of_element, starts_of_elements, starts_of_members}
+use Rattle.symbols.specs.PlaceTypes.{place_type_view}
 use Rattle.st_decl.specs.StartViews.{start_view}
 use Rattle.st_decl.proofs.PushLemmas.{tree_turn, tree_all}
 use Rattle.st_decl.proofs.starts.+push_start.Goals as goal

@@ -1,11 +1,11 @@
 use Rattle.std.proofs.Common.{◌≡◌, ◌++◌, map, option_map, drop}
-use Rattle.st_trees.specs.Initials.{elements_of, members_of}
-use Rattle.st_trees.specs.InitialViews.{element_view, member_view}
-use Rattle.st_types.specs.NameTypes.{Declared}
-use Rattle.st_statics.specs.InitialRules.{starts_of_elements, starts_of_members}
-use Rattle.st_names.specs.Texts.{ServesText}
-use Rattle.st_names.specs.Fields.{ServesFields}
-use Rattle.st_names.specs.PlaceTypes.{place_type_view}
+use Rattle.st_types.specs.Initials.{elements_of, members_of}
+use Rattle.st_types.specs.InitialViews.{element_view, member_view}
+use Rattle.st_meaning.specs.NameTypes.{Declared}
+use Rattle.st_rules.specs.InitialRules.{starts_of_elements, starts_of_members}
+use Rattle.symbols.specs.Texts.{ServesText}
+use Rattle.symbols.specs.Fields.{ServesFields}
+use Rattle.symbols.specs.PlaceTypes.{place_type_view}
 use Rattle.st_decl.specs.StartViews.{start_view}
 use Rattle.st_decl.proofs.starts.+push_start.Given as goal
 

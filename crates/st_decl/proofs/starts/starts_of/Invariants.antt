@@ -1,9 +1,9 @@
 use Rattle.std.proofs.Common.{◌≡◌, ◌++◌, map, drop}
 use Rattle.std.specs.List.{flat_map}
-use Rattle.st_types.specs.NameTypes.{Declared}
-use Rattle.st_statics.specs.InitialRules.{starts_of_declaring}
-use Rattle.st_names.specs.Texts.{ServesText}
-use Rattle.st_names.specs.Fields.{ServesFields}
+use Rattle.st_meaning.specs.NameTypes.{Declared}
+use Rattle.st_rules.specs.InitialRules.{starts_of_declaring}
+use Rattle.symbols.specs.Texts.{ServesText}
+use Rattle.symbols.specs.Fields.{ServesFields}
 use Rattle.st_decl.specs.DeclaringViews.{declaring_view}
 use Rattle.st_decl.specs.StartViews.{start_view}
 use Rattle.st_decl.proofs.starts.starts_of.Given as goal

@@ -1,6 +1,6 @@
 use Rattle.std.proofs.Common.{rules, refl, ap, ◌∙◌, ◌∷◌, ◌++◌, map}
-use Rattle.st_trees.specs.Statements.{stmts_of, arms_of, case_arms_of}
-use Rattle.st_trees.specs.StatementViews.{stmt_view, stmts_view, arm_view, case_arm_view}
+use Rattle.st_types.specs.Statements.{stmts_of, arms_of, case_arms_of}
+use Rattle.st_types.specs.StatementViews.{stmt_view, stmts_view, arm_view, case_arm_view}
 use Rattle.st_decl.specs.Flattened.{all_below, all_in, all_in_arms, all_in_case_arms}
 use Rattle.st_decl.proofs.FlatLemmas.{if_below, case_below, joined}
 use Rattle.st_decl.proofs.PushLemmas.{tree_turn, tree_all, after_one}

@@ -1,6 +1,6 @@
 use Rattle.std.proofs.Common.{◌≡◌, ◌++◌, map, drop}
-use Rattle.st_trees.specs.StatementViews.{stmt_view, stmts_view, arm_view, case_arm_view}
-use Rattle.st_trees.specs.Statements.{arms_of, case_arms_of}
+use Rattle.st_types.specs.StatementViews.{stmt_view, stmts_view, arm_view, case_arm_view}
+use Rattle.st_types.specs.Statements.{arms_of, case_arms_of}
 use Rattle.st_decl.specs.Flattened.{all_in, all_in_arms, all_in_case_arms}
 use Rattle.st_decl.proofs.statements.+push_all.Given as goal
 

@@ -1,13 +1,13 @@
 use Rattle.std.proofs.Common.{refl, ◌≡◌, subst, ◌++◌, map}
 use Rattle.std.specs.Prelude.{IfOk}
 use Rattle.std.specs.List.{flat_map}
-use Rattle.st_statics.specs.Containment.{too_deep_types, too_deep_units, too_deep_array}
+use Rattle.st_rules.specs.Containment.{too_deep_types, too_deep_units, too_deep_array}
 use Rattle.st_decl.specs.Places.{first}
-use Rattle.st_trees.specs.DeclarationViews.{type_declaration_view}
-use Rattle.st_trees.specs.UnitViews.{unit_view}
-use Rattle.st_trees.specs.SourceViews.{source_view}
-use Rattle.st_types.specs.NameTypes.{Declared, declared_in}
-use Rattle.st_names.specs.Found.{found}
+use Rattle.st_types.specs.DeclarationViews.{type_declaration_view}
+use Rattle.st_types.specs.UnitViews.{unit_view}
+use Rattle.st_types.specs.SourceViews.{source_view}
+use Rattle.st_meaning.specs.NameTypes.{Declared, declared_in}
+use Rattle.symbols.specs.Found.{found}
 use Rattle.st_decl.specs.Numbered.{IsGraphOf, AreJudged}
 use Rattle.st_decl.specs.Parts.{link_of, node_parts}
 use Rattle.st_decl.specs.Walks.{AreDepths}

@@ -1,8 +1,8 @@
 use Rattle.std.proofs.Common.{◌≡◌, ◌++◌, map, drop}
 use Rattle.std.specs.List.{flat_map}
-use Rattle.st_types.specs.NameTypes.{Declared}
-use Rattle.st_statics.specs.Containment.{too_deep_array}
-use Rattle.st_names.specs.Found.{found}
+use Rattle.st_meaning.specs.NameTypes.{Declared}
+use Rattle.st_rules.specs.Containment.{too_deep_array}
+use Rattle.symbols.specs.Found.{found}
 use Rattle.st_decl.specs.Numbered.{AreJudged}
 use Rattle.st_decl.proofs.too_deep.push_arrays.Given as goal
 

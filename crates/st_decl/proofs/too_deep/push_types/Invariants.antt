@@ -1,12 +1,12 @@
 use Rattle.std.proofs.Common.{◌≡◌, ◌++◌, map, drop}
 use Rattle.std.specs.List.{flat_map}
-use Rattle.st_types.specs.NameTypes.{Declared}
-use Rattle.st_statics.specs.Faults.{in_case}
-use Rattle.st_statics.specs.Containment as rules
-use Rattle.st_statics.specs.Containment.{is_too_deep, is_wrong_unit, too_deep_array}
-use Rattle.st_names.specs.Found.{found}
+use Rattle.st_meaning.specs.NameTypes.{Declared}
+use Rattle.st_rules.specs.Faults.{in_case}
+use Rattle.st_rules.specs.Containment as rules
+use Rattle.st_rules.specs.Containment.{is_too_deep, is_wrong_unit, too_deep_array}
+use Rattle.symbols.specs.Found.{found}
 use Rattle.st_decl.specs.Numbered.{AreJudged}
-use Rattle.st_trees.specs.DeclarationViews.{type_declaration_view}
+use Rattle.st_types.specs.DeclarationViews.{type_declaration_view}
 use Rattle.st_decl.proofs.too_deep.push_types.Given as goal
 
 abbrev pub invariant-loop-declaration : goal.invariant-loop-declaration

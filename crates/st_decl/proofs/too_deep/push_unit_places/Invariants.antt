@@ -1,5 +1,5 @@
 use Rattle.std.proofs.Common.{◌≡◌, ◌++◌, map, drop}
-use Rattle.st_trees.specs.UnitViews.{unit_view}
+use Rattle.st_types.specs.UnitViews.{unit_view}
 use Rattle.st_decl.proofs.too_deep.push_unit_places.Given as goal
 
 abbrev pub invariant-loop-unit : goal.invariant-loop-unit

@@ -1,11 +1,11 @@
 use Rattle.std.proofs.Common.{◌≡◌, ◌++◌, map, drop}
 use Rattle.std.specs.List.{flat_map}
-use Rattle.st_types.specs.NameTypes.{Declared}
-use Rattle.st_statics.specs.Faults.{in_case}
-use Rattle.st_statics.specs.Containment.{is_wrong_unit}
-use Rattle.st_names.specs.Found.{found}
+use Rattle.st_meaning.specs.NameTypes.{Declared}
+use Rattle.st_rules.specs.Faults.{in_case}
+use Rattle.st_rules.specs.Containment.{is_wrong_unit}
+use Rattle.symbols.specs.Found.{found}
 use Rattle.st_decl.specs.Numbered.{AreJudged}
-use Rattle.st_trees.specs.UnitViews.{unit_view}
+use Rattle.st_types.specs.UnitViews.{unit_view}
 use Rattle.st_decl.proofs.too_deep.push_units.Given as goal
 
 abbrev pub invariant-loop-unit : goal.invariant-loop-unit

@@ -1,10 +1,10 @@
 use Rattle.std.proofs.Common.{◌≡◌, ap, subst, ◌∙◌, map}
 use Rattle.std.specs.List.{flat_map}
-use Rattle.st_trees.specs.SourceViews.{source_view}
-use Rattle.st_statics.specs.Places.{places_where, repeats}
-use Rattle.st_statics.specs.NameScopes.{scopes_of, names_of_text, variables_of_text}
-use Rattle.st_statics.specs.TwiceDeclared.{is_standard, is_taken}
-use Rattle.st_names.specs.Searches.{FindsPlace}
+use Rattle.st_types.specs.SourceViews.{source_view}
+use Rattle.st_rules.specs.Places.{places_where, repeats}
+use Rattle.st_rules.specs.NameScopes.{scopes_of, names_of_text, variables_of_text}
+use Rattle.st_rules.specs.TwiceDeclared.{is_standard, is_taken}
+use Rattle.symbols.specs.Searches.{FindsPlace}
 use Rattle.st_decl.proofs.FindLemmas.{finds_first, ok_rest}
 use Rattle.st_decl.proofs.twice_declared.declared_twice.Goals as goal
 

@@ -1,6 +1,6 @@
 use Rattle.std.proofs.Common.{◌≡◌, map, drop}
-use Rattle.st_statics.specs.Places.{places_where}
-use Rattle.st_statics.specs.TwiceDeclared.{is_standard}
+use Rattle.st_rules.specs.Places.{places_where}
+use Rattle.st_rules.specs.TwiceDeclared.{is_standard}
 use Rattle.st_decl.specs.Places.{first}
 use Rattle.st_decl.proofs.twice_declared.first_standard.Given as goal
 

@@ -1,11 +1,11 @@
 use Rattle.std.proofs.Common.{◌≡◌, List, ℕ, map, drop}
 use Rattle.std.specs.Prelude.{is_some}
 use Rattle.std.specs.List.{list_any}
-use Rattle.st_words.specs.declared.identifier.Identifier.{Identifier}
-use Rattle.st_types.specs.NameTypes.{is_named}
-use Rattle.st_statics.specs.Places.{places_where}
-use Rattle.st_statics.specs.TwiceDeclared.{is_taken}
-use Rattle.st_names.specs.Found.{found}
+use Rattle.st_types.specs.declared.identifier.Identifier.{Identifier}
+use Rattle.st_meaning.specs.NameTypes.{is_named}
+use Rattle.st_rules.specs.Places.{places_where}
+use Rattle.st_rules.specs.TwiceDeclared.{is_taken}
+use Rattle.symbols.specs.Found.{found}
 use Rattle.st_decl.specs.Places.{first}
 use Rattle.st_decl.proofs.twice_declared.first_taken.Given as goal
 

@@ -1,6 +1,6 @@
 use Rattle.std.proofs.Common.{rules, subst, map, Some}
-use Rattle.st_statics.specs.Places.{repeats}
-use Rattle.st_names.specs.Searches.{FindsPlace}
+use Rattle.st_rules.specs.Places.{repeats}
+use Rattle.symbols.specs.Searches.{FindsPlace}
 use Rattle.st_decl.proofs.FindLemmas.{found_turn}
 use Rattle.st_decl.proofs.twice_declared.repeat_in_scopes.Goals as goal
 

@@ -2,20 +2,20 @@ use Rattle.std.proofs.Common.{rules, ◌≡◌, ap, sym, subst, ◌∙◌, ◌+�
 use Rattle.std.specs.Prelude.{option_and_then, option_map}
 use Rattle.std.proofs.lemmas.List.{drop_all}
 use Rattle.std.proofs.lemmas.Result.{IfErr-weaker, IfOk-weaker}
-use Rattle.st_trees.specs.declared.expression.Expr as code_expr
-use Rattle.st_trees.specs.declared.expression.Selector as code_selector
-use Rattle.st_trees.specs.declared.expression.Variable as code_variable
-use Rattle.st_trees.specs.Expressions as trees
-use Rattle.st_trees.specs.Expressions.{Selectors, selectors_of, selector_then, member, subscript, variable}
-use Rattle.st_trees.specs.ExpressionViews.{expr_view, selector_view, variable_view}
-use Rattle.st_types.specs.NameTypes.{Declared}
-use Rattle.st_types.specs.StandardFunctions.{standard_of}
-use Rattle.st_names.specs.Agreeing.{Agree}
-use Rattle.st_names.specs.PlaceTypes.{place_type_view}
-use Rattle.st_layouts.specs.Types.{shape_of_type}
+use Rattle.st_types.specs.declared.expression.Expr as code_expr
+use Rattle.st_types.specs.declared.expression.Selector as code_selector
+use Rattle.st_types.specs.declared.expression.Variable as code_variable
+use Rattle.st_types.specs.Expressions as trees
+use Rattle.st_types.specs.Expressions.{Selectors, selectors_of, selector_then, member, subscript, variable}
+use Rattle.st_types.specs.ExpressionViews.{expr_view, selector_view, variable_view}
+use Rattle.st_meaning.specs.NameTypes.{Declared}
+use Rattle.st_meaning.specs.StandardFunctions.{standard_of}
+use Rattle.symbols.specs.Agreeing.{Agree}
+use Rattle.symbols.specs.PlaceTypes.{place_type_view}
+use Rattle.layout.specs.Types.{shape_of_type}
 use Rattle.layout.proofs.PushLemmas.{left_begins}
-use Rattle.slot_bodies.specs.Chains.{exprs_of}
-use Rattle.slot_bodies.specs.ExpressionViews.{anchor_view, place_view, slot_expr_view}
+use Rattle.slot_trees.specs.Chains.{exprs_of}
+use Rattle.slot_trees.specs.ExpressionViews.{anchor_view, place_view, slot_expr_view}
 use Rattle.slot_trees.specs.SlotTrees.{SlotExpr, load, binary}
 use Rattle.slot_trees.specs.SlotTrees as slots
 use Rattle.slot_trees.specs.Linking.{Selected, linked, linked_call, linked_selectors, linked_variable, place_if_plain}

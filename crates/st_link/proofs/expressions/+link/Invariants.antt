@@ -1,18 +1,18 @@
 use Rattle.std.proofs.Common.{map, drop}
-use Rattle.st_trees.specs.Expressions as trees
-use Rattle.st_trees.specs.Expressions.{selectors_of}
-use Rattle.st_trees.specs.ExpressionViews.{expr_view, selector_view}
-use Rattle.st_types.specs.NameTypes.{Declared}
-use Rattle.st_names.specs.PlaceTypes.{place_type_view}
-use Rattle.st_layouts.specs.Types.{shape_of_type}
-use Rattle.slot_bodies.specs.ExpressionViews.{slot_expr_view}
+use Rattle.st_types.specs.Expressions as trees
+use Rattle.st_types.specs.Expressions.{selectors_of}
+use Rattle.st_types.specs.ExpressionViews.{expr_view, selector_view}
+use Rattle.st_meaning.specs.NameTypes.{Declared}
+use Rattle.symbols.specs.PlaceTypes.{place_type_view}
+use Rattle.layout.specs.Types.{shape_of_type}
+use Rattle.slot_trees.specs.ExpressionViews.{slot_expr_view}
 use Rattle.slot_trees.specs.SlotTrees.{SlotExpr}
 use Rattle.slot_trees.specs.Linking.{linked, linked_selectors}
 use Rattle.slot_trees.specs.Tables.{Table}
 use Rattle.std.proofs.Common.{◌≤◌}
-use Rattle.st_words.specs.declared.limits.TheConstants.{MAX_PATHS}
-use Rattle.st_layouts.specs.Shapes.{size}
-use Rattle.shape_tables.specs.Shapes.{IsExpanded}
+use Rattle.st_types.specs.declared.limits.TheConstants.{MAX_PATHS}
+use Rattle.layout.specs.Shapes.{size}
+use Rattle.st_link.specs.Shapes.{IsExpanded}
 use Rattle.st_link.specs.BodyTables.{ServesBody}
 use Rattle.st_link.specs.Places.{LeadsOn}
 use Rattle.st_link.proofs.Sequences.{Turned}

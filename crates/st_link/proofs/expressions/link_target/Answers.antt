@@ -1,14 +1,14 @@
 use Rattle.std.proofs.Common.{rules, ◌≡◌, ap, sym, subst, ◌∙◌, Some, None, Err, map, false}
 use Rattle.std.specs.Prelude.{option_and_then}
 use Rattle.std.proofs.lemmas.Result.{IfErr-weaker, IfOk-weaker}
-use Rattle.st_trees.specs.declared.expression.Variable as code_variable
-use Rattle.st_trees.specs.Expressions.{selectors_of, variable}
-use Rattle.st_trees.specs.ExpressionViews.{selector_view, variable_view}
-use Rattle.st_types.specs.NameTypes.{Declared}
-use Rattle.st_names.specs.Agreeing.{Agree}
-use Rattle.st_names.specs.PlaceTypes.{place_type_view}
-use Rattle.st_layouts.specs.Types.{shape_of_type}
-use Rattle.slot_bodies.specs.ExpressionViews.{anchor_view, place_view}
+use Rattle.st_types.specs.declared.expression.Variable as code_variable
+use Rattle.st_types.specs.Expressions.{selectors_of, variable}
+use Rattle.st_types.specs.ExpressionViews.{selector_view, variable_view}
+use Rattle.st_meaning.specs.NameTypes.{Declared}
+use Rattle.symbols.specs.Agreeing.{Agree}
+use Rattle.symbols.specs.PlaceTypes.{place_type_view}
+use Rattle.layout.specs.Types.{shape_of_type}
+use Rattle.slot_trees.specs.ExpressionViews.{anchor_view, place_view}
 use Rattle.slot_trees.specs.Linking.{linked_selectors, linked_target, place_if_plain}
 use Rattle.slot_trees.specs.Tables.{Table, symbol_of}
 use Rattle.st_link.specs.BodyTables.{IsSymbol, ServesBody}

@@ -1,8 +1,8 @@
 use Rattle.std.proofs.Common.{rules, ◌≡◌, ap, sym, ◌∙◌, Some, None, Err}
 use Rattle.std.specs.Prelude.{option_and_then, option_map}
-use Rattle.st_trees.specs.ExpressionViews.{expr_view, variable_view}
-use Rattle.st_trees.specs.StatementViews.{argument_view}
-use Rattle.slot_bodies.specs.ExpressionViews.{place_view, slot_expr_view}
+use Rattle.st_types.specs.ExpressionViews.{expr_view, variable_view}
+use Rattle.st_types.specs.StatementViews.{argument_view}
+use Rattle.slot_trees.specs.ExpressionViews.{place_view, slot_expr_view}
 use Rattle.slot_trees.specs.SlotTrees.{given, copied}
 use Rattle.slot_trees.specs.Linking.{linked, linked_target}
 use Rattle.slot_trees.specs.LinkedStatements.{linked_argument}

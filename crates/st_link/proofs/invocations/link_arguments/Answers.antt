@@ -1,7 +1,7 @@
 use Rattle.std.proofs.Common.{rules, ◌≡◌, sym, subst, ◌∙◌, ◌+◌, None, Err, map, drop}
-use Rattle.st_trees.specs.Statements as trees
-use Rattle.st_trees.specs.StatementViews.{argument_view}
-use Rattle.slot_bodies.specs.StatementViews.{slot_argument_view}
+use Rattle.st_types.specs.Statements as trees
+use Rattle.st_types.specs.StatementViews.{argument_view}
+use Rattle.slot_trees.specs.StatementViews.{slot_argument_view}
 use Rattle.slot_trees.specs.LinkedStatements.{linked_argument}
 use Rattle.st_link.proofs.ErrorLemmas.{none_then}
 use Rattle.st_link.proofs.Sequences.{turned_all, turned_more, turned_none}

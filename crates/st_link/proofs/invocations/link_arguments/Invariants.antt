@@ -1,10 +1,10 @@
 use Rattle.std.proofs.Common.{map, drop}
-use Rattle.st_trees.specs.Statements as trees
-use Rattle.st_trees.specs.StatementViews.{argument_view}
-use Rattle.st_types.specs.NameTypes.{Declared}
-use Rattle.st_names.specs.PlaceTypes.{place_type_view}
-use Rattle.st_layouts.specs.Shapes.{Parts}
-use Rattle.slot_bodies.specs.StatementViews.{slot_argument_view}
+use Rattle.st_types.specs.Statements as trees
+use Rattle.st_types.specs.StatementViews.{argument_view}
+use Rattle.st_meaning.specs.NameTypes.{Declared}
+use Rattle.symbols.specs.PlaceTypes.{place_type_view}
+use Rattle.layout.specs.Shapes.{Parts}
+use Rattle.slot_trees.specs.StatementViews.{slot_argument_view}
 use Rattle.slot_trees.specs.SlotTrees.{SlotArgument}
 use Rattle.slot_trees.specs.LinkedStatements.{linked_argument}
 use Rattle.slot_trees.specs.Tables.{Table}

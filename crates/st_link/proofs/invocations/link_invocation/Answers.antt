@@ -1,9 +1,9 @@
 use Rattle.std.proofs.Common.{rules, ◌≡◌, ap, sym, subst, ◌∙◌, Some, None, Err, map, true}
 use Rattle.std.specs.Prelude.{option_map}
-use Rattle.st_trees.specs.StatementViews.{argument_view}
-use Rattle.st_names.specs.Agreeing.{Agree}
-use Rattle.slot_bodies.specs.ExpressionViews.{anchor_view}
-use Rattle.slot_bodies.specs.StatementViews.{block_code_view, slot_argument_view}
+use Rattle.st_types.specs.StatementViews.{argument_view}
+use Rattle.symbols.specs.Agreeing.{Agree}
+use Rattle.slot_trees.specs.ExpressionViews.{anchor_view}
+use Rattle.slot_trees.specs.StatementViews.{block_code_view, slot_argument_view}
 use Rattle.slot_trees.specs.LinkedStatements.{code_of}
 use Rattle.slot_trees.specs.Tables.{symbol_of}
 use Rattle.st_link.specs.BodyTables.{IsSymbol}

@@ -4,9 +4,9 @@ use mir.Val.{SFits, to_z, of_z}
 use mir.Syntax.{w128}
 use Rattle.std.specs.Prelude.{ℤ}
 use Rattle.std.proofs.lemmas.List.{map-append}
-use Rattle.slot_bodies.specs.declared.expression.Subscript as code_subscript
-use Rattle.slot_bodies.specs.Chains.{Subscript}
-use Rattle.slot_bodies.specs.ExpressionViews.{slot_expr_view, subscript_view}
+use Rattle.slot_trees.specs.declared.expression.Subscript as code_subscript
+use Rattle.slot_trees.specs.Chains.{Subscript}
+use Rattle.slot_trees.specs.ExpressionViews.{slot_expr_view, subscript_view}
 use Rattle.st_link.proofs.PlaceLemmas.{leads_to_element}
 use Rattle.st_link.proofs.places.at_element.Goals as goal
 

@@ -1,8 +1,8 @@
 use Rattle.std.proofs.Common.{refl, subst}
-use Rattle.st_layouts.specs.Types.{shape_of_type}
-use Rattle.st_names.specs.Agreeing.{Agree}
-use Rattle.st_names.specs.PlaceTypes.{place_type_view}
-use Rattle.shape_tables.specs.Shapes.{IsMemberPlace, member_of}
+use Rattle.layout.specs.Types.{shape_of_type}
+use Rattle.symbols.specs.Agreeing.{Agree}
+use Rattle.symbols.specs.PlaceTypes.{place_type_view}
+use Rattle.st_link.specs.Shapes.{IsMemberPlace, member_of}
 use Rattle.st_link.proofs.PlaceLemmas.{leads_to_member}
 use Rattle.st_link.proofs.places.at_member.Goals as goal
 

@@ -1,5 +1,5 @@
 use Rattle.std.proofs.Common.{rules, ◌≡◌, sym, ◌∙◌, true}
-use Rattle.slot_bodies.specs.ExpressionViews.{anchor_view, place_view}
+use Rattle.slot_trees.specs.ExpressionViews.{anchor_view, place_view}
 use Rattle.st_link.proofs.PlaceLemmas.{placed_at}
 use Rattle.st_link.proofs.places.placed.Goals as goal
 

@@ -1,15 +1,15 @@
 use Rattle.std.proofs.Common.{rules, ◌≡◌, ap, sym, subst, ◌∙◌, ◌+◌, Some, None, Err, List, map, drop}
 use Rattle.std.specs.Prelude.{option_map}
 use Rattle.std.proofs.lemmas.Result.{IfErr-weaker, IfOk-weaker}
-use Rattle.st_trees.specs.declared.statement.Stmt as code_stmt
-use Rattle.st_trees.specs.Statements as trees
-use Rattle.st_trees.specs.ExpressionViews.{expr_view, variable_view}
-use Rattle.st_trees.specs.StatementViews.{argument_view, arm_view, case_arm_view, stmt_view}
-use Rattle.st_trees.proofs.Bridge.{choose_view, select_view}
-use Rattle.st_types.specs.NameTypes.{Declared}
-use Rattle.slot_bodies.specs.Chains.{Arm, CaseArm, arms_of, case_arms_of, stmts_of}
-use Rattle.slot_bodies.specs.ExpressionViews.{anchor_view, place_view, slot_expr_view}
-use Rattle.slot_bodies.specs.StatementViews.{slot_arm_view, slot_case_arm_view, slot_stmt_view}
+use Rattle.st_types.specs.declared.statement.Stmt as code_stmt
+use Rattle.st_types.specs.Statements as trees
+use Rattle.st_types.specs.ExpressionViews.{expr_view, variable_view}
+use Rattle.st_types.specs.StatementViews.{argument_view, arm_view, case_arm_view, stmt_view}
+use Rattle.st_types.proofs.Bridge.{choose_view, select_view}
+use Rattle.st_meaning.specs.NameTypes.{Declared}
+use Rattle.slot_trees.specs.Chains.{Arm, CaseArm, arms_of, case_arms_of, stmts_of}
+use Rattle.slot_trees.specs.ExpressionViews.{anchor_view, place_view, slot_expr_view}
+use Rattle.slot_trees.specs.StatementViews.{slot_arm_view, slot_case_arm_view, slot_stmt_view}
 use Rattle.slot_trees.specs.SlotTrees.{SlotStmt}
 use Rattle.slot_trees.specs.LinkedStatements.{linked_stmt}
 use Rattle.slot_trees.specs.Tables.{Table}

@@ -1,9 +1,9 @@
 use Rattle.std.proofs.Common.{map, drop}
-use Rattle.st_trees.specs.Statements as trees
-use Rattle.st_trees.specs.StatementViews.{arm_view, case_arm_view, stmt_view}
-use Rattle.st_types.specs.NameTypes.{Declared}
-use Rattle.slot_bodies.specs.Chains.{Arm, CaseArm}
-use Rattle.slot_bodies.specs.StatementViews.{slot_arm_view, slot_case_arm_view, slot_stmt_view}
+use Rattle.st_types.specs.Statements as trees
+use Rattle.st_types.specs.StatementViews.{arm_view, case_arm_view, stmt_view}
+use Rattle.st_meaning.specs.NameTypes.{Declared}
+use Rattle.slot_trees.specs.Chains.{Arm, CaseArm}
+use Rattle.slot_trees.specs.StatementViews.{slot_arm_view, slot_case_arm_view, slot_stmt_view}
 use Rattle.slot_trees.specs.SlotTrees.{SlotStmt}
 use Rattle.slot_trees.specs.LinkedStatements.{linked_stmt}
 use Rattle.slot_trees.specs.Tables.{Table}

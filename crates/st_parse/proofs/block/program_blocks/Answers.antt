@@ -1,5 +1,5 @@
 use Rattle.std.proofs.Common.{rules}
-use Rattle.st_words.specs.declared.limits.TheConstants.{MAX_DEPTH}
+use Rattle.st_types.specs.declared.limits.TheConstants.{MAX_DEPTH}
 use Rattle.st_parse.specs.UnitReading.{starts_program_section, program_block_at}
 use Rattle.st_parse.specs.Reading.{many}
 use Rattle.st_parse.proofs.block.program_blocks.Goals as goal

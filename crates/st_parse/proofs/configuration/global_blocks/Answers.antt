@@ -1,7 +1,7 @@
 use Rattle.std.proofs.Common.{rules}
-use Rattle.st_words.specs.declared.limits.TheConstants.{MAX_DEPTH}
+use Rattle.st_types.specs.declared.limits.TheConstants.{MAX_DEPTH}
 use Rattle.st_lex.specs.declared.keyword.Keyword.TheVariants as w
-use Rattle.st_statements.specs.Tokens.{is_keyword}
+use Rattle.st_parse.specs.Tokens.{is_keyword}
 use Rattle.st_parse.specs.ConfigurationReading.{global_block_at}
 use Rattle.st_parse.specs.Reading.{many}
 use Rattle.st_parse.proofs.configuration.global_blocks.Goals as goal

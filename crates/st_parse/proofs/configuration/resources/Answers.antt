@@ -1,6 +1,6 @@
 use Rattle.std.proofs.Common.{rules}
 use Rattle.st_lex.specs.declared.keyword.Keyword.TheVariants as w
-use Rattle.st_statements.specs.Tokens.{is_keyword}
+use Rattle.st_parse.specs.Tokens.{is_keyword}
 use Rattle.st_parse.specs.ConfigurationReading.{resource_at}
 use Rattle.st_parse.specs.Reading.{at_least_one}
 use Rattle.st_parse.proofs.configuration.resources.Goals as goal

@@ -1,6 +1,6 @@
 use Rattle.std.proofs.Common.{rules}
-use Rattle.st_words.specs.declared.limits.TheConstants.{MAX_DEPTH}
-use Rattle.st_statements.specs.Tokens.{is_name}
+use Rattle.st_types.specs.declared.limits.TheConstants.{MAX_DEPTH}
+use Rattle.st_parse.specs.Tokens.{is_name}
 use Rattle.st_parse.specs.TypeReading.{field_at, fields_at}
 use Rattle.st_parse.specs.Reading.{at_least_one}
 use Rattle.st_parse.proofs.data_type.fields.Goals as goal

@@ -1,6 +1,6 @@
 use Rattle.std.proofs.Common.{rules}
-use Rattle.st_words.specs.declared.limits.TheConstants.{MAX_DEPTH}
-use Rattle.st_statements.specs.Tokens.{is_name}
+use Rattle.st_types.specs.declared.limits.TheConstants.{MAX_DEPTH}
+use Rattle.st_parse.specs.Tokens.{is_name}
 use Rattle.st_parse.specs.UnitReading.{declaration_at}
 use Rattle.st_parse.specs.Reading.{many}
 use Rattle.st_parse.proofs.declaration.declarations.Goals as goal

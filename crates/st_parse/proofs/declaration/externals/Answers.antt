@@ -1,5 +1,5 @@
 use Rattle.std.proofs.Common.{rules}
-use Rattle.st_statements.specs.Tokens.{is_name}
+use Rattle.st_parse.specs.Tokens.{is_name}
 use Rattle.st_parse.specs.UnitReading.{external_at}
 use Rattle.st_parse.specs.Reading.{many}
 use Rattle.st_parse.proofs.declaration.externals.Goals as goal

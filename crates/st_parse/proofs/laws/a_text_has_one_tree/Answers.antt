@@ -1,6 +1,6 @@
 use Rattle.std.proofs.Common.{subst, sym}
 use Rattle.st_lex.proofs.Fronts.{one_list}
-use Rattle.st_statements.specs.Tokens.{Tokens}
+use Rattle.st_parse.specs.Tokens.{Tokens}
 use Rattle.st_parse.specs.Sources.{IsSource}
 use Rattle.st_parse.proofs.PrefixSources.{one_source}
 use Rattle.st_parse.proofs.laws.a_text_has_one_tree.Goals as goal

@@ -1,7 +1,7 @@
 use Rattle.std.proofs.Common.{rules}
 use Rattle.st_lex.specs.declared.mark.Mark.TheVariants.{Comma}
-use Rattle.st_statements.specs.Tokens.{is_mark, name}
-use Rattle.st_statements.specs.Parsers.{after_comma, one}
+use Rattle.st_parse.specs.Tokens.{is_mark, name}
+use Rattle.st_parse.specs.Parsers.{after_comma, one}
 use Rattle.st_parse.proofs.OwnMirrors.{plainly}
 use Rattle.st_parse.proofs.names.names_behind.Goals as goal
 

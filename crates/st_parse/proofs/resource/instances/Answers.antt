@@ -1,6 +1,6 @@
 use Rattle.std.proofs.Common.{rules}
 use Rattle.st_lex.specs.declared.keyword.Keyword.TheVariants as w
-use Rattle.st_statements.specs.Tokens.{is_keyword}
+use Rattle.st_parse.specs.Tokens.{is_keyword}
 use Rattle.st_parse.specs.ConfigurationReading.{instance_at}
 use Rattle.st_parse.proofs.OwnMirrors.{plainly}
 use Rattle.st_parse.specs.Reading.{at_least_one}

@@ -1,5 +1,5 @@
 use Rattle.std.proofs.Common.{rules}
-use Rattle.st_words.specs.declared.limits.TheConstants.{MAX_DEPTH}
+use Rattle.st_types.specs.declared.limits.TheConstants.{MAX_DEPTH}
 use Rattle.st_parse.specs.SourceReading.{is_token, element_at, source_at}
 use Rattle.st_parse.specs.Reading.{many}
 use Rattle.st_parse.proofs.source.elements.Goals as goal

@@ -2,7 +2,7 @@ use Rattle.std.proofs.Common.{refl, arith, ◌<◌, ◌^◌}
 use Rattle.std.specs.Prelude.{FitsSigned}
 use Rattle.std.specs.Int.{w128}
 use Rattle.std.proofs.lemmas.Int.{to_z-of_z, fits_signed_from_abs}
-use Rattle.st_words.specs.Kinds.{holds, names_in}
+use Rattle.st_types.specs.Kinds.{holds, names_in}
 use Rattle.st_print.proofs.NumberLemmas.{value_spelled, value_refused}
 use Rattle.st_print.proofs.number.value.Goals as goal
 

@@ -1,5 +1,5 @@
 use Rattle.std.proofs.Common.{rules, refl, ◌++◌}
-use Rattle.st_plans.specs.Layouts.{step_text, steps_text}
+use Rattle.st_meaning.specs.Layouts.{step_text, steps_text}
 use Rattle.st_print.proofs.AppendLemmas.{appends_both, text_more}
 use Rattle.st_print.proofs.path.write_steps.Goals as goal
 

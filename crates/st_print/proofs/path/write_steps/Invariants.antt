@@ -1,6 +1,6 @@
 use Rattle.std.proofs.Common.{◌≡◌, ◌++◌, ℕ, List, drop}
 use Rattle.std.specs.Io.KnownBytes.{Appends}
-use Rattle.st_plans.specs.Layouts.{steps_text}
+use Rattle.st_meaning.specs.Layouts.{steps_text}
 use Rattle.st_print.proofs.path.write_steps.Given as goal
 
 abbrev pub invariant-loop-step : goal.invariant-loop-step

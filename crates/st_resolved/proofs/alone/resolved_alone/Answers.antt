@@ -1,7 +1,7 @@
 use Rattle.std.proofs.Common.{◌≡◌, ◌∙◌, sym, ap, Option, Some}
 use Rattle.std.specs.Prelude.{option_map}
-use Rattle.st_names.specs.Enumerated.{member_view}
-use Rattle.st_names.specs.PlaceTypes.{place_type_view}
+use Rattle.symbols.specs.Enumerated.{member_view}
+use Rattle.symbols.specs.PlaceTypes.{place_type_view}
 use Rattle.st_resolved.proofs.AloneLemmas.{named_value}
 use Rattle.st_resolved.proofs.alone.resolved_alone.Goals as goal
 

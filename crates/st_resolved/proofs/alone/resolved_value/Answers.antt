@@ -1,7 +1,7 @@
 use Rattle.std.proofs.Common.{◌≡◌, ◌∙◌, sym, ap, Option, Some}
 use Rattle.std.specs.Prelude.{option_map}
-use Rattle.st_types.specs.Enumerations.{Member}
-use Rattle.st_names.specs.Enumerated.{member_view}
+use Rattle.st_meaning.specs.Enumerations.{Member}
+use Rattle.symbols.specs.Enumerated.{member_view}
 use Rattle.st_resolved.proofs.AloneLemmas.{written_value}
 use Rattle.st_resolved.proofs.alone.resolved_value.Goals as goal
 

@@ -1,10 +1,10 @@
 use Rattle.std.proofs.Common.{rules, ◌≡◌, ◌∙◌, sym, ap, subst, refl, List, [], ◌∷◌, ◌++◌, length, drop, map, option_map, arith}
 use Rattle.std.proofs.lemmas.List.{length-map, map-append}
 use Rattle.std.specs.Vec.Iter.{into_iter_items}
-use Rattle.st_trees.specs.Expressions.{Expr}
-use Rattle.st_trees.specs.ExpressionViews.{expr_view}
-use Rattle.st_types.specs.Resolution.{first_kind, resolved_expr}
-use Rattle.st_names.specs.Tables.{callee_view}
+use Rattle.st_types.specs.Expressions.{Expr}
+use Rattle.st_types.specs.ExpressionViews.{expr_view}
+use Rattle.st_meaning.specs.Resolution.{first_kind, resolved_expr}
+use Rattle.symbols.specs.Tables.{callee_view}
 use Rattle.st_resolved.specs.declared.resolutions.Resolution.{Resolution}
 use Rattle.st_resolved.specs.Calls.{expected_of_call}
 use Rattle.st_resolved.specs.Resolutions.{kind_told, Resolves}

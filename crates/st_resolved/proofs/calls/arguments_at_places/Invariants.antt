@@ -1,10 +1,10 @@
 use Rattle.std.proofs.Common.{◌≡◌, length, map, option_map}
 use Rattle.std.specs.Vec.Iter.{into_iter_items, into_iter_len}
-use Rattle.st_trees.specs.Expressions.{Exprs}
-use Rattle.st_trees.specs.ExpressionViews.{expr_view}
-use Rattle.st_statics.specs.Environments.{Environment}
-use Rattle.st_statics.specs.Typings.{common_of}
-use Rattle.st_names.specs.Tables.{callee_view}
+use Rattle.st_types.specs.Expressions.{Exprs}
+use Rattle.st_types.specs.ExpressionViews.{expr_view}
+use Rattle.st_rules.specs.Environments.{Environment}
+use Rattle.st_rules.specs.Typings.{common_of}
+use Rattle.symbols.specs.Tables.{callee_view}
 use Rattle.st_resolved.specs.Calls.{expected_of_call}
 use Rattle.st_resolved.specs.Resolutions.{kind_told, ResolvesAll}
 use Rattle.st_resolved.proofs.CallLemmas.{Places}

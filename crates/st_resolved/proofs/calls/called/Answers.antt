@@ -1,8 +1,8 @@
 use Rattle.std.proofs.Common.{◌≡◌, ◌∙◌, sym, ap, map, option_map}
-use Rattle.st_trees.specs.Expressions.{call, exprs_of}
-use Rattle.st_trees.specs.ExpressionViews.{expr_view}
-use Rattle.st_statics.specs.Typings.{common_of}
-use Rattle.st_names.specs.Tables.{callee_view}
+use Rattle.st_types.specs.Expressions.{call, exprs_of}
+use Rattle.st_types.specs.ExpressionViews.{expr_view}
+use Rattle.st_rules.specs.Typings.{common_of}
+use Rattle.symbols.specs.Tables.{callee_view}
 use Rattle.st_resolved.specs.Resolutions.{kind_told}
 use Rattle.st_resolved.proofs.CallLemmas.{call_resolves}
 use Rattle.st_resolved.proofs.calls.called.Goals as goal

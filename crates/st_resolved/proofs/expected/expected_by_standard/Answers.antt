@@ -1,8 +1,8 @@
 use Rattle.std.proofs.Common.{◌≡◌, ◌∙◌, sym, ap, ◌∷◌, [], drop, replicate, Some}
-use Rattle.st_words.specs.declared.kind.Kind.TheVariants.{Bool}
-use Rattle.st_types.specs.Resolution.{common_kind, expected_kinds, first_kind}
-use Rattle.st_types.specs.StandardFunctions.{SEL}
-use Rattle.st_names.specs.Standard.{standard_view}
+use Rattle.st_types.specs.declared.kind.Kind.TheVariants.{Bool}
+use Rattle.st_meaning.specs.Resolution.{common_kind, expected_kinds, first_kind}
+use Rattle.st_meaning.specs.StandardFunctions.{SEL}
+use Rattle.symbols.specs.Standard.{standard_view}
 use Rattle.st_resolved.proofs.ExpectedLemmas.{behind_first}
 use Rattle.st_resolved.proofs.expected.expected_by_standard.Goals as goal
 

@@ -1,15 +1,15 @@
 use Rattle.std.proofs.Common.{rules, ◌≡◌, ◌∙◌, sym, ap, subst, [], map, drop}
 use Rattle.std.proofs.lemmas.List.{append-nil, drop_all, length-map}
 use Rattle.std.proofs.lemmas.Result.{IfOk-weaker}
-use Rattle.st_trees.specs.declared.expression.Expr as code_expr
-use Rattle.st_trees.specs.declared.expression.Variable as code_variable
-use Rattle.st_trees.specs.Expressions.{call, parenthesis, unary, binary, read, variable, no_selectors}
-use Rattle.st_trees.specs.Expressions.{exprs_of, selectors_of}
-use Rattle.st_trees.specs.ExpressionViews.{expr_view, variable_view, selector_view}
-use Rattle.st_types.specs.NameTypes.{kind_of_variable}
-use Rattle.st_types.specs.Resolution.{resolved_variable}
-use Rattle.st_statics.specs.Environments.{Environment}
-use Rattle.st_names.specs.Serving.{Serves}
+use Rattle.st_types.specs.declared.expression.Expr as code_expr
+use Rattle.st_types.specs.declared.expression.Variable as code_variable
+use Rattle.st_types.specs.Expressions.{call, parenthesis, unary, binary, read, variable, no_selectors}
+use Rattle.st_types.specs.Expressions.{exprs_of, selectors_of}
+use Rattle.st_types.specs.ExpressionViews.{expr_view, variable_view, selector_view}
+use Rattle.st_meaning.specs.NameTypes.{kind_of_variable}
+use Rattle.st_meaning.specs.Resolution.{resolved_variable}
+use Rattle.st_rules.specs.Environments.{Environment}
+use Rattle.symbols.specs.Serving.{Serves}
 use Rattle.st_resolved.specs.declared.resolutions.Resolution.TheVariants.{Typed}
 use Rattle.st_resolved.specs.Resolutions.{Resolves, ResolvesAll}
 use Rattle.st_resolved.proofs.ListLemmas.{selectors_resolved, resolved_turn, all_resolved}

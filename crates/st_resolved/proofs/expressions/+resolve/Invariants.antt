@@ -1,9 +1,9 @@
 use Rattle.std.proofs.Common.{◌≡◌, ◌++◌, List, map, drop}
-use Rattle.st_trees.specs.Expressions.{exprs_of}
-use Rattle.st_trees.specs.ExpressionViews.{expr_view, selector_view}
-use Rattle.st_types.specs.Resolution.{resolved_selector}
-use Rattle.st_statics.specs.Environments.{Environment}
-use Rattle.st_names.specs.Serving.{Serves}
+use Rattle.st_types.specs.Expressions.{exprs_of}
+use Rattle.st_types.specs.ExpressionViews.{expr_view, selector_view}
+use Rattle.st_meaning.specs.Resolution.{resolved_selector}
+use Rattle.st_rules.specs.Environments.{Environment}
+use Rattle.symbols.specs.Serving.{Serves}
 use Rattle.st_resolved.specs.declared.resolutions.Resolution.{Resolution}
 use Rattle.st_resolved.specs.Resolutions.{ResolvesAll}
 use Rattle.st_resolved.proofs.expressions.+resolve.Given as goal

@@ -1,9 +1,9 @@
 use Rattle.std.proofs.Common.{◌≡◌, ◌++◌, map, drop}
-use Rattle.st_trees.specs.ConfigurationViews.{global_declaration_view}
-use Rattle.st_types.specs.NameTypes.{Declared}
-use Rattle.st_types.specs.ResolvedUnits.{resolved_global}
-use Rattle.st_names.specs.Fields.{ServesFields}
-use Rattle.st_names.specs.Tables.{ServesTables}
+use Rattle.st_types.specs.ConfigurationViews.{global_declaration_view}
+use Rattle.st_meaning.specs.NameTypes.{Declared}
+use Rattle.st_meaning.specs.ResolvedUnits.{resolved_global}
+use Rattle.symbols.specs.Fields.{ServesFields}
+use Rattle.symbols.specs.Tables.{ServesTables}
 use Rattle.st_resolved.proofs.globals.resolved_block.Given as goal
 
 abbrev pub invariant-loop-declaration : goal.invariant-loop-declaration

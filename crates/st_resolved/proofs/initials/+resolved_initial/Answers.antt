@@ -1,11 +1,11 @@
 use Rattle.std.proofs.Common.{rules, ◌≡◌, ◌∙◌, sym, ap, map, option_map}
-use Rattle.st_trees.proofs.Bridge.{structure_view}
-use Rattle.st_trees.specs.declared.initial.Initial as code_initial
-use Rattle.st_trees.specs.declared.initial.InitialMember as code_member
-use Rattle.st_trees.specs.Initials.{list, structure, elements_of, members_of}
-use Rattle.st_trees.specs.InitialViews.{initial_view, element_view, member_view}
-use Rattle.st_types.specs.ResolvedUnits.{resolved_initial}
-use Rattle.st_names.specs.PlaceTypes.{place_type_view}
+use Rattle.st_types.proofs.Bridge.{structure_view}
+use Rattle.st_types.specs.declared.initial.Initial as code_initial
+use Rattle.st_types.specs.declared.initial.InitialMember as code_member
+use Rattle.st_types.specs.Initials.{list, structure, elements_of, members_of}
+use Rattle.st_types.specs.InitialViews.{initial_view, element_view, member_view}
+use Rattle.st_meaning.specs.ResolvedUnits.{resolved_initial}
+use Rattle.symbols.specs.PlaceTypes.{place_type_view}
 use Rattle.st_resolved.specs.Arms.{resolved_member}
 use Rattle.st_resolved.proofs.ListLemmas.{resolved_turn, all_resolved}
 use Rattle.st_resolved.proofs.InitialLemmas.{list_resolved, structure_resolved, member_resolved}

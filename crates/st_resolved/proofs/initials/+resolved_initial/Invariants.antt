@@ -1,10 +1,10 @@
 use Rattle.std.proofs.Common.{◌≡◌, ◌++◌, map, option_map, drop}
-use Rattle.st_trees.specs.InitialViews.{element_view, member_view}
-use Rattle.st_types.specs.NameTypes.{Declared}
-use Rattle.st_types.specs.ResolvedUnits.{resolved_element}
-use Rattle.st_names.specs.Fields.{ServesFields}
-use Rattle.st_names.specs.PlaceTypes.{place_type_view}
-use Rattle.st_names.specs.Tables.{ServesTables}
+use Rattle.st_types.specs.InitialViews.{element_view, member_view}
+use Rattle.st_meaning.specs.NameTypes.{Declared}
+use Rattle.st_meaning.specs.ResolvedUnits.{resolved_element}
+use Rattle.symbols.specs.Fields.{ServesFields}
+use Rattle.symbols.specs.PlaceTypes.{place_type_view}
+use Rattle.symbols.specs.Tables.{ServesTables}
 use Rattle.st_resolved.specs.Arms.{resolved_member}
 use Rattle.st_resolved.proofs.initials.+resolved_initial.Given as goal
 

@@ -1,8 +1,8 @@
 use Rattle.std.proofs.Common.{◌≡◌, ◌++◌, map, drop}
-use Rattle.st_trees.specs.StatementViews.{argument_view}
-use Rattle.st_types.specs.ResolvedUnits.{resolved_argument}
-use Rattle.st_statics.specs.Environments.{Environment}
-use Rattle.st_names.specs.Serving.{Serves}
+use Rattle.st_types.specs.StatementViews.{argument_view}
+use Rattle.st_meaning.specs.ResolvedUnits.{resolved_argument}
+use Rattle.st_rules.specs.Environments.{Environment}
+use Rattle.symbols.specs.Serving.{Serves}
 use Rattle.st_resolved.proofs.invocations.resolved_arguments.Given as goal
 
 abbrev pub invariant-loop-argument : goal.invariant-loop-argument

@@ -1,8 +1,8 @@
 use Rattle.std.proofs.Common.{◌≡◌, sym, ap, ◌∙◌}
 use Rattle.std.proofs.lemmas.Result.{IfOk-weaker}
-use Rattle.st_types.specs.NameTypes.{Declared}
-use Rattle.st_types.specs.ResolvedUnits.{resolved_label}
-use Rattle.st_names.specs.Tables.{ServesTables}
+use Rattle.st_meaning.specs.NameTypes.{Declared}
+use Rattle.st_meaning.specs.ResolvedUnits.{resolved_label}
+use Rattle.symbols.specs.Tables.{ServesTables}
 use Rattle.st_resolved.proofs.labels.resolved_label.Goals as goal
 
 pub returns-in-Enumerated : goal.returns-in-Enumerated

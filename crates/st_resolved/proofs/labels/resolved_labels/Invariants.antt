@@ -1,7 +1,7 @@
 use Rattle.std.proofs.Common.{◌≡◌, ◌++◌, map, drop}
-use Rattle.st_types.specs.NameTypes.{Declared}
-use Rattle.st_types.specs.ResolvedUnits.{resolved_label}
-use Rattle.st_names.specs.Tables.{ServesTables}
+use Rattle.st_meaning.specs.NameTypes.{Declared}
+use Rattle.st_meaning.specs.ResolvedUnits.{resolved_label}
+use Rattle.symbols.specs.Tables.{ServesTables}
 use Rattle.st_resolved.proofs.labels.resolved_labels.Given as goal
 
 abbrev pub invariant-loop-label : goal.invariant-loop-label

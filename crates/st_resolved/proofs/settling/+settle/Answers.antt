@@ -1,8 +1,8 @@
 use Rattle.std.proofs.Common.{rules, ◌≡◌, sym, ap, ◌∙◌}
-use Rattle.st_trees.specs.declared.expression.Expr as code_expr
-use Rattle.st_trees.specs.Expressions.{parenthesis, unary, binary}
-use Rattle.st_trees.specs.ExpressionViews.{expr_view}
-use Rattle.st_types.specs.Resolution.{is_untyped, is_joining, resolved_expr}
+use Rattle.st_types.specs.declared.expression.Expr as code_expr
+use Rattle.st_types.specs.Expressions.{parenthesis, unary, binary}
+use Rattle.st_types.specs.ExpressionViews.{expr_view}
+use Rattle.st_meaning.specs.Resolution.{is_untyped, is_joining, resolved_expr}
 use Rattle.st_resolved.proofs.SettleLemmas.{left_untyped, right_untyped, binary_settled}
 use Rattle.st_resolved.proofs.settling.+settle.Goals as goal
 

@@ -1,9 +1,9 @@
 use Rattle.std.proofs.Common.{◌≡◌, ◌++◌, map, drop}
-use Rattle.st_trees.specs.SourceViews.{element_view}
-use Rattle.st_types.specs.NameTypes.{Declared}
-use Rattle.st_types.specs.ResolvedUnits.{resolved_element_of_text}
-use Rattle.st_names.specs.Fields.{ServesFields}
-use Rattle.st_names.specs.Tables.{ServesTables}
+use Rattle.st_types.specs.SourceViews.{element_view}
+use Rattle.st_meaning.specs.NameTypes.{Declared}
+use Rattle.st_meaning.specs.ResolvedUnits.{resolved_element_of_text}
+use Rattle.symbols.specs.Fields.{ServesFields}
+use Rattle.symbols.specs.Tables.{ServesTables}
 use Rattle.st_resolved.proofs.sources.resolved_elements.Given as goal
 
 abbrev pub invariant-loop-element : goal.invariant-loop-element

@@ -1,7 +1,7 @@
 use Rattle.std.proofs.Common.{◌∙◌, ap, map}
-use Rattle.st_trees.specs.DeclarationViews.{type_declaration_view}
-use Rattle.st_trees.specs.SourceViews.{source_view}
-use Rattle.st_types.specs.NameTypes.{declared_in}
+use Rattle.st_types.specs.DeclarationViews.{type_declaration_view}
+use Rattle.st_types.specs.SourceViews.{source_view}
+use Rattle.st_meaning.specs.NameTypes.{declared_in}
 use Rattle.st_resolved.proofs.sources.resolved_source.Goals as goal
 
 pub tables_of-requires : goal.tables_of-requires

@@ -1,7 +1,7 @@
 use Rattle.std.proofs.Common.{rules, ◌≡◌, ◌∙◌, ap, map}
-use Rattle.st_trees.specs.SourceViews.{source_view}
-use Rattle.st_trees.specs.UnitViews.{unit_view}
-use Rattle.st_types.specs.NameTypes.{declared_in}
+use Rattle.st_types.specs.SourceViews.{source_view}
+use Rattle.st_types.specs.UnitViews.{unit_view}
+use Rattle.st_meaning.specs.NameTypes.{declared_in}
 use Rattle.st_resolved.proofs.sources.tables_of.Goals as goal
 
 pub returns : goal.returns

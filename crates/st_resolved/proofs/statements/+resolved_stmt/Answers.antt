@@ -1,12 +1,12 @@
 use Rattle.std.proofs.Common.{rules, ◌≡◌, ◌∙◌, sym, ap, map, option_map}
-use Rattle.st_trees.specs.declared.statement.Stmt as code_stmt
-use Rattle.st_trees.specs.declared.statement.Arm as code_arm
-use Rattle.st_trees.specs.declared.statement.CaseArm as code_case_arm
-use Rattle.st_trees.specs.Statements.{IF, CASE, FOR, WHILE, REPEAT, stmts_of, arms_of, case_arms_of}
-use Rattle.st_trees.specs.ExpressionViews.{expr_view}
-use Rattle.st_trees.specs.StatementViews.{stmt_view, arm_view, case_arm_view}
-use Rattle.st_trees.proofs.Bridge.{choose_view, select_view}
-use Rattle.st_types.specs.ResolvedUnits.{resolved_stmt}
+use Rattle.st_types.specs.declared.statement.Stmt as code_stmt
+use Rattle.st_types.specs.declared.statement.Arm as code_arm
+use Rattle.st_types.specs.declared.statement.CaseArm as code_case_arm
+use Rattle.st_types.specs.Statements.{IF, CASE, FOR, WHILE, REPEAT, stmts_of, arms_of, case_arms_of}
+use Rattle.st_types.specs.ExpressionViews.{expr_view}
+use Rattle.st_types.specs.StatementViews.{stmt_view, arm_view, case_arm_view}
+use Rattle.st_types.proofs.Bridge.{choose_view, select_view}
+use Rattle.st_meaning.specs.ResolvedUnits.{resolved_stmt}
 use Rattle.st_resolved.specs.Arms.{resolved_arm, resolved_case_arm}
 use Rattle.st_resolved.proofs.ListLemmas.{resolved_turn, all_resolved}
 use Rattle.st_resolved.proofs.StatementLemmas.{arm_resolved, case_arm_resolved, if_resolved, case_resolved}

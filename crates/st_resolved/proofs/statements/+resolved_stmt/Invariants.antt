@@ -1,8 +1,8 @@
 use Rattle.std.proofs.Common.{◌≡◌, ◌++◌, map, drop}
-use Rattle.st_trees.specs.StatementViews.{stmt_view, arm_view, case_arm_view}
-use Rattle.st_types.specs.ResolvedUnits.{resolved_stmt}
-use Rattle.st_statics.specs.Environments.{Environment}
-use Rattle.st_names.specs.Serving.{Serves}
+use Rattle.st_types.specs.StatementViews.{stmt_view, arm_view, case_arm_view}
+use Rattle.st_meaning.specs.ResolvedUnits.{resolved_stmt}
+use Rattle.st_rules.specs.Environments.{Environment}
+use Rattle.symbols.specs.Serving.{Serves}
 use Rattle.st_resolved.specs.Arms.{resolved_arm, resolved_case_arm}
 use Rattle.st_resolved.proofs.statements.+resolved_stmt.Given as goal
 

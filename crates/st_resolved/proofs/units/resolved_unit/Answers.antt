@@ -1,8 +1,8 @@
 use Rattle.std.proofs.Common.{refl, map}
-use Rattle.st_trees.specs.DeclarationViews.{variable_block_view}
-use Rattle.st_trees.specs.StatementViews.{stmt_view}
-use Rattle.st_trees.specs.UnitViews.{unit_view}
-use Rattle.st_statics.specs.Environments.{Environment}
+use Rattle.st_types.specs.DeclarationViews.{variable_block_view}
+use Rattle.st_types.specs.StatementViews.{stmt_view}
+use Rattle.st_types.specs.UnitViews.{unit_view}
+use Rattle.st_rules.specs.Environments.{Environment}
 use Rattle.st_resolved.proofs.UnitLemmas.{unit_resolved}
 use Rattle.st_resolved.proofs.units.resolved_unit.Goals as goal
 

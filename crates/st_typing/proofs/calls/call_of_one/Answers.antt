@@ -1,8 +1,8 @@
 use Rattle.std.proofs.Common.{◌∷◌, [], ◌∙◌, ap}
-use Rattle.st_trees.specs.Expressions.{no_exprs, expr_then}
-use Rattle.st_trees.specs.ExpressionViews.{expr_view}
-use Rattle.st_statics.specs.Typings.{kind_of}
-use Rattle.st_names.specs.Standard.{standard_view}
+use Rattle.st_types.specs.Expressions.{no_exprs, expr_then}
+use Rattle.st_types.specs.ExpressionViews.{expr_view}
+use Rattle.st_rules.specs.Typings.{kind_of}
+use Rattle.symbols.specs.Standard.{standard_view}
 use Rattle.st_typing.specs.Arguments.{demands_view}
 use Rattle.st_typing.proofs.CallLemmas.{standard_types, common_of_one}
 use Rattle.st_typing.proofs.calls.call_of_one.Goals as goal

@@ -1,7 +1,7 @@
 use Rattle.std.proofs.Common.{◌∷◌, [], refl}
-use Rattle.st_trees.specs.Expressions.{no_exprs, expr_then}
-use Rattle.st_trees.specs.ExpressionViews.{expr_view}
-use Rattle.st_names.specs.Standard.{standard_view}
+use Rattle.st_types.specs.Expressions.{no_exprs, expr_then}
+use Rattle.st_types.specs.ExpressionViews.{expr_view}
+use Rattle.symbols.specs.Standard.{standard_view}
 use Rattle.st_typing.specs.Arguments.{demands_view}
 use Rattle.st_typing.proofs.CallLemmas.{standard_types}
 use Rattle.st_typing.proofs.calls.call_of_two.Goals as goal

@@ -1,6 +1,6 @@
 use Rattle.std.proofs.Common.{◌∷◌, []}
-use Rattle.st_trees.specs.Expressions.{no_exprs, expr_then}
-use Rattle.st_trees.specs.ExpressionViews.{expr_view}
+use Rattle.st_types.specs.Expressions.{no_exprs, expr_then}
+use Rattle.st_types.specs.ExpressionViews.{expr_view}
 use Rattle.st_typing.proofs.CallLemmas.{one_found, more_found}
 use Rattle.st_typing.proofs.calls.wrong_two.Goals as goal
 

@@ -1,13 +1,13 @@
 use Rattle.std.proofs.Common.{rules, ◌≡◌, ◌∙◌, sym, ap, subst, map, Some, option_map, drop, ◌+◌, inl, inr, arith}
 use Rattle.std.specs.List.{Contains}
-use Rattle.st_trees.specs.declared.expression.Expr as code_expr
-use Rattle.st_trees.specs.declared.expression.Variable as code_variable
-use Rattle.st_trees.specs.declared.expression.Selector as code_selector
-use Rattle.st_trees.specs.Expressions.{literal, read, call, parenthesis, unary, binary, exprs_of, expr_then, no_exprs}
-use Rattle.st_trees.specs.Expressions.{variable, selectors_of, subscript}
-use Rattle.st_trees.specs.ExpressionViews.{expr_view, variable_view, selector_view}
-use Rattle.st_names.specs.PlaceTypes.{place_type_view}
-use Rattle.st_names.specs.Standard.{standard_view}
+use Rattle.st_types.specs.declared.expression.Expr as code_expr
+use Rattle.st_types.specs.declared.expression.Variable as code_variable
+use Rattle.st_types.specs.declared.expression.Selector as code_selector
+use Rattle.st_types.specs.Expressions.{literal, read, call, parenthesis, unary, binary, exprs_of, expr_then, no_exprs}
+use Rattle.st_types.specs.Expressions.{variable, selectors_of, subscript}
+use Rattle.st_types.specs.ExpressionViews.{expr_view, variable_view, selector_view}
+use Rattle.symbols.specs.PlaceTypes.{place_type_view}
+use Rattle.symbols.specs.Standard.{standard_view}
 use Rattle.st_typing.specs.Arguments.{demands_of_inputs}
 use Rattle.st_typing.proofs.TypingLemmas.{parenthesis_types, operand_wrong, left_wrong, right_wrong, wrong_inside}
 use Rattle.st_typing.proofs.CallLemmas.{first_wrong, other_wrong, argument_wrong}

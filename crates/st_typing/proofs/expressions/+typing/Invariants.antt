@@ -1,9 +1,9 @@
 use Rattle.std.proofs.Common.{◌≡◌, map, drop, Some, option_map}
-use Rattle.st_trees.specs.Expressions.{exprs_of, selectors_of}
-use Rattle.st_trees.specs.ExpressionViews.{expr_view, selector_view}
-use Rattle.st_statics.specs.Environments.{Environment}
-use Rattle.st_names.specs.PlaceTypes.{place_type_view}
-use Rattle.st_names.specs.Serving.{Serves}
+use Rattle.st_types.specs.Expressions.{exprs_of, selectors_of}
+use Rattle.st_types.specs.ExpressionViews.{expr_view, selector_view}
+use Rattle.st_rules.specs.Environments.{Environment}
+use Rattle.symbols.specs.PlaceTypes.{place_type_view}
+use Rattle.symbols.specs.Serving.{Serves}
 use Rattle.st_typing.specs.Arguments.{demands_of_inputs, wrong_arguments}
 use Rattle.st_typing.proofs.SelectionLemmas.{Continues}
 use Rattle.st_typing.proofs.expressions.+typing.Given as goal

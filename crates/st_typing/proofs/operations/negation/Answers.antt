@@ -1,6 +1,6 @@
 use Rattle.std.proofs.Common.{◌∙◌, sym}
-use Rattle.st_trees.specs.Expressions.{unary}
-use Rattle.st_trees.specs.ExpressionViews.{expr_view}
+use Rattle.st_types.specs.Expressions.{unary}
+use Rattle.st_types.specs.ExpressionViews.{expr_view}
 use Rattle.st_typing.proofs.TypingLemmas.{untyped_from, untyped_types, negation_types}
 use Rattle.st_typing.proofs.operations.negation.Goals as goal
 

@@ -1,5 +1,5 @@
 use Rattle.std.proofs.Common.{◌∙◌, sym}
-use Rattle.st_trees.specs.ExpressionViews.{expr_view}
+use Rattle.st_types.specs.ExpressionViews.{expr_view}
 use Rattle.st_typing.proofs.TypingLemmas.{untyped_from, clean_from}
 use Rattle.st_typing.proofs.operations.settle_untyped.Goals as goal
 

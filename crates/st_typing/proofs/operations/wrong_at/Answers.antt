@@ -1,6 +1,6 @@
 use Rattle.std.proofs.Common.{◌∙◌, ap}
-use Rattle.st_trees.specs.ExpressionViews.{expr_view}
-use Rattle.st_statics.specs.Typings.{settled}
+use Rattle.st_types.specs.ExpressionViews.{expr_view}
+use Rattle.st_rules.specs.Typings.{settled}
 use Rattle.st_typing.proofs.TypingLemmas.{finds_at}
 use Rattle.st_typing.proofs.operations.wrong_at.Goals as goal
 

@@ -1,8 +1,8 @@
 use Rattle.std.proofs.Common.{rules, ◌≡◌, sym, ap, ◌∙◌}
-use Rattle.st_trees.specs.declared.expression.Expr as code_expr
-use Rattle.st_trees.specs.Expressions.{literal, parenthesis, unary, binary}
-use Rattle.st_trees.specs.ExpressionViews.{expr_view}
-use Rattle.st_types.specs.Resolution.{is_untyped, is_joining}
+use Rattle.st_types.specs.declared.expression.Expr as code_expr
+use Rattle.st_types.specs.Expressions.{literal, parenthesis, unary, binary}
+use Rattle.st_types.specs.ExpressionViews.{expr_view}
+use Rattle.st_meaning.specs.Resolution.{is_untyped, is_joining}
 use Rattle.st_typing.proofs.PartLemmas.{left_untyped, right_untyped, literal_within, parenthesis_within}
 use Rattle.st_typing.proofs.PartLemmas.{untyped_unary_within, untyped_binary_within}
 use Rattle.st_typing.proofs.settling.+settle.Goals as goal

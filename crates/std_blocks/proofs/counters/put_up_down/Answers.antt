@@ -4,10 +4,10 @@ use mir.Val.{to_z, of_z}
 use Rattle.std.specs.Int.RustNames.{FitsSigned}
 use Rattle.std.specs.Prelude.{pos, int_le}
 use Rattle.std.proofs.lemmas.Int.{ints, to_z-of_z}
-use Rattle.st_words.specs.declared.kind.Kind.TheVariants.{Int}
-use Rattle.st_words.specs.Kinds.{holds}
-use Rattle.st_words.specs.Values.{Datum, datum_of_truth}
-use Rattle.st_types.specs.StandardBlocks.{int}
+use Rattle.st_types.specs.declared.kind.Kind.TheVariants.{Int}
+use Rattle.st_types.specs.Kinds.{holds}
+use Rattle.st_types.specs.Values.{Datum, datum_of_truth}
+use Rattle.st_meaning.specs.StandardBlocks.{int}
 use Rattle.std_blocks.specs.Members.{all_stored, Leaves}
 use Rattle.std_blocks.proofs.BlockLemmas.{unheld_up_down, same_ten}
 use Rattle.std_blocks.proofs.counters.put_up_down.Goals as goal

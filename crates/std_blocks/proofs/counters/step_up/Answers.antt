@@ -4,8 +4,8 @@ use mir.Val.{to_z, of_z}
 use Rattle.std.specs.Prelude.{int_le}
 use Rattle.std.specs.Int.RustNames.{FitsSigned}
 use Rattle.std.proofs.lemmas.Int.{ints, to_z-of_z}
-use Rattle.st_words.specs.Values.{Datum, datum_of_truth, is_true}
-use Rattle.st_types.specs.StandardBlocks.{int, up_count, edge}
+use Rattle.st_types.specs.Values.{Datum, datum_of_truth, is_true}
+use Rattle.st_meaning.specs.StandardBlocks.{int, up_count, edge}
 use Rattle.std_blocks.specs.Members.{all_stored, Leaves}
 use Rattle.std_blocks.proofs.BlockLemmas.{up_steps}
 use Rattle.std_blocks.proofs.counters.step_up.Goals as goal

@@ -1,7 +1,7 @@
 use Rattle.std.proofs.Common.{◌∙◌, ap, sym}
 use mir.Syntax.{w128}
 use Rattle.std.proofs.lemmas.Int.{to_z-of_z}
-use Rattle.st_words.specs.Values.{in_range}
+use Rattle.st_types.specs.Values.{in_range}
 use Rattle.std_blocks.proofs.MemberLemmas.{value_of, no_value}
 use Rattle.std_blocks.proofs.members.held_value.Goals as goal
 

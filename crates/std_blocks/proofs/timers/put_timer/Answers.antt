@@ -2,10 +2,10 @@ use Rattle.std.proofs.Common.{◌≡◌, List, [], ◌∷◌, ◌∙◌, ap, sub
 use mir.Syntax.{w128}
 use Rattle.std.specs.Int.RustNames.{FitsSigned}
 use Rattle.std.proofs.lemmas.Int.{ints, to_z-of_z}
-use Rattle.st_words.specs.declared.kind.Kind.TheVariants.{Time}
-use Rattle.st_words.specs.Kinds.{holds}
-use Rattle.st_words.specs.Values.{Datum, datum_of_truth}
-use Rattle.st_types.specs.StandardBlocks.{time}
+use Rattle.st_types.specs.declared.kind.Kind.TheVariants.{Time}
+use Rattle.st_types.specs.Kinds.{holds}
+use Rattle.st_types.specs.Values.{Datum, datum_of_truth}
+use Rattle.st_meaning.specs.StandardBlocks.{time}
 use Rattle.std_blocks.specs.Members.{all_stored, Leaves}
 use Rattle.std_blocks.proofs.BlockLemmas.{unheld, same_six}
 use Rattle.std_blocks.proofs.timers.put_timer.Goals as goal

@@ -5,8 +5,8 @@ use Rattle.std.specs.Prelude.{pos}
 use Rattle.std.specs.Int.{int_max}
 use Rattle.std.specs.Int.RustNames.{FitsSigned}
 use Rattle.std.proofs.lemmas.Int.{ints, to_z-of_z}
-use Rattle.st_words.specs.Values.{is_true}
-use Rattle.st_types.specs.StandardBlocks.{pulse, timer_of}
+use Rattle.st_types.specs.Values.{is_true}
+use Rattle.st_meaning.specs.StandardBlocks.{pulse, timer_of}
 use Rattle.std_blocks.specs.Timers.{timer_view}
 use Rattle.std_blocks.proofs.BlockLemmas.{pulse_steps}
 use Rattle.std_blocks.proofs.timers.step_pulse.Goals as goal

@@ -1,7 +1,7 @@
 use Rattle.std.proofs.Common.{ap, sym, ◌∙◌, Some}
 use Rattle.std.specs.Prelude.{option_map}
-use Rattle.st_trees.specs.DeclarationViews.{type_definition_view}
-use Rattle.st_types.specs.Enumerations.{enumerations_of}
+use Rattle.st_types.specs.DeclarationViews.{type_definition_view}
+use Rattle.st_meaning.specs.Enumerations.{enumerations_of}
 use Rattle.layout.specs.Compositions.{named_type}
 use Rattle.layout.proofs.CompositionLemmas.{composed_by}
 use Rattle.layout.proofs.compositions.Types.composition_named.Goals as goal

@@ -1,6 +1,6 @@
 use Rattle.std.proofs.Common.{ap, sym, ◌∙◌}
-use Rattle.st_trees.specs.declared.data_type.VariableType.TheVariants.{Simple}
-use Rattle.st_layouts.specs.Types.{composition_of}
+use Rattle.st_types.specs.declared.data_type.VariableType.TheVariants.{Simple}
+use Rattle.layout.specs.Types.{composition_of}
 use Rattle.layout.proofs.compositions.Types.composition_of_simple.Goals as goal
 
 pub returns-in-Named : goal.returns-in-Named

@@ -1,16 +1,16 @@
 use Rattle.std.proofs.Common.{rules, ◌≡◌, ◌≤◌, ap, subst, sym, ◌∙◌, [], length, map, true, Err}
 use Rattle.indexmap.specs.IndexMap.{insert_all}
-use Rattle.st_words.specs.Paths.{same_path}
-use Rattle.st_types.specs.Slots.{IsLayout}
+use Rattle.st_types.specs.Paths.{same_path}
+use Rattle.st_meaning.specs.Slots.{IsLayout}
 use Rattle.layout.specs.Indexed.{entry_of, slot_of_entry}
-use Rattle.st_types.specs.NameTypes.{declared_in}
+use Rattle.st_meaning.specs.NameTypes.{declared_in}
 use Rattle.layout.specs.declared.limits.TheConstants.{MAX_INSTANCES}
-use Rattle.st_words.specs.declared.limits.TheConstants.{MAX_PATHS}
-use Rattle.st_layouts.specs.LayoutVariables.{declared_of, layout_variables}
-use Rattle.st_layouts.specs.TextLayouts.{instances_of, instances_of_text, slots_of_text}
+use Rattle.st_types.specs.declared.limits.TheConstants.{MAX_PATHS}
+use Rattle.layout.specs.LayoutVariables.{declared_of, layout_variables}
+use Rattle.layout.specs.TextLayouts.{instances_of, instances_of_text, slots_of_text}
 use Rattle.layout.specs.Growth.{Exceeds}
 use Rattle.layout.specs.Layouts.{are_expandable, layout_size, layout_slots, variables_in}
-use Rattle.layout.specs.TextLayouts.{IsLayoutOf, image_among, inputs_among, retains_no_input, slot_view, variables_among}
+use Rattle.layout.specs.KeptLayouts.{IsLayoutOf, image_among, inputs_among, retains_no_input, slot_view, variables_among}
 use Rattle.layout.proofs.IndexLemmas.{slots_are_indexed}
 use Rattle.layout.proofs.PlanLemmas.{image_is, length_map, unretained_all, inputs_are, length_slots_of}
 use Rattle.layout.proofs.PlanLemmas.{once_expandable, slots_are, variables_are}

@@ -1,7 +1,7 @@
 use Rattle.std.proofs.Common.{rules, ◌≡◌, ◌∙◌, ap, Some, None}
 use Rattle.std.specs.Prelude.{position}
 use Rattle.std.specs.Map.{keys_of}
-use Rattle.st_words.specs.Paths.{same_path}
+use Rattle.st_types.specs.Paths.{same_path}
 use Rattle.layout.specs.Indexed.{slot_number}
 use Rattle.layout.proofs.IndexLemmas.{number_found}
 use Rattle.layout.proofs.layout.Layout.slot.Goals as goal

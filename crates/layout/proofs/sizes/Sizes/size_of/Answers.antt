@@ -1,5 +1,5 @@
-use Rattle.st_names.specs.PlaceTypes.{place_type_view}
-use Rattle.st_statics.specs.declared.limits.TheConstants.{MAX_TYPE_DEPTH}
+use Rattle.symbols.specs.PlaceTypes.{place_type_view}
+use Rattle.st_rules.specs.declared.limits.TheConstants.{MAX_TYPE_DEPTH}
 use Rattle.layout.proofs.SizeLemmas.{answered, if_none, if_some}
 use Rattle.layout.proofs.sizes.Sizes.size_of.Goals as goal
 

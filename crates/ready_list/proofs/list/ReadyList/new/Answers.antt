@@ -1,8 +1,8 @@
 use Rattle.std.proofs.Common.{◌≡◌, ◌∙◌, ap, map}
 use Rattle.std.proofs.lemmas.Result.{IfOk-weaker}
-use Rattle.st_trees.specs.SourceViews.{source_view}
-use Rattle.st_plans.specs.Plans.{schedules_of as schedules_in}
-use Rattle.config.specs.PlanViews.{plan_view}
+use Rattle.st_types.specs.SourceViews.{source_view}
+use Rattle.st_meaning.specs.Plans.{schedules_of as schedules_in}
+use Rattle.plan.specs.PlanViews.{plan_view}
 use Rattle.ready_list.specs.Schedules.{code_schedule}
 use Rattle.ready_list.proofs.ScheduleLemmas.{schedules-same}
 use Rattle.ready_list.proofs.list.ReadyList.new.Goals as goal

@@ -1,6 +1,6 @@
 use Rattle.std.proofs.Common.{◌∙◌, subst, sym, refl, false, None, arith}
 use Rattle.std.proofs.lemmas.List.{get_or_default}
-use Rattle.st_plans.specs.Due.{History, Waits}
+use Rattle.st_meaning.specs.Due.{History, Waits}
 use Rattle.ready_list.specs.Ready.{Ready, IsReadyOf, Removes}
 use Rattle.ready_list.proofs.ReadyLemmas.{listed-waits_not, listed-there, IsReadyOf-run, listed-waits}
 use Rattle.ready_list.proofs.list.ReadyList.remove.Goals as goal

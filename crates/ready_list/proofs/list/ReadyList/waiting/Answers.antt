@@ -1,6 +1,6 @@
 use Rattle.std.proofs.Common.{◌≡◌, ◌∙◌, ℕ, ap, sym, subst}
 use Rattle.std.specs.Prelude.{MatchOption}
-use Rattle.st_plans.specs.Due.{History, Waits}
+use Rattle.st_meaning.specs.Due.{History, Waits}
 use Rattle.ready_list.specs.Ready.{Ready, IsReadyOf, stand_at}
 use Rattle.ready_list.specs.declared.standing.Standing.{Standing}
 use Rattle.ready_list.proofs.ReadyLemmas.{waiting_told}

@@ -1,5 +1,5 @@
 use Rattle.std.proofs.Common.{subst, IsTrue, ◌↔◌}
-use Rattle.st_plans.specs.Due.{History, Waits}
+use Rattle.st_meaning.specs.Due.{History, Waits}
 use Rattle.ready_list.specs.Ready.{Ready, IsReadyOf}
 use Rattle.ready_list.proofs.ReadyLemmas.{listed-iff-waits}
 use Rattle.ready_list.proofs.list.ReadyList.waits.Goals as goal

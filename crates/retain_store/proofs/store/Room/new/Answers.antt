@@ -1,6 +1,6 @@
 use Rattle.std.proofs.Common.{◌-◌, arith, refl, rules}
-use Rattle.retain_areas.specs.declared.shape.TheConstants.{FILE_BYTES}
-use Rattle.retain_areas.proofs.Formats.{zeros_in_front, length_of_zeros}
+use Rattle.retain_store.specs.declared.shape.TheConstants.{FILE_BYTES}
+use Rattle.retain_store.proofs.Formats.{zeros_in_front, length_of_zeros}
 use Rattle.retain_store.proofs.store.Room.new.Goals as goal
 
 pub returns-clause-file : goal.returns-clause-file

@@ -1,8 +1,8 @@
 use Rattle.std.proofs.Common.{◌-◌, ◌≡◌, List, ℕ, take, arith, refl, sym, ap, subst, ◌∙◌}
-use Rattle.retain_areas.specs.declared.shape.TheConstants.{FILE_BYTES}
+use Rattle.retain_store.specs.declared.shape.TheConstants.{FILE_BYTES}
 use Rattle.disk.specs.Runs.{at_rest}
-use Rattle.retain_areas.specs.Recovered.{recovered}
-use Rattle.retain_areas.specs.Areas.{IsZeros}
+use Rattle.retain_store.specs.Recovered.{recovered}
+use Rattle.retain_store.specs.Areas.{IsZeros}
 use Rattle.retain_store.specs.Opening.{IsOfFile}
 use Rattle.retain_store.proofs.Keeps.{kept_opened}
 use Rattle.retain_store.proofs.store.Store.open.Goals as goal

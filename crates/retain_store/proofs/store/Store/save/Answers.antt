@@ -1,14 +1,14 @@
 use Rattle.std.proofs.Common.{◌≡◌, ◌-◌, ◌≤◌, ◌++◌, ◌∙◌, Some, List, ℕ, take, drop, length, inl, inr, ⊎_elim, refl, ap}
 use Rattle.std.proofs.Common.{arith}
 use Rattle.std.proofs.lemmas.List.{take_at}
-use Rattle.retain_areas.specs.declared.shape.TheConstants.{AREA_BYTES, HEADER_BYTES}
+use Rattle.retain_store.specs.declared.shape.TheConstants.{AREA_BYTES, HEADER_BYTES}
 use Rattle.disk.specs.Runs.{weakens}
 use Rattle.retain_records.specs.Records.{record_bytes}
 use Rattle.retain_records.specs.Reading.{decoded}
-use Rattle.retain_areas.specs.Recovered.{recovered}
+use Rattle.retain_store.specs.Recovered.{recovered}
 use Rattle.retain_store.specs.Kept.{content_of}
 use Rattle.retain_store.proofs.Frames.{frame_spells}
-use Rattle.retain_areas.proofs.Surveys.{held_some}
+use Rattle.retain_store.proofs.Surveys.{held_some}
 use Rattle.retain_store.proofs.Keeps.{kept_ok, kept_err}
 use Rattle.retain_store.proofs.store.Store.save.Goals as goal
 

@@ -1,5 +1,5 @@
 use Rattle.std.proofs.Common.{◌≡◌, ◌∙◌, ◌≤◌, ap, arith, length, subst, sym, ◌++◌, Some}
-use Rattle.st_plans.specs.Logs.{done_count}
+use Rattle.st_meaning.specs.Logs.{done_count}
 use Rattle.serial_core.specs.Steps.{State}
 use Rattle.run_lock.specs.declared.phase.Phase.{Phase}
 use Rattle.run_lock.specs.Lives.{life_at}

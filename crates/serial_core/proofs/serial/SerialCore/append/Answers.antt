@@ -1,7 +1,7 @@
 use Rattle.std.proofs.Common.{◌∙◌, ◌∷◌, [], Ok, true, ap, sym, subst, arith, length, length-append, map}
-use Rattle.st_plans.specs.declared.entry.Entry.TheVariants.{Done}
-use Rattle.config.specs.SlotPlaces.{written_variables}
-use Rattle.run_cells.specs.Cells.{cut}
+use Rattle.st_types.specs.declared.entry.Entry.TheVariants.{Done}
+use Rattle.plan.specs.SlotPlaces.{written_variables}
+use Rattle.slot_memory.specs.Cells.{cut}
 use Rattle.serial_core.specs.Steps.{State, Judges}
 use Rattle.serial_core.proofs.CommitLemmas.{SerialInvariant-commit, IsTrueOf-same}
 use Rattle.serial_core.proofs.OutcomeLemmas.{outcomes_kept}

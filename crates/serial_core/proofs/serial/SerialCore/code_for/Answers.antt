@@ -1,6 +1,6 @@
 use Rattle.std.proofs.Common.{◌≡◌, ◌∙◌, ap, map, sym, subst}
 use Rattle.std.specs.Prelude.{Result, Ok, Err, IfOk}
-use Rattle.config.specs.declared.plan.Plan.{Plan}
+use Rattle.plan.specs.declared.plan.Plan.{Plan}
 use Rattle.serial_core.specs.Steps.{State, code_at, slots_for, waits_in}
 use Rattle.serial_core.proofs.TakeLemmas.{slots_of_code}
 use Rattle.serial_core.proofs.serial.SerialCore.code_for.Goals as goal

@@ -1,10 +1,10 @@
 use Rattle.std.proofs.Common.{◌≡◌, ◌<◌, ◌∙◌, ◌∷◌, [], List, false, true, ap, sym, subst, arith, length, length-append, map}
-use Rattle.st_plans.specs.declared.entry.Entry.{Entry}
-use Rattle.st_plans.specs.declared.entry.Entry.TheVariants.{Row}
-use Rattle.st_plans.specs.Plans.{fits}
-use Rattle.st_plans.specs.Logs.{is_later}
-use Rattle.st_plans.specs.Due.{History, with_row}
-use Rattle.config.specs.PlanViews.{plan_view}
+use Rattle.st_types.specs.declared.entry.Entry.{Entry}
+use Rattle.st_types.specs.declared.entry.Entry.TheVariants.{Row}
+use Rattle.st_meaning.specs.Plans.{fits}
+use Rattle.st_meaning.specs.Logs.{is_later}
+use Rattle.st_meaning.specs.Due.{History, with_row}
+use Rattle.plan.specs.PlanViews.{plan_view}
 use Rattle.ready_list.specs.Ready.{IsReadyOf}
 use Rattle.serial_core.specs.Samples.{sample_task}
 use Rattle.serial_core.specs.Steps.{State, made, store_in, comes_later, grown}

@@ -1,16 +1,16 @@
 -- What a quick snapshot of an activation that waits has.
 use Rattle.std.proofs.Common.{rules, ◌≡◌, ◌∙◌, ap, length, map, sym, subst}
-use Rattle.st_words.specs.Values.{Datum}
+use Rattle.st_types.specs.Values.{Datum}
 use Rattle.quick_trees.specs.Windows.{IsWindow}
 use Rattle.quick_trees.proofs.Lists.{map_long}
-use Rattle.quick_programs.specs.Quick.{AreIn, AreTyped, kinds_of}
-use Rattle.quick_programs.proofs.Filled.{typed_in}
-use Rattle.coded_programs.specs.declared.code.Code.{Code}
-use Rattle.coded_programs.specs.Windows.{window_of}
-use Rattle.config.specs.SlotPlaces.{merged}
-use Rattle.core_parts.proofs.WindowLemmas.{all_long}
-use Rattle.st_plans.specs.Logs.{past_of, row_at}
-use Rattle.config.specs.PlanViews.{plan_view}
+use Rattle.slot_code.specs.Quick.{AreIn, AreTyped, kinds_of}
+use Rattle.slot_code.proofs.Filled.{typed_in}
+use Rattle.slot_code.specs.declared.code.Code.{Code}
+use Rattle.slot_code.specs.Windows.{window_of}
+use Rattle.plan.specs.SlotPlaces.{merged}
+use Rattle.core_values.proofs.WindowLemmas.{all_long}
+use Rattle.st_meaning.specs.Logs.{past_of, row_at}
+use Rattle.plan.specs.PlanViews.{plan_view}
 use Rattle.serial_core.specs.Steps.{State, made, slots_for, store_in, waits_in}
 use Rattle.serial_core.proofs.TakeLemmas.{merged_as, numbered_as, values_are, slots_numbered, waits-row}
 use Rattle.serial_core.proofs.serial.SerialCore.quick_snapshot_of.Goals as goal

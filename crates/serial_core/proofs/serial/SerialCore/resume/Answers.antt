@@ -1,9 +1,9 @@
 use Rattle.std.proofs.Common.{◌≡◌, ◌∙◌, [], map, Some, sym, ap, subst, arith}
-use Rattle.st_plans.specs.Restarts.{kept, warm_start}
-use Rattle.config.specs.declared.plan.Plan.{Plan}
-use Rattle.config.specs.PlanViews.{plan_view}
+use Rattle.st_meaning.specs.Restarts.{kept, warm_start}
+use Rattle.plan.specs.declared.plan.Plan.{Plan}
+use Rattle.plan.specs.PlanViews.{plan_view}
 use Rattle.serial_core.specs.Steps.{State, store_in}
-use Rattle.core_parts.specs.Restored.{restored}
+use Rattle.core_values.specs.Restored.{restored}
 use Rattle.serial_core.specs.Retained.{retained_kinds, told_by}
 use Rattle.serial_core.proofs.StartLemmas.{kept_again}
 use Rattle.serial_core.proofs.ResumeLemmas.{restarted, kept_values, typed_of, seen_again}

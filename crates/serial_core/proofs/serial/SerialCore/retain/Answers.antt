@@ -1,7 +1,7 @@
 use Rattle.std.proofs.Common.{◌≡◌, ◌∙◌, map, ap, subst}
-use Rattle.st_plans.specs.Restarts.{kept}
-use Rattle.config.specs.declared.plan.Plan.{Plan}
-use Rattle.config.specs.PlanViews.{plan_view}
+use Rattle.st_meaning.specs.Restarts.{kept}
+use Rattle.plan.specs.declared.plan.Plan.{Plan}
+use Rattle.plan.specs.PlanViews.{plan_view}
 use Rattle.serial_core.specs.Steps.{State, made}
 use Rattle.serial_core.specs.Retained.{retained_values, retained_kinds}
 use Rattle.serial_core.proofs.ResumeLemmas.{retained}

@@ -1,6 +1,6 @@
 use Rattle.std.proofs.Common.{◌≡◌, ◌∙◌, ap, map, sym, subst}
-use Rattle.st_plans.specs.Logs.{past_of, row_at}
-use Rattle.config.specs.PlanViews.{plan_view}
+use Rattle.st_meaning.specs.Logs.{past_of, row_at}
+use Rattle.plan.specs.PlanViews.{plan_view}
 use Rattle.serial_core.specs.Steps.{State, made, store_in, waits_in}
 use Rattle.serial_core.proofs.TakeLemmas.{numbered_as, values_are, slots_numbered, waits-row}
 use Rattle.serial_core.proofs.serial.SerialCore.snapshot_of.Goals as goal

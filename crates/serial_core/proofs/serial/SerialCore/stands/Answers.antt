@@ -1,9 +1,9 @@
 use Rattle.std.proofs.Common.{◌≡◌, ◌∙◌, ap, map, sym, subst}
-use Rattle.st_types.specs.Slots.{agrees}
-use Rattle.st_plans.specs.Logs.{past_of, row_at}
-use Rattle.config.specs.PlanViews.{plan_view}
-use Rattle.config.specs.SlotPlaces.{merged}
-use Rattle.run_cells.specs.Cells.{cut}
+use Rattle.st_meaning.specs.Slots.{agrees}
+use Rattle.st_meaning.specs.Logs.{past_of, row_at}
+use Rattle.plan.specs.PlanViews.{plan_view}
+use Rattle.plan.specs.SlotPlaces.{merged}
+use Rattle.slot_memory.specs.Cells.{cut}
 use Rattle.serial_core.specs.Steps.{State, made, stands, store_in, waits_in}
 use Rattle.serial_core.proofs.TakeLemmas.{merged_as, numbered_as, values_are, slots_numbered, waits-row}
 use Rattle.serial_core.proofs.serial.SerialCore.stands.Goals as goal

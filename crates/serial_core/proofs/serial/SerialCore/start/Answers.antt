@@ -1,10 +1,10 @@
 use Rattle.std.proofs.Common.{rules, ◌≡◌, ℕ, ◌∙◌, List, [], None, map, length, sym, ap, arith}
 use Rattle.std.proofs.lemmas.List.{length-map}
-use Rattle.st_words.specs.Values.{Datum}
-use Rattle.st_plans.specs.declared.entry.Entry.{Entry}
-use Rattle.st_plans.specs.Plans.{initial_store, schedules_of}
-use Rattle.config.specs.declared.plan.Plan.{Plan}
-use Rattle.config.specs.PlanViews.{plan_view}
+use Rattle.st_types.specs.Values.{Datum}
+use Rattle.st_types.specs.declared.entry.Entry.{Entry}
+use Rattle.st_meaning.specs.Plans.{initial_store, schedules_of}
+use Rattle.plan.specs.declared.plan.Plan.{Plan}
+use Rattle.plan.specs.PlanViews.{plan_view}
 use Rattle.serial_core.specs.Steps.{State, store_in}
 use Rattle.serial_core.proofs.VariableLemmas.{initial_stored}
 use Rattle.serial_core.proofs.StartLemmas.{kinds_first, kept_start}

@@ -1,10 +1,10 @@
 use Rattle.std.proofs.Common.{◌≡◌, Some, None, slice_get, sym, ap, subst, refl, ◌∙◌}
 use Rattle.std.specs.Prelude.{position}
-use Rattle.st_words.specs.Paths.{same_path}
-use Rattle.st_types.specs.Scopes.{seen}
-use Rattle.config.specs.declared.plan.Plan.{Plan}
-use Rattle.config.specs.declared.slots.SlotPlace.TheVariants.{Input, Variable}
-use Rattle.config.specs.SlotPlaces.{place_of}
+use Rattle.st_types.specs.Paths.{same_path}
+use Rattle.st_meaning.specs.Scopes.{seen}
+use Rattle.plan.specs.declared.plan.Plan.{Plan}
+use Rattle.plan.specs.declared.slots.SlotPlace.TheVariants.{Input, Variable}
+use Rattle.plan.specs.SlotPlaces.{place_of}
 use Rattle.serial_core.specs.Steps.{State, made, first_image, last_image, inputs_now}
 use Rattle.serial_core.proofs.ReadingLemmas.{input_told, is_placed, other_told, variable_told}
 use Rattle.serial_core.proofs.serial.SerialCore.value.Goals as goal

@@ -1,8 +1,8 @@
 use Rattle.std.proofs.Common.{◌≡◌, ◌∙◌, ap, refl, map}
-use Rattle.st_trees.specs.DeclarationViews.{type_declaration_view}
-use Rattle.st_trees.specs.SourceViews.{source_view}
-use Rattle.st_trees.specs.UnitViews.{unit_view}
-use Rattle.st_types.specs.NameTypes.{declared_in}
+use Rattle.st_types.specs.DeclarationViews.{type_declaration_view}
+use Rattle.st_types.specs.SourceViews.{source_view}
+use Rattle.st_types.specs.UnitViews.{unit_view}
+use Rattle.st_meaning.specs.NameTypes.{declared_in}
 use Rattle.st_check.proofs.lookups.Lookups.new.Goals as goal
 
 pub returns : goal.returns

@@ -1,3 +1,0 @@
-pub mod StepLemmas
-pub mod ScaleLemmas
-pub mod TextLemmas

@@ -1,4 +1,0 @@
-pub mod Shares
-pub mod Places
-pub mod Steps
-pub mod Texts

@@ -1,5 +1,0 @@
-pub mod Accesses
-pub mod Linked
-pub mod Lengths
-pub mod Signatures
-pub mod Emitting

@@ -1,4 +1,0 @@
-pub mod Codes
-pub mod Meanings
-pub mod Reads
-pub mod Windows

@@ -1,9 +1,0 @@
-use Rattle.std.proofs.Common.{◌≡◌, map, take}
-use Rattle.machine_code.specs.Tracking.{are_read}
-use Rattle.run_cells.specs.Cells.{cut}
-use Rattle.coded_runs.specs.Windows.{picked_in}
-use Rattle.coded_runs.proofs.gathering.reads_in.Given as goal
-
-abbrev pub invariant-loop-index : goal.invariant-loop-index
-invariant-loop-index l =
-    map cut l.cells.items ≡ picked_in (take l.index l.window) (are_read (take l.index l.marks)) (take l.index l.values)

@@ -1,6 +1,0 @@
-use Rattle.std.proofs.Common.{refl}
-use Rattle.coded_runs.proofs.InputLemmas.{left_out}
-use Rattle.coded_runs.proofs.laws.writes_to_inputs_change_no_variable.Goals as goal
-
-pub returns : goal.returns
-returns c = λ layout vs writes. left_out layout writes vs vs refl refl

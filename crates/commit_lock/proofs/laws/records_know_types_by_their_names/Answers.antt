@@ -1,5 +1,0 @@
-use Rattle.commit_lock.proofs.RecordedLemmas.{as_it_is}
-use Rattle.commit_lock.proofs.laws.records_know_types_by_their_names.Goals as goal
-
-pub returns-clause-elementary : goal.returns-clause-elementary
-returns-clause-elementary c = as_it_is

@@ -1,5 +1,0 @@
-use Rattle.commit_lock.proofs.GivenBack.{told_again}
-use Rattle.commit_lock.proofs.laws.records_tell_what_was_kept.Goals as goal
-
-pub returns : goal.returns
-returns c = told_again

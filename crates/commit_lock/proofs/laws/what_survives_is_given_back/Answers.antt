@@ -1,8 +1,0 @@
-use Rattle.commit_lock.proofs.GivenBack.{values_again, moment_again}
-use Rattle.commit_lock.proofs.laws.what_survives_is_given_back.Goals as goal
-
-pub returns-clause-values : goal.returns-clause-values
-returns-clause-values c = values_again
-
-pub returns-clause-moment : goal.returns-clause-moment
-returns-clause-moment c = moment_again

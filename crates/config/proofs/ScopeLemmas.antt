@@ -1,0 +1,79 @@
+-- The globals of a text that breaks no rule are declared once.
+use Rattle.std.proofs.Common.{◌≡◌, refl, sym, ap, ◌∙◌, List, [], ◌∷◌, ◌++◌, map}
+use Rattle.std.specs.List.{flat_map}
+use Rattle.std.proofs.lemmas.Grind.{flat_map-append}
+use Rattle.st_types.specs.Configurations.{Configuration}
+use Rattle.st_types.specs.Sources.{Source, types, unit, configuration}
+use Rattle.st_rules.specs.declared.rule.Rule.TheVariants.{DeclaredTwice}
+use Rattle.st_rules.specs.Faults.{breaking}
+use Rattle.st_rules.specs.ConfigurationRules.{configurations_in}
+use Rattle.st_rules.specs.NameScopes.{globals_of, names_in, names_of_text, scopes_in_globals, scopes_of_element}
+use Rattle.st_rules.specs.NameScopes.{scopes_of}
+use Rattle.st_rules.specs.NameScopes.{variables_of_text}
+use Rattle.st_rules.specs.Places.{places_where, repeats}
+use Rattle.st_rules.specs.Rules.{IsWellTyped, wrong_declarations, wrong_types, wrong_starts, wrong_bodies}
+use Rattle.st_rules.specs.TwiceDeclared.{is_standard, is_taken, twice_declared}
+
+-- of what is joined to nothing
+first_nothing : {A : Type 0} (xs ys : List A) → xs ++ ys ≡ [] → xs ≡ []
+first_nothing [] ys h = refl
+first_nothing (x ∷ xs) ys h = absurd (cc)
+
+rest_nothing : {A : Type 0} (xs ys : List A) → xs ++ ys ≡ [] → ys ≡ []
+rest_nothing [] ys h = h
+rest_nothing (x ∷ xs) ys h = absurd (cc)
+
+mapped_nothing : {A B : Type 0} (f : A → B) (xs : List A) → map f xs ≡ [] → xs ≡ []
+mapped_nothing f [] h = refl
+mapped_nothing f (x ∷ xs) h = absurd (cc)
+
+flat_first : {A B : Type 0} (f : A → List B) (xs ys : List A) → flat_map f (xs ++ ys) ≡ [] → flat_map f xs ≡ []
+flat_first f xs ys h = first_nothing (flat_map f xs) (flat_map f ys) (sym (flat_map-append f xs ys) ∙ h)
+
+flat_rest : {A B : Type 0} (f : A → List B) (xs ys : List A) → flat_map f (xs ++ ys) ≡ [] → flat_map f ys ≡ []
+flat_rest f xs ys h = rest_nothing (flat_map f xs) (flat_map f ys) (sym (flat_map-append f xs ys) ∙ h)
+
+only_one : {A : Type 0} (x y : A) (xs : List A) → (x ∷ xs) ≡ (y ∷ []) → x ≡ y
+only_one {A = A} x y xs h = ap (first x) h
+  where
+    first : A → List A → A
+    first d [] = d
+    first d (z ∷ zs) = z
+
+of_configuration : (c : Configuration) → flat_map repeats (scopes_of_element (configuration c)) ≡ []
+    → repeats (globals_of c) ≡ []
+of_configuration c h = first_nothing (repeats (globals_of c)) (flat_map repeats (flat_map scopes_in_globals c.globals))
+    (flat_first repeats (globals_of c ∷ flat_map scopes_in_globals c.globals)
+    (map (λ r. r.name) c.resources ∷ map names_in c.resources) h)
+
+among_scopes : (source : Source) (c : Configuration) → flat_map repeats (flat_map scopes_of_element source) ≡ []
+    → configurations_in source ≡ c ∷ [] → repeats (globals_of c) ≡ []
+among_scopes [] c h one = absurd (cc)
+among_scopes (types ts ∷ rest) c h one =
+    among_scopes rest c (flat_rest repeats (scopes_of_element (types ts)) (flat_map scopes_of_element rest) h) one
+among_scopes (unit u ∷ rest) c h one =
+    among_scopes rest c (flat_rest repeats (scopes_of_element (unit u)) (flat_map scopes_of_element rest) h) one
+among_scopes (configuration d ∷ rest) c h one =
+    ap (λ e. repeats (globals_of e)) (sym (only_one d c (configurations_in rest) one))
+    ∙ of_configuration d
+    (flat_first repeats (scopes_of_element (configuration d)) (flat_map scopes_of_element rest) h)
+
+first_of_five : {A : Type 0} (xs ys zs us vs : List A) → xs ++ ys ++ zs ++ us ++ vs ≡ [] → xs ≡ []
+first_of_five xs ys zs us vs h = first_nothing xs ys (first_nothing (xs ++ ys) zs
+    (first_nothing (xs ++ ys ++ zs) us (first_nothing (xs ++ ys ++ zs ++ us) vs h)))
+
+pub globals_once : (source : Source) (c : Configuration) → IsWellTyped source → configurations_in source ≡ c ∷ []
+    → repeats (globals_of c) ≡ []
+globals_once source c typed one =
+    let declared = first_nothing (wrong_declarations source) (wrong_types source)
+    (first_nothing (wrong_declarations source ++ wrong_types source) (wrong_starts source)
+    (first_nothing (wrong_declarations source ++ wrong_types source ++ wrong_starts source)
+    (wrong_bodies source) typed)) in
+    let twice = mapped_nothing (λ p. record { rule = DeclaredTwice; place = p }) (twice_declared source)
+    (first_of_five (breaking DeclaredTwice (twice_declared source)) _ _ _ _ declared) in
+    let names = names_of_text source in
+    let scopes = first_nothing (flat_map repeats (scopes_of source)) (places_where (λ x. is_standard x.name) names)
+    (first_nothing (flat_map repeats (scopes_of source) ++ places_where (λ x. is_standard x.name) names)
+    (places_where (is_taken names) (variables_of_text source)) twice) in
+    among_scopes source c
+    (rest_nothing (repeats names) (flat_map repeats (flat_map scopes_of_element source)) scopes) one

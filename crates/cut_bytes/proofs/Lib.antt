@@ -1,2 +1,0 @@
-pub mod CutLemmas
-pub mod NameLemmas

@@ -1,2 +1,0 @@
-pub mod CutLaws
-pub mod Cuts

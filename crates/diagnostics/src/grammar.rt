@@ -1,0 +1,213 @@
+//! What is said of texts that are not of the grammar (P1, P2).
+
+use crate::finding::Finding;
+use crate::open::{innermost_open, missing_word};
+use crate::spot::{Spot, is_mark};
+use st_lex::{Keyword, Mark, TokenKind};
+use st_types::limits::MAX_DEPTH;
+use std::alloc::{AllocError, Global};
+
+/// Whether an expression, a declaration or a statement may end with the token, so that a semicolon may stand behind it.
+fn may_end(kind: &TokenKind) -> bool {
+    match kind {
+        TokenKind::Keyword(keyword) => matches!(
+            keyword,
+            Keyword::Exit
+                | Keyword::Return
+                | Keyword::EndIf
+                | Keyword::EndCase
+                | Keyword::EndFor
+                | Keyword::EndWhile
+                | Keyword::EndRepeat
+                | Keyword::EndStruct
+        ),
+        TokenKind::Mark(mark) => matches!(mark, Mark::Close | Mark::CloseBracket),
+        _ => true,
+    }
+}
+
+/// Whether a statement or an END begins with the word.
+fn begins_anew(keyword: Keyword) -> bool {
+    matches!(
+        keyword,
+        Keyword::If
+            | Keyword::Elsif
+            | Keyword::Else
+            | Keyword::EndIf
+            | Keyword::Case
+            | Keyword::EndCase
+            | Keyword::For
+            | Keyword::EndFor
+            | Keyword::While
+            | Keyword::EndWhile
+            | Keyword::Repeat
+            | Keyword::Until
+            | Keyword::EndRepeat
+            | Keyword::Exit
+            | Keyword::Return
+            | Keyword::EndType
+            | Keyword::EndStruct
+            | Keyword::EndFunction
+            | Keyword::EndFunctionBlock
+            | Keyword::EndProgram
+            | Keyword::EndVar
+            | Keyword::EndConfiguration
+            | Keyword::EndResource
+            | Keyword::Task
+            | Keyword::Program
+    )
+}
+
+/// Whether the word is reserved and stands in no text of the language.
+fn is_left_out(keyword: Keyword) -> bool {
+    matches!(
+        keyword,
+        Keyword::Real
+            | Keyword::Lreal
+            | Keyword::String
+            | Keyword::Wstring
+            | Keyword::Date
+            | Keyword::VarInOut
+            | Keyword::VarTemp
+            | Keyword::VarAccess
+            | Keyword::VarConfig
+            | Keyword::En
+            | Keyword::Eno
+    )
+}
+
+/// Whether a semicolon may be missing before the place.
+fn lacks_semicolon(spot: &Spot) -> bool {
+    let Some(last) = spot.last() else {
+        return false;
+    };
+    match spot.here() {
+        Some(TokenKind::Keyword(keyword)) => may_end(last) && begins_anew(*keyword),
+        Some(TokenKind::Name(_)) => may_end(last) && spot.begins_line(),
+        _ => false,
+    }
+}
+
+/// Whether something new may begin at the place: what stands before it may end there.
+fn may_begin_anew(spot: &Spot) -> bool {
+    let Some(last) = spot.last() else {
+        return false;
+    };
+    match spot.here() {
+        Some(TokenKind::Keyword(keyword)) => may_end(last) && begins_anew(*keyword),
+        Some(TokenKind::Mark(_)) => false,
+        Some(_) => may_end(last),
+        None => false,
+    }
+}
+
+/// Whether a word is written as a name is: what declares or assigns a name stands behind it.
+fn stands_as_name(spot: &Spot) -> bool {
+    is_mark(spot.next(), Mark::Colon)
+        || is_mark(spot.next(), Mark::Assign)
+        || is_mark(spot.next(), Mark::Comma)
+}
+
+/// Whether an operand stands before the place.
+fn follows_operand(spot: &Spot) -> bool {
+    match spot.last() {
+        Some(TokenKind::Keyword(_)) => false,
+        Some(kind) => may_end(kind),
+        None => false,
+    }
+}
+
+/// What may help, as far as single tokens tell.
+fn help_of_token(spot: &Spot) -> Option<&'static str> {
+    match spot.here() {
+        Some(TokenKind::Keyword(keyword)) if is_left_out(*keyword) => {
+            Some("this word is reserved, but not part of the language here")
+        }
+        Some(TokenKind::Keyword(_)) if stands_as_name(spot) => {
+            Some("this word is reserved: it can't be a name")
+        }
+        Some(TokenKind::Elementary(_)) if stands_as_name(spot) => {
+            Some("this word is reserved: it can't be a name")
+        }
+        Some(TokenKind::Mark(Mark::Equal)) if follows_operand(spot) => {
+            Some("`:=` gives a value, `=` compares")
+        }
+        Some(TokenKind::Mark(Mark::Assign)) if missing_word(spot.before).is_some() => {
+            Some("`=` compares, `:=` gives a value")
+        }
+        _ => None,
+    }
+}
+
+/// What may help where a word is missing before the place: THEN, DO or OF, a semicolon, or the END of what is open.
+fn help_of_missing(alloc: Global, spot: &Spot) -> Result<Option<String>, AllocError> {
+    if may_begin_anew(spot) {
+        if let Some(word) = missing_word(spot.before) {
+            return Ok(Some(format!(in alloc; "`{word}` may be missing before it")?));
+        }
+    }
+    if lacks_semicolon(spot) {
+        return Ok(Some(String::from_str(alloc, "a `;` may be missing before it")?));
+    }
+    match spot.here() {
+        Some(TokenKind::Keyword(keyword)) => help_of_open(alloc, spot, *keyword),
+        _ => Ok(None),
+    }
+}
+
+/// What may help at a word that ends or begins something else than what is open.
+fn help_of_open(
+    alloc: Global,
+    spot: &Spot,
+    keyword: Keyword,
+) -> Result<Option<String>, AllocError> {
+    if !is_mark(spot.last(), Mark::Semicolon) || !begins_anew(keyword) {
+        return Ok(None);
+    }
+    match innermost_open(alloc, spot.before)? {
+        Some(end) => Ok(Some(format!(in alloc; "`{end}` may be missing before it")?)),
+        None => Ok(None),
+    }
+}
+
+fn of_token(alloc: Global, spot: &Spot) -> Result<Finding, AllocError> {
+    let spelled = spot.spelled();
+    let finding = Finding::new(format!(in alloc; "`{spelled}` can't stand here")?);
+    if let Some(help) = help_of_token(spot) {
+        return finding.with_help(alloc, help);
+    }
+    match help_of_missing(alloc, spot)? {
+        Some(help) => Ok(finding.helped(help)),
+        None => Ok(finding),
+    }
+}
+
+fn of_end(alloc: Global, spot: &Spot) -> Result<Finding, AllocError> {
+    let finding = Finding::plain(alloc, "the text ends too early")?;
+    match innermost_open(alloc, spot.before)? {
+        Some(end) => {
+            let help = format!(in alloc; "`{end}` is missing")?;
+            Ok(finding.helped(help))
+        }
+        None => Ok(finding),
+    }
+}
+
+/// What is said of a token with which no text goes on, or of the end of a text that goes on.
+pub fn of_grammar(alloc: Global, spot: &Spot) -> Result<Finding, AllocError> {
+    match spot.behind {
+        [] => of_end(alloc, spot),
+        _ => of_token(alloc, spot),
+    }
+}
+
+/// What is said of what is too deep.
+pub fn of_depth(alloc: Global) -> Result<Finding, AllocError> {
+    let sentence = format!(in alloc;
+        "an expression, a statement or an initial value is more than {MAX_DEPTH} deep"
+    )?;
+    Finding::new(sentence).with_help(
+        alloc,
+        "give a part of it a variable or a function of its own",
+    )
+}

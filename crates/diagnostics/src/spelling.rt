@@ -1,0 +1,36 @@
+//! A text with its tokens and its tree, and how it spells its names.
+
+use crate::part::{part as part_of, shown, word_in_front};
+use crate::spot::Spot;
+use st_lex::Token;
+use st_types::{Identifier, Source};
+use std::alloc::Global;
+
+/// A text with its tokens and its tree. What is said of it is written with the allocator.
+#[derive(Clone, Copy)]
+pub struct Text<'a> {
+    pub alloc: Global,
+    pub bytes: &'a [u8],
+    pub tokens: &'a [Token],
+    pub source: &'a Source,
+}
+
+impl<'a> Text<'a> {
+    /// A name as the text spells it where it stands.
+    pub fn spelled(&self, name: &Identifier) -> &'a str {
+        shown(word_in_front(part_of(self.bytes, name.place, self.bytes.len())))
+    }
+
+    /// The address behind the name of a global, as `out AT %QW0` has one.
+    pub fn address_behind(&self, name: &Identifier) -> Option<&'a Token> {
+        match Spot::new(self.bytes, self.tokens, name.place).behind {
+            [_, _, address, ..] => Some(address),
+            _ => None,
+        }
+    }
+
+    /// A token as the text spells it.
+    pub fn spelled_token(&self, token: &Token) -> &'a str {
+        shown(part_of(self.bytes, token.start, token.end))
+    }
+}

@@ -1,0 +1,62 @@
+use Rattle.std.proofs.Common.{◌∙◌, List, ap, refl}
+use Rattle.st_types.specs.Values.{Datum}
+use Rattle.retain_records.specs.Records.{Content}
+use Rattle.retain_records.specs.Told.{lines_in}
+use Rattle.retain_records.specs.Matching.{all_told}
+use Rattle.durable_core.specs.Restart.{layout_text_of}
+use Rattle.durable_core.proofs.MigratingLemmas.{are_across, migrated, start_again}
+use Rattle.durable_core.proofs.migrating.migrate.Goals as goal
+
+pub resume-requires-clause-kinds : goal.resume-requires-clause-kinds
+resume-requires-clause-kinds c =
+    let plan = c.args.parts.now.serial.plan in
+    let text = layout_text_of plan in
+    let content : Content = c.args.last.now in
+    let own = c.retain.new.values.items in
+    let valued = c.deref.ensures.value ∙ c.take_told.ensures.items text c.requires.lines
+    ∙ ap (λ t. all_told text (lines_in t c.values.result.now) own) c.layout.ensures
+    ∙ ap (λ (ds : List Datum). all_told text (lines_in content.layout ds) own) c.values.ensures in
+    let a = are_across plan c.args.parts.now.serial.room c.args.parts.now.serial content text own c.deref.result.now
+    c.requires.begun refl c.retain.ensures.values c.retain.ensures.kinds c.retain.ensures.held valued in
+    a.kinds
+
+pub resume-requires-clause-held : goal.resume-requires-clause-held
+resume-requires-clause-held c =
+    let plan = c.args.parts.now.serial.plan in
+    let text = layout_text_of plan in
+    let content : Content = c.args.last.now in
+    let own = c.retain.new.values.items in
+    let valued = c.deref.ensures.value ∙ c.take_told.ensures.items text c.requires.lines
+    ∙ ap (λ t. all_told text (lines_in t c.values.result.now) own) c.layout.ensures
+    ∙ ap (λ (ds : List Datum). all_told text (lines_in content.layout ds) own) c.values.ensures in
+    let a = are_across plan c.args.parts.now.serial.room c.args.parts.now.serial content text own c.deref.result.now
+    c.requires.begun refl c.retain.ensures.values c.retain.ensures.kinds c.retain.ensures.held valued in
+    a.held
+
+pub returns-clause-resumed : goal.returns-clause-resumed
+returns-clause-resumed c =
+    let plan = c.args.parts.now.serial.plan in
+    let text = layout_text_of plan in
+    let content : Content = c.args.last.now in
+    let own = c.retain.new.values.items in
+    let valued = c.deref.ensures.value ∙ c.take_told.ensures.items text c.requires.lines
+    ∙ ap (λ t. all_told text (lines_in t c.values.result.now) own) c.layout.ensures
+    ∙ ap (λ (ds : List Datum). all_told text (lines_in content.layout ds) own) c.values.ensures in
+    let a = are_across plan c.args.parts.now.serial.room c.args.parts.now.serial content text own c.deref.result.now
+    c.requires.begun refl c.retain.ensures.values c.retain.ensures.kinds c.retain.ensures.held valued in
+    migrated plan c.args.parts.now.serial.room content c.resume.new.self c.deref.result.now c.moment.result
+    c.resume.ensures.restarted c.moment.ensures a
+
+pub returns-clause-again : goal.returns-clause-again
+returns-clause-again c = λ generation.
+    let plan = c.args.parts.now.serial.plan in
+    let text = layout_text_of plan in
+    let content : Content = c.args.last.now in
+    let own = c.retain.new.values.items in
+    let valued = c.deref.ensures.value ∙ c.take_told.ensures.items text c.requires.lines
+    ∙ ap (λ t. all_told text (lines_in t c.values.result.now) own) c.layout.ensures
+    ∙ ap (λ (ds : List Datum). all_told text (lines_in content.layout ds) own) c.values.ensures in
+    let a = are_across plan c.args.parts.now.serial.room c.args.parts.now.serial content text own c.deref.result.now
+    c.requires.begun refl c.retain.ensures.values c.retain.ensures.kinds c.retain.ensures.held valued in
+    start_again plan c.args.parts.now.serial.room generation c.resume.new.self c.deref.result.now c.moment.result
+    c.resume.ensures.restarted a.kinds c.resume.ensures.kept

@@ -1,0 +1,23 @@
+use Rattle.std.proofs.Common.{◌+◌, ◌∙◌, sym, subst, arith}
+use Rattle.retain_store.specs.Recovered.{Recovered}
+use Rattle.durable_core.specs.Restart.{Survives}
+use Rattle.durable_core.proofs.SurvivalLemmas.{survives_now}
+use Rattle.durable_core.proofs.starting.saved_first.Goals as goal
+
+pub invariant_of-core : goal.invariant_of-core
+invariant_of-core g c =
+    let state = c.args.parts.serial in
+    let now = survives_now state 0 (c.args.store.generation + 1) (omega arith) in
+    let last = c.in-Ok.ensures.saved in
+    record {
+      started = c.requires.start;
+      early = c.requires.early;
+      log_room = c.requires.log_room;
+      last = subst (λ (r : Recovered). Survives state.plan state.start state.before state.log 0 r) (sym last.1) now;
+      tried = subst (λ (r : Recovered). Survives state.plan state.start state.before state.log 0 r)
+          (sym (last.2 ∙ last.1)) now;
+      few = omega arith;
+      met = sym last.3;
+      saves = omega (arith, c.in-Ok.ensures.room, c.requires.room, state.plan.sound.limits.record_is);
+      room_is = omega (arith, c.requires.kept, c.in-Ok.ensures.kept);
+    }

@@ -1,0 +1,62 @@
+use Rattle.std.proofs.Common.{rules, ◌≡◌, ◌∙◌, false, refl, sym, ap, subst, inl}
+use Rattle.disk.specs.Runs.{LeavesOnly, started, weakens}
+use Rattle.retain_store.specs.Recovered.{Recovered, recovered, Found}
+use Rattle.serial_core.specs.Steps.{State}
+use Rattle.durable_core.specs.Restart.{record_now, warm}
+use Rattle.durable_core.specs.Cores.{CoreView}
+use Rattle.durable_core.specs.Starting.{LeftByStart, started as started_so}
+use Rattle.durable_core.specs.declared.starting.StartMode.TheVariants.{Warm}
+use Rattle.durable_core.proofs.StartLemmas.{either_is, left_saved, match_both, ok_both, record_started, started_warm}
+use Rattle.durable_core.proofs.starting.warm.Goals as goal
+
+pub gone_on-requires-clause-start : goal.gone_on-requires-clause-start
+gone_on-requires-clause-start g c =
+    started_warm c.args.parts.serial.plan c.args.parts.serial.room c.args.store.last
+    c.resume_from-is_same.new.parts.serial c.resume_from-is_same.ensures.resumed
+
+pub saved_first-requires-clause-start : goal.saved_first-requires-clause-start
+saved_first-requires-clause-start g c =
+    started_warm c.args.parts.serial.plan c.args.parts.serial.room c.args.store.last
+    c.resume_from-is_same.new.parts.serial c.resume_from-is_same.ensures.resumed
+
+pub returns-then-is_same-clause-any_moment : goal.returns-then-is_same-clause-any_moment
+returns-then-is_same-clause-any_moment g c = λ tells.
+    let store = c.args.store in
+    let kept = c.kept.ensures.left tells in
+    subst (λ (d : _). LeavesOnly g.D.Disk.left_since g.D.Disk.may_leave store.disk d
+    (λ file. LeftByStart Warm c.args.parts.serial.plan store.last (recovered file)))
+    (sym (ap (λ (core : CoreView _). core.store.disk) c.gone_on.ensures.core))
+    (started g.D.Disk.left_since g.D.Disk.may_leave _ _ (λ file left. g.met.D.Disk.only_now _ file tells left)
+    (λ file left. inl (either_is store.last store.tried (recovered file) c.requires.tried (kept file left))))
+
+pub returns-else-is_same-clause-again : goal.returns-else-is_same-clause-again
+returns-else-is_same-clause-again g c =
+    let plan = c.args.parts.serial.plan in
+    let room = c.args.parts.serial.room in
+    let other : c.resume_from-is_same.result ≡ false = search rules in
+    let again = c.resume_from-is_same.ensures.again other in
+    ok_both c.saved_first.result _ _ _ (λ core same saved. same ∙ again core.store.generation
+    ∙ ap (λ (file : Recovered). started_so plan room (warm plan file)) (sym saved)) c.saved_first.ensures.state
+    c.saved_first.ensures.saved
+
+pub returns-else-is_same-clause-saved : goal.returns-else-is_same-clause-saved
+returns-else-is_same-clause-saved g c = λ other.
+    ok_both c.saved_first.result _ _ _ (λ core same saved. saved
+    ∙ ap (λ (s : State). Found core.store.generation (record_now s)) (sym same)) c.saved_first.ensures.state
+    c.saved_first.ensures.saved
+
+pub returns-else-is_same-clause-any_moment : goal.returns-else-is_same-clause-any_moment
+returns-else-is_same-clause-any_moment g c = λ tells.
+    let plan = c.args.parts.serial.plan in
+    let store = c.args.store in
+    let state = c.resume_from-is_same.new.parts.serial in
+    let no : c.resume_from-is_same.result ≡ false = search rules in
+    let other = c.resume_from-is_same.ensures.other no in
+    let kept = record_started Warm plan c.args.parts.serial.room state store.last
+    c.resume_from-is_same.ensures.resumed in
+    match_both c.saved_first.result _ _ _ _
+    (λ core save. weakens g.D.Disk.left_since g.D.Disk.may_leave _ _ _ _ save (λ file. left_saved Warm plan
+    (record_now state) store.last store.last (recovered file) store.generation other c.requires.last refl kept))
+    (λ e save. weakens g.D.Disk.left_since g.D.Disk.may_leave _ _ _ _ save (λ file. left_saved Warm plan
+    (record_now state) store.last store.last (recovered file) store.generation other c.requires.last refl kept))
+    (c.saved_first.ensures.any_moment tells)

@@ -1,0 +1,6 @@
+pub mod Recorded
+pub mod Restart
+pub mod Cores
+pub mod Kept
+pub mod Starting
+pub mod Flushing

@@ -1,0 +1,109 @@
+//! The core over a disk.
+
+ghost use Rattle.std.specs.Prelude.{◌≡◌, ◌≤◌, ◌<◌, List, ℕ, IfSome, length};
+ghost use Rattle.st_types.specs.declared.limits.TheConstants.{MAX_LOG_ROOM, MOMENT_LIMIT};
+ghost use Rattle.st_meaning.specs.Logs.{IsLegal};
+ghost use Rattle.plan.specs.PlanViews.{plan_view};
+ghost use Rattle.retain_store.specs.Recovered.{recovered};
+ghost use Rattle.retain_store.specs.Kept.{IsLast};
+ghost use Rattle.durable_core.specs.Cores.{survives};
+ghost use Rattle.durable_core.specs.Starting.{IsStart, start_in};
+
+use crate::starting::StartMode;
+use disk::Disk;
+use retain_store::{Store, StoreFault};
+use serial_core::SerialCore;
+use st_types::Value;
+use std::marker::Model;
+
+/// A core over a disk. Contracts see how it was started, its plan, start and log, how many entries are acknowledged, and
+/// its store.
+///
+/// It was started as it says. Its log is legal, its variables are what the executions of the log give, one after
+/// another, and on a disk that tells every file that a stop now may leave survives: a warm restart gives what a prefix of
+/// the log leaves, which holds all that is acknowledged.
+pub struct Core<D: Disk> {
+    /// How it was started.
+    pub(crate) mode: StartMode,
+    pub(crate) serial: SerialCore,
+    pub(crate) store: Store<D>,
+    /// Room for the values of a record.
+    pub(crate) kept: Vec<Value>,
+    /// How many entries of the log are acknowledged.
+    pub(crate) acked: usize,
+    /// Why the store failed, once a flush has met it.
+    pub(crate) failed: Option<StoreFault>,
+}
+
+impl<D: Disk + Drop> Drop for Core<D> {
+    fn drop(self) {
+        let Self {
+            mode: _,
+            serial: _,
+            store: _,
+            kept: _,
+            acked: _,
+            failed: _,
+        } = self;
+    }
+}
+
+impl<D: Disk> Model for Core<D> {
+    ghost use Rattle.std.specs.Coded.{codes};
+    ghost use Rattle.st_types.specs.contracts.source.Source as source;
+    ghost use Rattle.slot_code.specs.contracts.code.Code as code;
+    ghost use Rattle.durable_core.specs.Cores.{CoreView};
+
+    ghost Value = { CoreView D };
+
+    ghost coded = { Prim.hlevel (codes, source.the_row.coded, code.the_row.coded) };
+
+    ghost use Rattle.std.specs.Prelude.{◌≡◌, ◌≤◌, length, vec_capacity};
+    ghost use Rattle.durable_core.specs.Kept.{CoreInvariant};
+
+    ghost view = { λ x. record {
+      mode = x.mode;
+      state = x.serial;
+      acked = x.acked;
+      failed = x.failed;
+      store = x.store;
+    } };
+
+    ghost invariant = { λ x. CoreInvariant x.mode x.serial x.acked x.failed x.store (vec_capacity x.kept) };
+}
+
+impl<D: Disk> Core<D> {
+    /// Tells what the type keeps: every file that a stop now may leave survives, it was started as it says, and its log
+    /// is legal and no longer than a log may be.
+    pub fn kept(&self)
+        ensures survives { D.tells → (file : List ℕ) → D.may_leave self.now.store.disk file
+            → survives self.now (recovered file) }
+        ensures few { self.now.acked ≤ length self.now.state.log }
+        ensures last { IsLast self.now.store.generation self.now.store.last }
+        ensures started { IsStart self.now.state.plan self.now.mode (start_in self.now.state) }
+        ensures early { IfSome self.now.state.before (λ t. t < MOMENT_LIMIT) }
+        ensures room { length self.now.state.log ≤ MAX_LOG_ROOM }
+        ensures legal { IsLegal (plan_view self.now.state.plan) self.now.state.start self.now.state.before
+            self.now.state.log }
+    {
+        self.store.kept();
+        let _length = self.serial.len();
+    }
+
+    /// Ends the life and gives the disk back, without a call of it.
+    pub fn stop(self) -> D
+        ensures disk { result ≡ self.store.disk }
+        ensures survives { D.tells → (file : List ℕ) → D.may_leave result file → survives self (recovered file) }
+    {
+        self.kept();
+        let Core {
+            mode: _,
+            serial: _,
+            store,
+            kept: _,
+            acked: _,
+            failed: _,
+        } = self;
+        store.into_disk()
+    }
+}

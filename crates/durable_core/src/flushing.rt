@@ -1,0 +1,61 @@
+//! Acknowledging what is in the log.
+
+ghost use Rattle.std.specs.Prelude.{◌≡◌, ◌≤◌, None, Some, IfOk, IfErr, IsErrOf, MatchResult, length};
+ghost use Rattle.retain_store.specs.declared.shape.TheConstants.{FILE_BYTES};
+ghost use Rattle.durable_core.specs.Cores.{Outlives};
+ghost use Rattle.durable_core.specs.Flushing.{Flushes, CountsFlush};
+
+use crate::core_state::Core;
+use crate::refusal::Refusal;
+use crate::saving::save_record;
+use disk::Disk;
+use retain_store::StoreFault;
+
+impl<D: Disk> Core<D> {
+    /// How many entries of the log are acknowledged: a restart gives what a prefix of the log leaves that holds them
+    /// all.
+    pub fn acked(&self) -> usize
+        ensures acked { result ≡ self.now.acked }
+        ensures few { result ≤ length self.now.state.log }
+    {
+        self.kept();
+        self.acked
+    }
+
+    /// Saves what is kept of the variables, where the log is longer than what is acknowledged, and gives the log's
+    /// length, which is acknowledged then. It takes no memory, and makes no device call where all is acknowledged.
+    ///
+    /// K5 where the store has failed before or fails now, for good; what is acknowledged stays as it was.
+    pub fn flush(&mut self) -> Result<usize, Refusal>
+        ensures flushes { Flushes self.old result self.new }
+        ensures device { CountsFlush result (D.failure_count self.old.store.disk) (D.failure_count self.new.store.disk)
+            self.old self.new }
+
+        // K5 comes from a disk that serves a whole file only where the device has failed before, or by S4.
+        ensures serves { D.serves self.old.store.disk FILE_BYTES → D.serves self.new.store.disk FILE_BYTES
+            × (IsErrOf result (Refusal.StoreFailed StoreFault.Device) → self.old.failed ≡ Some StoreFault.Device) }
+        ensures outlives { D.tells → Outlives D.left_since D.may_leave self.old self.new }
+    {
+        self.kept();
+        if let Some(cause) = self.failed {
+            return Err(Refusal::StoreFailed(cause));
+        }
+        let length = self.serial.len();
+        if self.acked == length {
+            return Ok(length);
+        }
+        let saved = save_record(&self.serial, &mut self.store, &mut self.kept);
+        match saved {
+            Ok(()) => {
+                self.acked = length;
+                self.kept();
+                Ok(length)
+            }
+            Err(cause) => {
+                self.failed = Some(cause);
+                self.kept();
+                Err(Refusal::StoreFailed(cause))
+            }
+        }
+    }
+}

@@ -1,5 +1,0 @@
-use Rattle.kept_lines.proofs.OtherPlanLemmas.{carried_over}
-use Rattle.kept_lines.proofs.laws.restarts_give_other_plans_what_is_theirs.Goals as goal
-
-pub returns-clause-store : goal.returns-clause-store
-returns-clause-store c = carried_over

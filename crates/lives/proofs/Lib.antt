@@ -1,6 +1,0 @@
-mod DriveLemmas
-mod LogLemmas
-mod AckedLemmas
-mod LifeLemmas
-mod FrontLemmas
-mod CauseLemmas

@@ -1,3 +1,0 @@
-pub mod Driving
-pub mod LogsOfLives
-pub mod Lives

@@ -1,3 +1,0 @@
-pub mod RestLemmas
-pub mod FirstLemmas
-pub mod WatchLemmas

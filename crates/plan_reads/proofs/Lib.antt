@@ -1,3 +1,0 @@
-pub mod ReadLemmas
-pub mod WithoutValues
-pub mod PlanReads

@@ -1,5 +1,0 @@
-use Rattle.plan_reads.proofs.PlanReads.{asks_for_reads}
-use Rattle.plan_reads.proofs.laws.executions_of_plans_read_what_is_asked_for.Goals as goal
-
-pub returns : goal.returns
-returns c = asks_for_reads

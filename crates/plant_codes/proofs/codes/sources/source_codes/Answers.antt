@@ -1,5 +1,0 @@
-use Rattle.std.proofs.Common.{refl}
-use Rattle.plant_codes.proofs.codes.sources.source_codes.Goals as goal
-
-pub returns : goal.returns
-returns c = refl

@@ -1,9 +1,0 @@
-use Rattle.std.proofs.Common.{◌∙◌, ap, find, option_map}
-use Rattle.plant_codes.specs.Codes.{code_of, is_code}
-use Rattle.plant_codes.proofs.FindingLemmas.{code_behind, find_code}
-use Rattle.plant_codes.proofs.finding.explanation.Goals as goal
-
-pub returns : goal.returns
-returns c =
-    code_behind _ ∙ ap (option_map code_of) c.find_in.ensures ∙ find_code c.args.code.now c.entries_like.result.now
-    ∙ ap (find (is_code c.args.code.now)) c.entries_like.ensures

@@ -1,8 +1,0 @@
-use Rattle.std.proofs.Common.{take}
-use Rattle.std.specs.Io.KnownBytes.{Appends}
-use Rattle.plant_codes.specs.Spelling.{lines_text}
-use Rattle.plant_codes.proofs.writing.write_lines.Given as goal
-
-abbrev pub invariant-loop-line : goal.invariant-loop-line
-invariant-loop-line g l =
-    Appends (g.W.Write.contents l.initial.out) (g.W.Write.contents l.out) (lines_text l.before (take l.line-index l.lines))

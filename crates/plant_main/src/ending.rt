@@ -1,0 +1,66 @@
+//! How the program ends.
+
+ghost use Rattle.std.specs.Prelude.{◌≡◌};
+
+use source_run::Fault;
+use thiserror::Error;
+
+/// The exit status where the words are refused, or the job isn't begun.
+const REFUSED: u8 = 1;
+
+/// The exit status where the standard output can't be written.
+const UNTOLD: u8 = 5;
+
+/// Why a job isn't begun.
+#[derive(Clone, Copy, Debug, PartialEq, Eq, Error)]
+pub enum Declined {
+    /// The retain file is, by another name, the source, the plant or the trace.
+    #[error("error: the retain file is the source, the plant or the trace")]
+    SharedStore,
+    /// The file for the picture is, by another name, the source, the plant or the trace.
+    #[error("error: the picture is the source, the plant or the trace")]
+    SharedPicture,
+    /// The file for the picture can't be written.
+    #[error("error: the picture can't be written")]
+    NoPicture,
+    /// A path names no variable of the source.
+    #[error("error: a path names no variable of the source")]
+    NoVariable,
+    /// No code is explained under that name.
+    #[error("error: there is no such code")]
+    NoCode,
+}
+
+/// How the program ends.
+#[derive(Clone, Copy, Debug, PartialEq, Eq)]
+pub enum Ending {
+    /// The job is done, and what it tells is on the standard output.
+    Done,
+    /// The help that was asked for is on the standard output.
+    Helped,
+    /// The words are refused.
+    Misworded,
+    /// The job isn't begun.
+    Declined(Declined),
+    /// A fault ended the job.
+    Fault(Fault),
+    /// The standard output takes no more.
+    Untold,
+}
+
+impl Ending {
+    ghost use Rattle.plant_main.specs.Statuses.{ending_status};
+
+    /// The exit status: 0 done or helped, 1 for words that are refused and what isn't begun, that of a fault, and 5
+    /// where the standard output takes no more.
+    pub fn status(self) -> u8
+        ensures { result ≡ ending_status self }
+    {
+        match self {
+            Ending::Done | Ending::Helped => 0,
+            Ending::Misworded | Ending::Declined(_) => REFUSED,
+            Ending::Fault(fault) => fault.status(),
+            Ending::Untold => UNTOLD,
+        }
+    }
+}

@@ -1,0 +1,116 @@
+//! The program, from its words to how it ends.
+
+ghost use Rattle.std.specs.Prelude.{◌≡◌, IfOk};
+ghost use Rattle.source_run.specs.declared.job.Job.{Job};
+ghost use Rattle.plant_main.specs.Endings.{Ends, Performs};
+ghost use Rattle.plant_main.specs.Jobs.{EndsWell};
+
+use crate::ending::{Declined, Ending};
+use crate::explaining::explain;
+use crate::first_run::first;
+use crate::meaning::meaning;
+use crate::plotting::plot;
+use crate::reading::{is_out_of_memory, read_words};
+use crate::replaying::replay;
+use crate::showing::show;
+use crate::sizes::sizes_of;
+use crate::telling::{End, tell, tell_words};
+use source_run::{CheckJob, DEFAULT_BUDGET, Fault, Files, Job, RunJob, plan_of, run_plan};
+use std::alloc::Global;
+use std::io::Write;
+use std::sync::Wait;
+use std::thread::Threads;
+
+/// Reads and builds the source, and gives its sizes.
+fn check<F: Files>(alloc: Global, files: &mut F, job: &CheckJob<'_>) -> Result<End, Fault>
+    ensures { IfOk result (λ end. EndsWell F.Disk (Job.Check job.now) end) }
+{
+    let plan = plan_of(alloc, files, job.source, DEFAULT_BUDGET)?;
+    Ok(End::Report(sizes_of(alloc, &plan)?))
+}
+
+/// Whether the retain file is the source, the plant or the trace, as far as the system tells.
+fn shares_store<F: Files>(files: &mut F, job: &RunJob<'_>) -> bool {
+    if let Some(trace) = job.trace {
+        if files.is_one_file(job.store, trace) {
+            return true;
+        }
+    }
+    files.is_one_file(job.store, job.source) || files.is_one_file(job.store, job.plant)
+}
+
+/// Reads and builds the source, then reads the plant, then opens the store and starts, then runs, then writes the trace.
+fn run<F: Files, R: Threads + Wait + Eprint + Sync>(
+    rt: &R,
+    alloc: Global,
+    files: &mut F,
+    job: &RunJob<'_>,
+) -> Result<End, Fault>
+    ensures { IfOk result (λ end. EndsWell F.Disk (Job.Run job.now) end) }
+{
+    if shares_store(files, job) {
+        return Ok(End::Declined(Declined::SharedStore));
+    }
+    let plan = plan_of(alloc, files, job.source, job.budget)?;
+    Ok(End::Report(run_plan(rt, alloc, files, plan, job)?))
+}
+
+/// How the job ends.
+fn done<F: Files, R: Threads + Wait + Eprint + Sync>(
+    rt: &R,
+    alloc: Global,
+    files: &mut F,
+    job: &Job<'_>,
+) -> Result<End, Fault>
+    ensures { IfOk result (λ end. EndsWell F.Disk job.now end) }
+{
+    match job {
+        Job::First => Ok(End::Report(first(rt, alloc)?)),
+        Job::Check(job) => check(alloc, files, job),
+        Job::Run(job) => run(rt, alloc, files, job),
+        Job::Replay(job) => Ok(End::Report(replay(alloc, files, job)?)),
+        Job::Show(job) => Ok(End::Report(show(alloc, files, job)?)),
+        Job::Plot(job) => plot(alloc, files, job),
+        Job::Explain { code } => match meaning(alloc, code)? {
+            Some(text) => Ok(End::Report(text)),
+            None => Ok(End::Declined(Declined::NoCode)),
+        },
+    }
+}
+
+/// Does a job. A fault is one line `fault CODE` or `fault CODE at PLACE` on the standard error, with a view for a person
+/// behind it where the job asks for one, and nothing is on the standard output then.
+pub fn perform<F: Files, O: Write, E: Write, R: Threads + Wait + Eprint + Sync>(
+    rt: &R,
+    alloc: Global,
+    job: &Job<'_>,
+    files: &mut F,
+    out: &mut O,
+    err: &mut E,
+) -> Ending
+    ensures { Performs O.contents F.Disk job.now result out.old out.new }
+{
+    let ending = tell(done(rt, alloc, files, job), out, err);
+    if let Ending::Fault(fault) = ending {
+        explain(alloc, files, job, fault, err);
+    }
+    ending
+}
+
+/// Does what the words ask, the program's name first.
+pub fn plant<F: Files, O: Write, E: Write, R: Threads + Wait + Eprint + Sync>(
+    rt: &R,
+    alloc: Global,
+    words: &[&str],
+    files: &mut F,
+    out: &mut O,
+    err: &mut E,
+) -> Ending
+    ensures { Ends O.contents F.Disk result out.old out.new }
+{
+    match read_words(alloc, words) {
+        Ok(job) => perform(rt, alloc, &job, files, out, err),
+        Err(refused) if is_out_of_memory(&refused) => tell(Err(Fault::NO_MEMORY), out, err),
+        Err(refused) => tell_words(&refused, out, err),
+    }
+}

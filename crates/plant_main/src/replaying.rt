@@ -1,0 +1,148 @@
+//! Traces that are run again.
+
+ghost use Rattle.std.specs.Prelude.{◌≡◌, ◌≢◌, ◌⊎◌, List, ℕ, None, IfOk, IfErr, map};
+ghost use Rattle.std.specs.Vec.{vec_items};
+ghost use Rattle.st_types.specs.Rows.{Latch};
+ghost use Rattle.image.specs.Plants.{AreRowsOf};
+ghost use Rattle.source_run.specs.Reports.{report_text};
+ghost use Rattle.plant_main.specs.Jobs.{IsNoTrace, IsReplay, IsReplayOf, IsToldBy, IsTraceFault, RefusesTrace};
+ghost use Rattle.source_run.specs.Lives.{counts_of};
+
+use commit_lock::{ReplayError, Replayed, replay_text, trace_budget};
+use plan::Plan;
+use source_run::{Counts, Fault, Files, ReplayJob, plan_of, read_rows, report_with};
+use st_types::Row;
+use std::alloc::Global;
+use std::io;
+use std::io::Read;
+use std::sync::Arc;
+
+/// Why a trace can't be read: V5 out of memory, else V6.
+fn unread_trace(error: &io::Error) -> ReplayError
+    ensures { (result ≡ ReplayError.NoMemory) ⊎ (result ≡ ReplayError.Device) }
+{
+    if error.kind() == io::ErrorKind::OutOfMemory {
+        return ReplayError::NoMemory;
+    }
+    ReplayError::Device
+}
+
+/// More bytes than any trace has: 65,536 entries have lines of at most 144 bytes.
+const MAX_TRACE_BYTES: u64 = 16 * 1024 * 1024;
+
+/// The bytes of a trace, as far as a trace may have them.
+pub(crate) fn read_trace<F: Files>(
+    alloc: Global,
+    files: &mut F,
+    name: &str,
+) -> Result<Vec<u8>, ReplayError>
+    ensures { IfErr result (λ error. (error ≡ ReplayError.NoMemory) ⊎ (error ≡ ReplayError.Device)) }
+{
+    let reader = match files.read(name) {
+        Ok(reader) => reader,
+        Err(error) => return Err(unread_trace(&error)),
+    };
+    let mut trace = Vec::new(alloc);
+    match reader.take(MAX_TRACE_BYTES).read_to_end(&mut trace) {
+        Ok(_) => Ok(trace),
+        Err(error) => Err(unread_trace(&error)),
+    }
+}
+
+/// The report of a life that was run again; the only fault is out of memory.
+fn report_of(alloc: Global, plan: &Plan, found: &Replayed) -> Result<Vec<u8>, Fault>
+    ensures told { IfOk result (λ text.
+        text.items ≡ report_text (counts_of found.now) (map vec_items plan.now.enumerations.items)
+        plan.now.variables.items found.now.values.items) }
+    ensures memory { IfErr result (λ fault. IsTraceFault fault → ⊥) }
+{
+    let counts = Counts {
+        rows: found.rows,
+        done: found.done,
+        faults: found.faults,
+        overruns: found.overruns,
+        acked: None,
+    };
+    match report_with(
+        alloc,
+        &counts,
+        &plan.enumerations,
+        &plan.variables,
+        &found.values,
+    ) {
+        Ok(report) => Ok(report),
+        Err(_) => Err(Fault::NO_MEMORY),
+    }
+}
+
+/// Runs the trace again by one thread over these rows, and gives the report.
+fn run_again(alloc: Global, plan: &Arc<Plan>, rows: &[Row], trace: &[u8]) -> Result<Vec<u8>, Fault>
+    ensures report { IfOk result (λ text. IsToldBy plan.now.value rows.now trace.now text.items) }
+    ensures refused { IfErr result (λ fault. IsTraceFault fault → IsNoTrace plan.now.value rows.now trace.now) }
+{
+    let Ok(shared) = Arc::clone(plan) else {
+        return Err(Fault::Trace(ReplayError::NoMemory));
+    };
+    match replay_text(alloc, shared, rows, trace) {
+        Ok(found) => report_of(alloc, plan, &found),
+        Err(error) => Err(Fault::Trace(error)),
+    }
+}
+
+/// Reads the plant, then runs the trace again over its rows, and gives the report.
+fn replay_plan<F: Files>(
+    alloc: Global,
+    files: &mut F,
+    plan: Plan,
+    plant: &str,
+    trace: &[u8],
+) -> Result<Vec<u8>, Fault>
+    ensures report { IfOk result (λ text. IsReplayOf plan trace.now text.items) }
+    ensures refused { IfErr result (λ fault. IsTraceFault fault
+        → (rows : List Latch) × AreRowsOf plan.inputs.items rows × IsNoTrace plan rows trace.now) }
+{
+    let rows = match read_rows(alloc, files, plant, &plan) {
+        Ok(rows) => rows,
+        Err(fault) => return Err(fault),
+    };
+    match Arc::new(alloc, plan) {
+        Ok(plan) => run_again(alloc, &plan, &rows, trace),
+        Err(_) => Err(Fault::Trace(ReplayError::NoMemory)),
+    }
+}
+
+/// Builds the source for the budget that the trace tells, then reads the plant and runs the trace again.
+fn replay_trace<F: Files>(
+    alloc: Global,
+    files: &mut F,
+    job: &ReplayJob<'_>,
+    trace: &[u8],
+) -> Result<Vec<u8>, Fault>
+    ensures report { IfOk result (λ text. IsReplay text.items) }
+    ensures refused { IfErr result (λ fault. RefusesTrace trace.now fault) }
+{
+    let budget = match trace_budget(trace) {
+        Ok(budget) => budget,
+        Err(error) => return Err(Fault::Trace(error)),
+    };
+    match plan_of(alloc, files, job.source, budget) {
+        Ok(plan) => replay_plan(alloc, files, plan, job.plant, trace),
+        Err(fault) => Err(fault),
+    }
+}
+
+/// Reads the trace and its budget, then reads and builds the source, then reads the plant, then runs the trace again;
+/// the first fault ends it.
+pub(crate) fn replay<F: Files>(
+    alloc: Global,
+    files: &mut F,
+    job: &ReplayJob<'_>,
+) -> Result<Vec<u8>, Fault>
+    ensures report { IfOk result (λ text. IsReplay text.items) }
+    ensures refused { IfErr result (λ fault. (trace : List ℕ) × RefusesTrace trace fault) }
+{
+    match read_trace(alloc, files, job.trace) {
+        Ok(trace) => replay_trace(alloc, files, job, &trace),
+        Err(error) => Err(Fault::Trace(error)),
+    }
+}

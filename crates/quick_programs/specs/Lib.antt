@@ -1,3 +1,0 @@
-pub mod Quick
-pub mod Told
-pub mod Sharing

@@ -1,5 +1,0 @@
-pub mod AreaLemmas
-pub mod Formats
-mod Steps
-pub mod Stretches
-pub mod Surveys

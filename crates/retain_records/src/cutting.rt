@@ -1,0 +1,18 @@
+//! Bytes that are cut at a mark.
+
+ghost use Rattle.std.specs.Prelude.{◌≡◌, ◌==◌, option_map, position};
+ghost use Rattle.retain_records.specs.Cuts.{cut};
+
+/// What stands before the first such byte, and what stands after it.
+pub fn cut(mark: u8, bytes: &[u8]) -> Option<(&[u8], &[u8])>
+    ensures { option_map (λ p. (p.0.now, p.1.now)) result ≡ cut mark bytes.now }
+{
+    let end = position_of(mark, bytes)?;
+    Some((&bytes[..end], &bytes[end + 1..]))
+}
+
+fn position_of(mark: u8, bytes: &[u8]) -> Option<usize>
+    ensures { result ≡ position (λ byte. byte == mark) bytes.now }
+{
+    bytes.iter().position(|byte| *byte == mark)
+}

@@ -1,4 +1,0 @@
-pub mod Chains
-pub mod ExpressionViews
-pub mod StatementViews
-pub mod LibraryViews

@@ -1,0 +1,8 @@
+use Rattle.std.proofs.Common.{take}
+use Rattle.std.specs.Io.KnownBytes.{Appends}
+use Rattle.source_run.specs.Spelling.{lines_text}
+use Rattle.source_run.proofs.code_writing.write_lines.Given as goal
+
+abbrev pub invariant-loop-line : goal.invariant-loop-line
+invariant-loop-line g l =
+    Appends (g.W.Write.contents l.initial.out) (g.W.Write.contents l.out) (lines_text l.before (take l.line-index l.lines))

@@ -1,0 +1,5 @@
+use Rattle.std.proofs.Common.{refl}
+use Rattle.source_run.proofs.codes.configurations.configuration_codes.Goals as goal
+
+pub returns : goal.returns
+returns c = refl

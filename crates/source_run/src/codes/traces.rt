@@ -1,0 +1,92 @@
+//! Codes of the trace.
+
+ghost use Rattle.std.specs.Prelude.{◌≡◌, map};
+ghost use Rattle.source_run.specs.ToldCodes.{code_of, told_traces};
+
+use crate::entry::{Example, Explanation, Frame, Status};
+
+static EXPLANATIONS: [Explanation; 6] = [
+    Explanation {
+        code: "V1",
+        title: "a line is not of the format, or tells what is not the plan's",
+        meaning: &[
+            "The plan's are its retained variables, their initial values after a cold start, and its programs.",
+            "The last line has the number of rows and executions before it.",
+        ],
+        example: Some(Example {
+            frame: Frame::Trace,
+            wrong: &["end 5"],
+            right: &["end 6"],
+        }),
+        status: Status::Trace,
+    },
+    Explanation {
+        code: "V2",
+        title: "a row is not the plant's next one, or not later than the one before it",
+        meaning: &["The rows of a trace are the first rows of the plant, by their moments."],
+        example: Some(Example {
+            frame: Frame::Trace,
+            wrong: &["row 11"],
+            right: &["row 10"],
+        }),
+        status: Status::Trace,
+    },
+    Explanation {
+        code: "V3",
+        title: "an execution of what was not waiting",
+        meaning: &[
+            "A line done has the program, and the number of the row that made it due, from 0.",
+        ],
+        example: Some(Example {
+            frame: Frame::Trace,
+            wrong: &["done R/P 0 ok"],
+            right: &["done R/P 1 ok"],
+        }),
+        status: Status::Trace,
+    },
+    Explanation {
+        code: "V4",
+        title: "an execution that ends in another way",
+        meaning: &["A line done ends with ok, or with the fault of the execution."],
+        example: Some(Example {
+            frame: Frame::Trace,
+            wrong: &["done R/P 0 F1"],
+            right: &["done R/P 0 ok"],
+        }),
+        status: Status::Trace,
+    },
+    Explanation {
+        code: "V5",
+        title: "memory ran out while a trace was read, run again or written",
+        meaning: &["The trace may be right."],
+        example: Some(Example {
+            frame: Frame::ShortMemory,
+            wrong: &["(ulimit -v 7000; plant replay own.st --plant own.csv --trace own.trace)"],
+            right: &["plant replay own.st --plant own.csv --trace own.trace"],
+        }),
+        status: Status::Trace,
+    },
+    Explanation {
+        code: "V6",
+        title: "the trace can't be read, or in a run not written",
+        meaning: &[
+            "A run that can't write its trace has ended well, and its retain file is as it is after it.",
+        ],
+        example: Some(Example {
+            frame: Frame::Command,
+            wrong: &["plant replay own.st --plant own.csv --trace nowhere"],
+            right: &[
+                "plant run own.st --plant own.csv --store own.retain --start cold --trace own.trace",
+                "plant replay own.st --plant own.csv --trace own.trace",
+            ],
+        }),
+        status: Status::Trace,
+    },
+];
+
+/// What is told of the codes with V.
+pub(crate) fn trace_codes() -> &'static [Explanation]
+    ensures { map code_of result.now ≡ told_traces }
+{
+    &EXPLANATIONS
+}

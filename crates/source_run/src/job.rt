@@ -1,0 +1,178 @@
+//! What a command line asks for.
+
+ghost use Rattle.std.specs.Prelude.{◌≡◌};
+
+/// The budget of an execution in ticks where none is given.
+pub const DEFAULT_BUDGET: u32 = 10_000;
+
+/// `DEFAULT_BUDGET` in decimal digits, as a command line has it.
+pub const DEFAULT_BUDGET_TEXT: &str = "10000";
+
+/// The budget is this number. A law.
+pub fn default_of_a_budget()
+    ensures { DEFAULT_BUDGET ≡ 10000 }
+{}
+
+/// How a life starts.
+#[derive(Clone, Copy, Debug, PartialEq, Eq)]
+pub enum Start {
+    /// The retained variables take the values of the last record.
+    Warm,
+    /// All variables take their initial values.
+    Cold,
+}
+
+/// When the next row of the plant is latched.
+#[derive(Clone, Copy, Debug, PartialEq, Eq)]
+pub enum Pace {
+    /// When nothing waits and all is acknowledged.
+    Settle,
+    /// One row after another.
+    Free,
+}
+
+/// The machine that programs run by.
+#[derive(Clone, Copy, Debug, PartialEq, Eq)]
+pub enum Machine {
+    /// Quick code where there is some, and the machine on values where that cannot tell how a run ends.
+    Quick,
+    /// The machine on values alone, to compare the two.
+    Values,
+}
+
+/// A run of a source against a plant.
+#[derive(Clone, Copy, Debug, PartialEq, Eq)]
+pub struct RunJob<'a> {
+    pub source: &'a str,
+    pub plant: &'a str,
+    pub store: &'a str,
+    pub start: Start,
+    /// How many ticks an execution may take, as the words say: any number of 32 bits.
+    pub budget: u32,
+    pub pace: Pace,
+    pub machine: Machine,
+    pub trace: Option<&'a str>,
+    /// Whether it is told by which machine the runs went.
+    pub stats: bool,
+    /// Whether a fault is explained.
+    pub explain: bool,
+}
+
+impl RunJob<'_> {
+    ghost use Rattle.source_run.specs.Jobs.{has_own_store};
+
+    /// Whether the retain file is, by its name, no other file of the run.
+    pub fn has_own_store(&self) -> bool
+        ensures { result ≡ has_own_store self.now }
+    {
+        let is_trace = match self.trace {
+            Some(trace) => trace == self.store,
+            None => false,
+        };
+        self.store != self.source && self.store != self.plant && !is_trace
+    }
+}
+
+/// The run of a trace again.
+#[derive(Clone, Copy, Debug, PartialEq, Eq)]
+pub struct ReplayJob<'a> {
+    pub source: &'a str,
+    pub plant: &'a str,
+    pub trace: &'a str,
+    /// Whether a fault is explained.
+    pub explain: bool,
+}
+
+/// The sizes of a source.
+#[derive(Clone, Copy, Debug, PartialEq, Eq)]
+pub struct CheckJob<'a> {
+    pub source: &'a str,
+    /// Whether a fault is explained.
+    pub explain: bool,
+}
+
+/// What is shown of a retain file.
+#[derive(Clone, Copy, Debug, PartialEq, Eq)]
+pub enum View<'a> {
+    /// The last record.
+    Last,
+    /// Both areas, one after the other.
+    Both,
+    /// What a warm start of this source would make of it.
+    Against(&'a str),
+}
+
+/// A look into a retain file.
+#[derive(Clone, Copy, Debug, PartialEq, Eq)]
+pub struct ShowJob<'a> {
+    pub store: &'a str,
+    pub view: View<'a>,
+}
+
+/// A picture of a run, from its trace.
+#[derive(Debug)]
+pub struct PlotJob<'a> {
+    pub source: &'a str,
+    pub plant: &'a str,
+    pub trace: &'a str,
+    /// The file for the picture; the standard output where none is given.
+    pub picture: Option<&'a str>,
+    /// The paths of the variables that it shows; where there are none, those that come first.
+    pub paths: Vec<&'a str>,
+}
+
+impl Drop for PlotJob<'_> {
+    fn drop(self) {
+        let Self {
+            source: _,
+            plant: _,
+            trace: _,
+            picture: _,
+            paths: _,
+        } = self;
+    }
+}
+
+impl PlotJob<'_> {
+    ghost use Rattle.source_run.specs.Jobs.{has_own_picture};
+
+    /// Whether the file for the picture is, by its name, none that is read.
+    pub fn has_own_picture(&self) -> bool
+        ensures { result ≡ has_own_picture self.now }
+    {
+        match self.picture {
+            Some(picture) => {
+                picture != self.source && picture != self.plant && picture != self.trace
+            }
+            None => true,
+        }
+    }
+}
+
+/// What a command line asks for. Files go by their names.
+#[derive(Debug)]
+pub enum Job<'a> {
+    /// The built-in configuration.
+    First,
+    Check(CheckJob<'a>),
+    Run(RunJob<'a>),
+    Replay(ReplayJob<'a>),
+    Show(ShowJob<'a>),
+    Plot(PlotJob<'a>),
+    /// What a code means.
+    Explain { code: &'a str },
+}
+
+impl Drop for Job<'_> {
+    fn drop(self) {
+        match self {
+            Self::First
+            | Self::Check(_)
+            | Self::Run(_)
+            | Self::Replay(_)
+            | Self::Show(_)
+            | Self::Plot(_)
+            | Self::Explain { code: _ } => {}
+        }
+    }
+}

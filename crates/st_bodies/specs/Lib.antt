@@ -1,6 +1,0 @@
-pub mod Assignments
-pub mod Bodies
-pub mod Choices
-pub mod Listings
-pub mod Roots
-pub mod Targets

@@ -1,8 +1,0 @@
-use Rattle.std.proofs.Common.{◌≡◌, ◌++◌, drop, map}
-use Rattle.st_build.specs.Tasks.{task_at}
-use Rattle.st_build.proofs.tasks.push_tasks.Given as goal
-
-abbrev pub invariant-loop-task : goal.invariant-loop-task
-invariant-loop-task l =
-    l.tasks.items ++ map (task_at l.variables l.inputs l.number) (drop l.task-index l.declared)
-    ≡ l.initial.tasks.items ++ map (task_at l.variables l.inputs l.number) l.declared

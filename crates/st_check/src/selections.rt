@@ -1,0 +1,108 @@
+//! What is selected of variables, without what stands in their subscripts.
+
+ghost use Rattle.std.specs.Prelude.{◌≡◌, map, option_map};
+ghost use Rattle.st_types.specs.Expressions.{selectors_of};
+ghost use Rattle.st_types.specs.ExpressionViews.{selector_view, variable_view};
+ghost use Rattle.st_meaning.specs.NameTypes.{Declared};
+ghost use Rattle.st_rules.specs.Environments.{Environment, is_instance, type_of_place};
+ghost use Rattle.st_rules.specs.ExpressionRules.{wrong_selectors, wrong_variable};
+ghost use Rattle.st_rules.specs.Faults.{Finds};
+ghost use Rattle.st_rules.specs.TargetRules.{passes_instance};
+ghost use Rattle.symbols.specs.PlaceTypes.{place_type_view};
+ghost use Rattle.symbols.specs.Serving.{Serves};
+ghost use Rattle.symbols.specs.Tables.{ServesTables};
+
+use st_rules::{Broken, Rule};
+use st_types::{Selector, SimpleType, Variable};
+use st_typing::{is_nothing, selected_type, type_behind, wrong_selector};
+use symbols::{PlaceType, TextTables, UnitNames};
+
+/// The type of what a variable selects.
+pub fn type_of_place<'a>(names: &UnitNames<'_, 'a>, variable: &Variable) -> Option<PlaceType<'a>>
+    ensures { (env : Environment) → Serves names.now env
+        → option_map place_type_view result ≡ type_of_place env (variable_view variable.now) }
+{
+    match names.type_of_name(&variable.name.name) {
+        Some(declared) => type_behind(names.tables, declared, &variable.selectors),
+        None => None,
+    }
+}
+
+/// What is wrong in the selectors behind the name at a place.
+fn wrong_selectors<'a>(
+    tables: &TextTables<'a>,
+    place: usize,
+    declared: PlaceType<'a>,
+    selectors: &[Selector],
+) -> Option<Broken>
+    ensures { (text : Declared) → ServesTables tables.now text → Finds
+        (wrong_selectors text place (place_type_view declared.entry)
+        (selectors_of (map selector_view selectors.now))) result }
+{
+    let mut behind = declared;
+    for selector in selectors {
+        match selected_type(tables, behind, selector) {
+            Some(next) => behind = next,
+            None => {
+                if is_nothing(tables.typing_of_type(behind)) {
+                    return None;
+                }
+                return Some(wrong_selector(place, selector));
+            }
+        }
+    }
+    None
+}
+
+/// A variable that is not there, or a wrong selection.
+pub fn wrong_variable(names: &UnitNames, variable: &Variable) -> Option<Broken>
+    ensures { (env : Environment) → Serves names.now env
+        → Finds (wrong_variable env (variable_view variable.now)) result }
+{
+    match names.type_of_name(&variable.name.name) {
+        Some(declared) => wrong_selectors(
+            names.tables,
+            variable.name.place,
+            declared,
+            &variable.selectors,
+        ),
+        None => Some(Broken {
+            rule: Rule::UnknownName,
+            place: variable.name.place,
+        }),
+    }
+}
+
+/// Whether what has the type is an instance of a block.
+pub fn is_instance(tables: &TextTables, declared: Option<PlaceType>) -> bool
+    ensures { (env : Environment) → ServesTables tables.now env.text
+        → result ≡ is_instance env (option_map place_type_view declared.entry) }
+{
+    match declared {
+        Some(PlaceType::Simple(SimpleType::Named(name))) => tables.is_block(&name.name),
+        _ => false,
+    }
+}
+
+/// Whether what is selected of what has the type stands behind an instance.
+pub fn passes_instance<'a>(
+    tables: &TextTables<'a>,
+    declared: Option<PlaceType<'a>>,
+    selectors: &[Selector],
+) -> bool
+    ensures { (env : Environment) → ServesTables tables.now env.text
+        → result ≡ passes_instance env (option_map place_type_view declared.entry)
+        (selectors_of (map selector_view selectors.now)) }
+{
+    let mut behind = declared;
+    for selector in selectors {
+        if is_instance(tables, behind) {
+            return true;
+        }
+        behind = match behind {
+            Some(declared) => selected_type(tables, declared, selector),
+            None => None,
+        };
+    }
+    false
+}

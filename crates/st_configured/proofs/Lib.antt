@@ -1,5 +1,0 @@
-mod ListLemmas
-mod GlobalLemmas
-mod AddressLemmas
-mod TypeLemmas
-mod ScopeLemmas

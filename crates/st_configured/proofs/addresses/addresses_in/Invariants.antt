@@ -1,8 +1,0 @@
-use Rattle.std.proofs.Common.{◌≡◌, ◌++◌, drop, map}
-use Rattle.st_trees.specs.ConfigurationViews.{global_block_view}
-use Rattle.st_statics.specs.ConfigurationRules.{addresses_in}
-use Rattle.st_configured.proofs.addresses.addresses_in.Given as goal
-
-abbrev pub invariant-loop-block : goal.invariant-loop-block
-invariant-loop-block l = l.addresses.items ++ addresses_in (map global_block_view (drop l.block-index l.blocks))
-    ≡ addresses_in (map global_block_view l.blocks)

@@ -1,4 +1,0 @@
-use Rattle.st_configured.proofs.same_types.+same_within.Given as goal
-
-abbrev pub decreases-same_within : goal.decreases-same_within
-decreases-same_within l = l.depth

@@ -1,4 +1,0 @@
-pub mod Globals
-pub mod SameTypes
-pub mod Addresses
-pub mod Configured

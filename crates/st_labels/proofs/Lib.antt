@@ -1,2 +1,0 @@
-mod KindOrder
-mod SpanLemmas

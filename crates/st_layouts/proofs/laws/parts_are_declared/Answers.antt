@@ -1,6 +1,0 @@
-use Rattle.st_statics.specs.declared.limits.TheConstants.{MAX_TYPE_DEPTH}
-use Rattle.st_layouts.proofs.SiteLemmas.{part_declared}
-use Rattle.st_layouts.proofs.laws.parts_are_declared.Goals as goal
-
-pub returns : goal.returns
-returns c = λ text s xs o h. part_declared text MAX_TYPE_DEPTH s xs o h

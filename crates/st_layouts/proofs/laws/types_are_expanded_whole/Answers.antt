@@ -1,6 +1,0 @@
-use Rattle.st_statics.specs.declared.limits.TheConstants.{MAX_TYPE_DEPTH}
-use Rattle.st_layouts.proofs.DepthLemmas.{expanded_whole}
-use Rattle.st_layouts.proofs.laws.types_are_expanded_whole.Goals as goal
-
-pub returns : goal.returns
-returns c = λ text t n h le. expanded_whole text MAX_TYPE_DEPTH n t h le

@@ -1,5 +1,0 @@
-use Rattle.st_layouts.proofs.LibraryLemmas.{function_starts}
-use Rattle.st_layouts.proofs.libraries.functions_start_with_a_store.Goals as goal
-
-pub returns : goal.returns
-returns c = function_starts

@@ -1,5 +1,0 @@
-use Rattle.st_layouts.proofs.LibraryLemmas.{instance_made}
-use Rattle.st_layouts.proofs.libraries.instances_have_the_members_of_their_blocks.Goals as goal
-
-pub returns : goal.returns
-returns c = instance_made

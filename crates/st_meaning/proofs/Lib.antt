@@ -1,0 +1,17 @@
+pub mod Agrees
+pub mod Alike
+pub mod AskedLemmas
+pub mod Lasts
+pub mod Related
+pub mod RunLemmas
+pub mod Shapes
+pub mod SlotLemmas
+pub mod TimerLemmas
+pub mod BestLemmas
+pub mod CountLemmas
+pub mod DueLemmas
+pub mod LogLemmas
+pub mod OnceLemmas
+pub mod OverrunLemmas
+pub mod RestartLemmas
+pub mod Scenes

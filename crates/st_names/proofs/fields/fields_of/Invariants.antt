@@ -1,9 +1,0 @@
-use Rattle.std.proofs.Common.{◌≡◌, List, ℕ, take, map}
-use Rattle.st_trees.specs.DeclarationViews.{field_view}
-use Rattle.st_types.specs.NameTypes.{field_type}
-use Rattle.st_names.specs.Fields.{type_in}
-use Rattle.st_names.proofs.fields.fields_of.Given as goal
-
-abbrev pub invariant-loop-field : goal.invariant-loop-field
-invariant-loop-field l =
-    (q : List ℕ) → type_in l.index q ≡ field_type (map field_view (take l.field-index l.fields)) q

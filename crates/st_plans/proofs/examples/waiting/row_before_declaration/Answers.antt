@@ -1,7 +1,0 @@
-use Rattle.std.proofs.Common.{◌≡◌, true, false, rules, refl}
-use Rattle.st_plans.specs.Examples.{of}
-use Rattle.st_plans.proofs.examples.waiting.row_before_declaration.Goals as goal
-
-pub returns : goal.returns
-returns c =
-    (search rules, λ best. let e : true ≡ false = best.best (of 1 0) (search rules) refl in absurd (cc), search rules)

@@ -1,8 +1,0 @@
-use Rattle.st_plans.proofs.DueLemmas.{Waits-same, done_waits_no_more}
-use Rattle.st_plans.proofs.laws.one_activation_waits.Goals as goal
-
-pub returns-clause-one : goal.returns-clause-one
-returns-clause-one c = Waits-same
-
-pub returns-clause-none_behind_a_done : goal.returns-clause-none_behind_a_done
-returns-clause-none_behind_a_done c = done_waits_no_more

@@ -1,8 +1,0 @@
-use Rattle.st_plans.proofs.RestartLemmas.{given_back, given_back_after}
-use Rattle.st_plans.proofs.restarts.restarts_give_back_what_was_kept.Goals as goal
-
-pub returns-clause-values : goal.returns-clause-values
-returns-clause-values c = given_back
-
-pub returns-clause-lives : goal.returns-clause-lives
-returns-clause-lives c = given_back_after

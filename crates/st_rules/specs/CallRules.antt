@@ -1,0 +1,50 @@
+-- Calls of instances of blocks.
+use Rattle.std.specs.Prelude.{ℕ, List, [], ◌∷◌, ◌++◌, Bool, ◌&&◌, not, if◌then◌else◌, Option, Some, None, is_some}
+use Rattle.std.specs.List.{flat_map}
+use Rattle.st_types.specs.declared.identifier.Identifier.{Identifier}
+use Rattle.st_types.specs.declared.data_type.VariableType.{VariableType}
+use Rattle.st_types.specs.Statements.{Argument, given, copied, Stmt, invoke}
+use Rattle.st_meaning.specs.Scopes.{Name, contains_name}
+use Rattle.st_rules.specs.declared.rule.Rule.TheVariants.{UnknownName, WrongType, WrongArguments}
+use Rattle.st_rules.specs.declared.rule.Broken.{Broken}
+use Rattle.st_rules.specs.Faults.{breaking, unless}
+use Rattle.st_rules.specs.Environments.{Environment, type_of_name, is_instance, input_of, output_of}
+use Rattle.st_rules.specs.Typings.{typing_of_type, typing_of_variable, is_nothing, meets}
+use Rattle.st_rules.specs.ExpressionRules.{place_of_variable}
+use Rattle.st_rules.specs.Roots.{demand_of_type}
+
+abbrev pub argument_name : Argument → Identifier
+argument_name (given x e) = x
+argument_name (copied x v) = x
+
+-- `:=` gives an input of the block, and `=>` copies an output of it
+abbrev pub is_argument : Environment → Name → Argument → Bool
+is_argument env instance (given x e) = is_some (input_of env instance x.name)
+is_argument env instance (copied x v) = is_some (output_of env instance x.name)
+
+-- Each argument is an input or an output of the block, and each name stands once.
+abbrev pub wrong_arguments : Environment → Name → List Name → List Argument → List ℕ
+wrong_arguments env instance before [] = []
+wrong_arguments env instance before (a ∷ rest) =
+    unless (is_argument env instance a && not (contains_name before (argument_name a).name)) (argument_name a).place
+    ++ wrong_arguments env instance ((argument_name a).name ∷ before) rest
+
+-- an output is copied to a variable of its type
+abbrev pub wrong_copy : Environment → Name → Argument → List Broken
+wrong_copy env instance (given x e) = []
+wrong_copy env instance (copied x v) =
+    breaking WrongType (unless (meets (demand_of_type env (output_of env instance x.name)) (typing_of_variable env v))
+    (place_of_variable v))
+
+-- what is called is an instance; of a variable of an unknown type nothing is asked
+abbrev pub wrong_instance : Environment → Identifier → List Argument → Option VariableType → List Broken
+wrong_instance env x arguments None = breaking UnknownName (x.place ∷ [])
+wrong_instance env x arguments (Some t) =
+    if is_instance env (Some t)
+    then breaking WrongArguments (wrong_arguments env x.name [] arguments)
+    ++ flat_map (wrong_copy env x.name) arguments
+    else breaking WrongType (unless (is_nothing (typing_of_type env.text (Some t))) x.place)
+
+abbrev pub wrong_invocation : Environment → Stmt → List Broken
+wrong_invocation env (invoke x arguments) = wrong_instance env x arguments (type_of_name env x.name)
+wrong_invocation env _ = []

@@ -1,0 +1,22 @@
+-- Broken rules with their places, as lists in no order that matters.
+use Rattle.std.specs.Prelude.{◌≡◌, ℕ, List, [], ◌∷◌, map, Bool, if◌then◌else◌, Option, Some, None}
+use Rattle.std.specs.List.{Contains}
+use Rattle.st_rules.specs.declared.rule.Rule.{Rule}
+use Rattle.st_rules.specs.declared.rule.Broken.{Broken}
+
+-- a rule that is broken at these places
+abbrev pub breaking : Rule → List ℕ → List Broken
+breaking rule places = map (λ p. record { rule = rule; place = p }) places
+
+-- the place, where what has to hold there does not
+abbrev pub unless : Bool → ℕ → List ℕ
+unless right place = if right then [] else place ∷ []
+
+-- the place, where something holds that must not
+abbrev pub in_case : Bool → ℕ → List ℕ
+in_case wrong place = if wrong then place ∷ [] else []
+
+-- what a search answers: one of the faults, or that there is none
+abbrev pub Finds : List Broken → Option Broken → Type 0
+Finds faults (Some b) = Contains faults b
+Finds faults None = faults ≡ []

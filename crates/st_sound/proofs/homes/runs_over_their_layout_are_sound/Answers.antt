@@ -1,5 +1,0 @@
-use Rattle.st_sound.proofs.WellTypedRunLaw.{runs_are_sound}
-use Rattle.st_sound.proofs.homes.runs_over_their_layout_are_sound.Goals as goal
-
-pub returns : goal.returns
-returns c = runs_are_sound

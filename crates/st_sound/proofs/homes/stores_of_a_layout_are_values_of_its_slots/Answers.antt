@@ -1,5 +1,0 @@
-use Rattle.st_sound.proofs.OverSlots.{over_slots}
-use Rattle.st_sound.proofs.homes.stores_of_a_layout_are_values_of_its_slots.Goals as goal
-
-pub returns : goal.returns
-returns c = over_slots

@@ -1,8 +1,0 @@
-pub mod Served
-pub mod LinkedSources
-pub mod Homes
-pub mod WellTypedRuns
-pub mod RunExamples
-pub mod Soundness
-pub mod StatementSoundness
-pub mod UnitSoundness

@@ -1,2 +1,0 @@
-pub mod Bridge
-pub mod Mirrors

@@ -1,8 +1,0 @@
-use Rattle.st_types.proofs.RunLemmas.{store_after_shape, store_after_store}
-use Rattle.st_types.proofs.laws.variables_stay.Goals as goal
-
-pub returns-clause-types : goal.returns-clause-types
-returns-clause-types c = store_after_shape
-
-pub returns-clause-values : goal.returns-clause-values
-returns-clause-values c = store_after_store

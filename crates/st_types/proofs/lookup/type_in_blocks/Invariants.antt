@@ -1,8 +1,0 @@
-use Rattle.std.proofs.Common.{◌≡◌, map, drop}
-use Rattle.st_trees.specs.DeclarationViews.{variable_block_view}
-use Rattle.st_types.specs.NameTypes.{type_in_blocks}
-use Rattle.st_types.proofs.lookup.type_in_blocks.Given as goal
-
-abbrev pub invariant-loop-block : goal.invariant-loop-block
-invariant-loop-block l = type_in_blocks (map variable_block_view l.blocks) l.name
-    ≡ type_in_blocks (map variable_block_view (drop l.block-index l.blocks)) l.name

@@ -1,0 +1,25 @@
+use Rattle.std.proofs.Common.{ap, sym, ◌∙◌, rules}
+use mir.Syntax.{w128}
+use Rattle.std.specs.Prelude.{int_div}
+use Rattle.std.specs.Int.RustNames.{FitsSigned}
+use Rattle.std.proofs.lemmas.Int.{ints, quot_is}
+use Rattle.std_blocks.proofs.NumberLemmas.{divides, quotient_fits}
+use Rattle.std_blocks.proofs.operators.ratio.Goals as goal
+
+pub nonzero_div-result : goal.nonzero_div-result
+nonzero_div-result c =
+    let x = c.number.result in
+    let y = c.number-2.result in
+    let fa : FitsSigned w128 x = search (rules, ints) in
+    let fb : FitsSigned w128 y = search (rules, ints) in
+    divides x y fa fb (λ e. c.requires (sym c.number-2.ensures.number ∙ e))
+    (quotient_fits x y c.number.ensures.least c.number.ensures.greatest)
+
+pub returns : goal.returns
+returns c =
+    let x = c.number.result in
+    let y = c.number-2.result in
+    let fa : FitsSigned w128 x = search (rules, ints) in
+    let fb : FitsSigned w128 y = search (rules, ints) in
+    quot_is w128 x y fa fb (quotient_fits x y c.number.ensures.least c.number.ensures.greatest)
+    ∙ ap (λ z. int_div z y) c.number.ensures.number ∙ ap (λ z. int_div c.args.a.number z) c.number-2.ensures.number

@@ -1,3 +1,0 @@
-pub mod NumberLemmas
-pub mod Remainders
-pub mod ShiftLemmas

@@ -1,0 +1,102 @@
+//! What is asked of the runtime.
+//!
+//! A row is of parts with ` | ` between them. Those that tell something are answered in order, with ` | ` between the
+//! answers. A row begins with an empty file, and with a plan of one program that adds 1 to N, which is retained, every
+//! 10 ms.
+//!
+//! The parts that say something of those behind them:
+//!
+//! - `plan N K: PROGRAM ..`: the plan of this text, and its globals that are told
+//! - `file 262144, 0 record, 27 IMT`: a file of zeros, with these bytes over them
+//! - `resaved`: the file that a save of what is recovered makes of an empty one
+//! - `inputs A:BOOL Z:INT`: the inputs of plants
+//! - `fails 2`, `stops 1 \AA 7`, `room 10`: of the next life, run in threads, disk or plant the step that fails; the
+//!   step that the machine stops within, the bytes that it leaves in turn, or `written`, and the length; the room in
+//!   the log, else 1,000
+//! - `untold`, `numbers`, `whole`: of the next life nothing is told; no replies; also how each entry of the log ended,
+//!   and the overruns
+//! - `trace`, `short`: of the next life its trace alone is told, `\0A` for LF; what a writer gets of it that takes 40
+//!   bytes
+//!
+//! - `globals DINT N K`: the globals of runs in threads, all of that type and retained
+//! - `resource N := N + 1;`, `resource 8 times N := N + 1;`: of runs in threads one resource more, with so many
+//!   programs of these statements, each with a task of its own of 10 ms; programs are numbered from 0, resource by
+//!   resource
+//! - `free`: in the next run in threads rows are latched one after another, else the next one when nothing waits and
+//!   all is acknowledged
+//! - `turns 8`: in the next run in threads resource 0 is held between its k-th run and its commit until k commits of
+//!   resource 1 were answered, up to 8, and resource 1 between its k-th run and its commit until resource 0 is there
+//!   for the k-th time. A worker is held for 10,000 turns of one millisecond at most; a run where that was not enough
+//!   is told as `late`, and from then on none is held
+//!
+//! The parts that are answered:
+//!
+//! - `sim: write 5 \09\09, sync, read 0 2, len`: calls of a simulated disk with the file; how many have failed, and the
+//!   file that is left
+//! - `real: len`, `slow: len`, `deaf: len`, `broken: len`: the same of a file of the system; of one that moves a byte a
+//!   call, that can be neither read nor written, or all of whose calls fail
+//! - `new: len`, `folderless`: the same of a file of the system that isn't there; one in a folder that isn't there
+//! - `plant t,S\0A0,1\0A`: the rows of a recorded plant, or its refusal; with `fails 8` its reader fails where 8 bytes
+//!   are left
+//! - `rows 10000`: how many are read of a plant with so many rows
+//! - `ready 10:1 20:1 0:0: 0 0 0 0, 5 1 0 1`: of programs whose tasks have these INTERVALs and PRIORITYs, after rows of
+//!   a moment and of SINGLE of each task, what is taken one after another, and the overruns
+//! - `cold: row 0, here 0, flush`, `warm`: a start over the file and these calls; what the life told
+//! - `same`, `length`, `bytes 131072 34`: whether the last life left the file as it was, its length, 34 bytes from that
+//!   place on
+//! - `replay 0 10: trace 1\0A..`, `ticks trace 1\0A..`: what is told of a trace that is run again over rows of these
+//!   moments, and the values of the variables, or its refusal; the budget that it tells
+//! - `recovered`: the moment and the values that a store alone recovers of the file
+//! - `lives cold, stops 3 \A5 0: row 0, here 0 / warm, fails 2`: lives over a copy of the file in turn, by one call; of
+//!   each the values at its start, its replies, and how much of its log is acknowledged
+//! - `chain cold 0 10, warm 20 30 by k`: two lives, with a stop within any step of each, the second of the text with
+//!   `K : INT := 7` before N, which is retained too; the values of N that come of it
+//! - `run`, `run moment 51`: the execution of what a core of the plan gives at a row of moment 50, as it is or changed
+//! - `commit`: what a new core of the plan at such a row answers to that execution
+//! - `codes`: by what the runs of each program of the plan begin, in order: its quick code, or the machine on values
+//! - `machine`, `machine budget 3`: by which machine the execution of `run` went, and how it ended
+//! - `threads: run 1`: the log of a run in threads of so many rows, at 0, 10, .. ms and without inputs, how often the
+//!   worker of each resource was told Stale and Committed and at which length it was last told Committed, the globals,
+//!   and how much of the log is acknowledged
+//! - `threads: count 100`: of such a run how many rows and executions the log has, how often all workers were told
+//!   Committed, the globals, and how much of the log is acknowledged
+//! - `threads: length 100`, `threads: acked 100`: why such a run was stopped, and the length of its log, or how much of
+//!   it is acknowledged and the globals after a warm restart
+//! - `threads: cuts 100 10 60`: for each device step from 10 to below 60 a run of so many rows with a stop within that
+//!   step, and a warm restart: how often the first global is what a front of the log gives that holds all that is
+//!   acknowledged. Each execution adds 1 to it
+//! - `mark raise 5, load, raise 3, load`: what a new mark is told to load
+//! - `refused_calls`, `start_faults`: the numbers that the refusals of a core and the faults of a start show as
+
+use crate::row_error::{RowError, write_error};
+use crate::scene::Scene;
+use std::alloc::{AllocError, Global};
+use std::rt::Clock;
+use std::sync::Wait;
+use std::thread::Threads;
+
+fn read_all<'a, R: Threads + Wait + Clock + Sync>(
+    scene: &mut Scene<'a, R>,
+    given: &'a str,
+) -> Result<(), RowError> {
+    for part in given.split(" | ") {
+        scene.read(part)?;
+    }
+    Ok(())
+}
+
+/// What is answered to a row.
+pub fn answer_of<R: Threads + Wait + Clock + Sync>(
+    rt: &HostRuntime,
+    threads: &R,
+    alloc: Global,
+    given: &str,
+) -> Result<String, AllocError> {
+    let mut scene = Scene::new(rt, threads, alloc);
+    let read = read_all(&mut scene, given);
+    let Scene { mut answer, .. } = scene;
+    if let Err(error) = read {
+        write_error(&mut answer, error)?;
+    }
+    Ok(answer)
+}

@@ -1,4 +1,0 @@
-pub mod ProgramCodes
-pub mod CodedSources
-pub mod Codes
-pub mod Rooms

@@ -1,6 +1,0 @@
-use Rattle.text_fitting.proofs.Whole.{accepted_compiled}
-use Rattle.text_fitting.proofs.laws.accepted_texts_are_compiled.Goals as goal
-
-pub returns : goal.returns
-returns c = λ source called kept accepted spelled room linked.
-    accepted_compiled source called kept accepted spelled room linked.is

@@ -1,5 +1,0 @@
-pub mod Sound
-pub mod Spelled
-pub mod Callable
-pub mod Bounded
-pub mod Compiled

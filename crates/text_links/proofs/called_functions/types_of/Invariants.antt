@@ -1,7 +1,0 @@
-use Rattle.std.proofs.Common.{map, take}
-use Rattle.text_links.specs.LinkVariables.{variable_view}
-use Rattle.text_links.specs.Reaching.{HasTypes}
-use Rattle.text_links.proofs.called_functions.types_of.Given as goal
-
-abbrev pub invariant-loop-variable : goal.invariant-loop-variable
-invariant-loop-variable l = HasTypes l.types (map variable_view (take l.variable-index l.variables))

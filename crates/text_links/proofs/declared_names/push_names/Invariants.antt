@@ -1,8 +1,0 @@
-use Rattle.std.proofs.Common.{◌≡◌, ◌++◌, map, drop}
-use Rattle.st_types.specs.Bodies.{names_of}
-use Rattle.text_links.proofs.declared_names.push_names.Given as goal
-
--- what is there and what is still to come
-abbrev pub invariant-loop-name : goal.invariant-loop-name
-invariant-loop-name l = map (λ x. x.now.name) l.names.items ++ names_of (drop l.name-index l.declared)
-    ≡ map (λ x. x.now.name) l.initial.names.items ++ names_of l.declared

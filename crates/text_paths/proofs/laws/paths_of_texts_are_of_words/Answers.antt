@@ -1,7 +1,0 @@
-use Rattle.text_paths.proofs.PlainGrammar.{plain_text}
-use Rattle.text_paths.proofs.TextLines.{text_words}
-use Rattle.text_paths.proofs.laws.paths_of_texts_are_of_words.Goals as goal
-
-pub returns : goal.returns
-returns c text source h =
-    text_words source (plain_text text source h) (c.slots_hang_on_no_literal.ensures source)

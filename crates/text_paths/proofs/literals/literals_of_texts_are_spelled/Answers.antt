@@ -1,9 +1,0 @@
-use Rattle.text_paths.proofs.SpelledGrammar.{units_spelled}
-use Rattle.text_paths.proofs.SpelledArrays.{arrays_spelled}
-use Rattle.text_paths.proofs.literals.literals_of_texts_are_spelled.Goals as goal
-
-pub returns : goal.returns
-returns c = λ text source h. record {
-  units = units_spelled text source h;
-  arrays = arrays_spelled source (c.declarations_of_texts_are_plain.ensures text source h);
-}

@@ -1,3 +1,0 @@
-pub mod PlainDeclarations
-pub mod Texts
-pub mod WordPaths

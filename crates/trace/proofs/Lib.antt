@@ -1,0 +1,10 @@
+pub mod PutLemmas
+pub mod TraceLemmas
+pub mod ReadLemmas
+pub mod KeepLemmas
+pub mod HeadLemmas
+pub mod ValueLemmas
+pub mod NameLemmas
+pub mod RestLemmas
+pub mod FirstLemmas
+pub mod WatchLemmas

@@ -1,0 +1,7 @@
+pub mod Puts
+pub mod Texts
+pub mod Reads
+pub mod NamedValues
+pub mod Heads
+pub mod Rests
+pub mod Watching

@@ -1,0 +1,56 @@
+//! The head of a trace: how its life was started.
+
+ghost use Rattle.std.specs.Prelude.{◌++◌, codes, option_map};
+ghost use Rattle.durable_core.specs.declared.starting.StartMode.{StartMode};
+ghost use Rattle.trace.specs.Reads.{Begins, Spells};
+ghost use Rattle.trace.specs.Heads.{IsEarly, MayBegin, begin_of};
+ghost use Rattle.trace.specs.Texts.{line, mode_text, moment_text};
+
+use crate::parts::{behind, behind_count, first_field};
+use durable_core::StartMode;
+use st_print::number;
+
+/// How a life was started, and what stands behind this line.
+fn mode(text: &[u8]) -> Option<(StartMode, &[u8])>
+    ensures { Begins (λ (m : StartMode). Unit {0}) (λ m. line (codes "start " ++ mode_text m)) text.now
+        (option_map (λ p. (p.0, p.1.now)) result) }
+{
+    if let Some(rest) = behind(text, b"start warm\n") {
+        return Some((StartMode::Warm, rest));
+    }
+    let rest = behind(text, b"start cold\n")?;
+    Some((StartMode::Cold, rest))
+}
+
+/// The moment that a field tells, or that there is none.
+fn moment_of(field: &[u8]) -> Option<Option<u64>>
+    ensures { Spells IsEarly moment_text field.now result }
+{
+    if field == b"none".as_slice() {
+        return Some(None);
+    }
+    let moment = number::moment(field)?;
+    Some(Some(moment))
+}
+
+/// The moment that rows have to be later than, if there is one, and what stands behind this line.
+fn moment(text: &[u8]) -> Option<(Option<u64>, &[u8])>
+    ensures { Begins IsEarly (λ m. line (codes "moment " ++ moment_text m)) text.now
+        (option_map (λ p. (p.0, p.1.now)) result) }
+{
+    let words = behind(text, b"moment ")?;
+    let (field, rest) = first_field(b'\n', words)?;
+    let moment = moment_of(field)?;
+    Some((moment, rest))
+}
+
+/// How a life was started, its moment, and what stands behind these lines.
+pub fn begin(budget: u32, text: &[u8]) -> Option<(StartMode, Option<u64>, &[u8])>
+    ensures { Begins MayBegin (begin_of budget) text.now (option_map (λ p. ((p.0, p.1), p.2.now)) result) }
+{
+    let lines = behind(text, b"trace 1\n")?;
+    let lines = behind_count(lines, b"budget ", budget as u64)?;
+    let (mode, lines) = mode(lines)?;
+    let (moment, lines) = moment(lines)?;
+    Some((mode, moment, lines))
+}

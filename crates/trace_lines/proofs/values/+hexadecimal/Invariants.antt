@@ -1,4 +1,0 @@
-use Rattle.trace_lines.proofs.values.+hexadecimal.Given as goal
-
-abbrev pub decreases-hexadecimal : goal.decreases-hexadecimal
-decreases-hexadecimal l = l.count

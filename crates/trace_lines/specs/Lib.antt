@@ -1,5 +1,0 @@
-pub mod Puts
-pub mod Texts
-pub mod Reads
-pub mod NamedValues
-pub mod Heads

@@ -1,4 +1,0 @@
-pub mod FindingLemmas
-pub mod StartLemmas
-pub mod ReplayLemmas
-mod AcceptLemmas

@@ -1,7 +1,0 @@
-use Rattle.std.proofs.Common.{◌≡◌, ◌-◌, ◌^◌, ℕ, List, min, sum}
-use Rattle.traces.proofs.FindingLemmas.{AreOverruns}
-use Rattle.traces.proofs.findings.overruns.Given as goal
-
-abbrev pub invariant-loop-program : goal.invariant-loop-program
-invariant-loop-program l =
-    (each : List ℕ) × AreOverruns l.core l.program each × (l.overruns ≡ min (sum each) (2 ^ 64 - 1))

@@ -1,5 +1,0 @@
-use Rattle.tree_code.proofs.ProgramRuns.{program_runs}
-use Rattle.tree_code.proofs.laws.code_does_what_its_program_does.Goals as goal
-
-pub returns : goal.returns
-returns c = program_runs
