@@ -2,5 +2,6 @@
 # Reports how fast texts of 128 KiB to 1 MiB are linked, and such as are hard to link. Give the root of the repository.
 set -e
 . "$(dirname "$0")/copied.sh"
-copied "$1" link_bench 'anyhow thiserror' st_types st_meaning st_lex st_parse st_rules symbols st_decl layout slot_trees st_link
+# shellcheck disable=SC2046 # names without blanks
+copied "$1" link_bench 'anyhow thiserror' $(below "$1" 'st_lex st_link')
 rt run
