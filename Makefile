@@ -1,11 +1,11 @@
-# What one does with this repository. README.md says more of each.
+# The commands of this repository; README.md explains them.
 
 .PHONY: run build try examples test sweep strength
 
-# The prover's allocator (mimalloc) keeps what it has freed, and takes it again: about a hundredth of the time of a proof.
+# The prover's allocator (mimalloc) reuses freed memory instead of returning it; that saves about a hundredth of the time of a proof.
 export MIMALLOC_PURGE_DELAY := -1
 
-# The dosing pump over a real retain file, cold and then warm, by out/plant where it is built; else it compiles out/plant-unproved.
+# Runs the dosing pump over a real retain file, cold and then warm, with out/plant if it is built; otherwise compiles out/plant-unproved.
 run:
 	@tools/run.sh
 
@@ -13,22 +13,22 @@ run:
 build:
 	@tools/build.sh
 
-# For who changes something: the scripts of the gate over out/plant-unproved. Nothing is proved.
+# For changes: runs the scripts of the gate over out/plant-unproved. Nothing is proved.
 try:
 	@tools/try.sh
 
-# Each example on the built program: what it shows, its report, and whether that is as it should be.
+# Runs each example on the built program: prints its description and its report, and checks the report.
 examples:
 	@tools/examples.sh
 
-# The gate: every proof from nothing, edits, tests, and the built program over real files. Its last line is 'N passed, 0 failed'.
+# The gate: every proof from scratch, edits, tests, and the built program over real files. Its last line is 'N passed, 0 failed'.
 test:
 	@tests/gate.sh
 
-# Each request for memory of out/plant refused, of large texts too: what the gate does of tests/refusals.py, and what it leaves out.
+# Refuses each request for memory of out/plant, also for large texts: all of tests/refusals.py, of which the gate runs a part.
 sweep:
 	@tests/refusals.py out/plant --all
 
-# Wrong bodies that the prover must refuse, for each crate or for CRATE='NAME ..'.
+# Tries wrong bodies that the prover must refuse, for each crate or for CRATE='NAME ..'.
 strength:
 	@tools/strength.sh $(CRATE)

@@ -1,10 +1,10 @@
 #!/usr/bin/env python3
-"""Reports how long `plant check` takes on texts of up to 1 MiB that are as hard to judge as texts get.
+"""Reports how long `plant check` takes on the hardest texts of up to 1 MiB.
 
 usage: bench/checks.py PLANT     PLANT is the built program
 
-Each is run five times; the shortest time counts, a start of the program and the reading of the text included. Of the time of the processor
-too, which other work on the machine changes less.
+Each text is checked five times, and the shortest time counts, including the start of the program and the reading of the text. The script also
+reports the shortest CPU time, which other work on the machine changes less.
 """
 import pathlib
 import resource
@@ -26,7 +26,7 @@ def variables(count):
 
 
 def short(k):
-    """A name of four characters; its last one is a digit, so it is no word of the language."""
+    """A name of four characters; its last one is a digit, so it isn't a word of the language."""
     return "abcdefghijklmnopqrstuvwxyz"[k % 26] + DIGITS[k // 26 % 36] + DIGITS[k // 936 % 36] + DIGITS[k // 33696]
 
 
@@ -107,46 +107,46 @@ def parentheses(count):
 
 
 def configured(units, instances):
-    """A text with these instances, of which each is the name of its program."""
+    """A text with an instance of each of these programs, by their names."""
     named = each(len(instances), lambda k: f"PROGRAM i{k} WITH t : {instances[k]}; ")
     return f"{units}CONFIGURATION c RESOURCE r ON cpu TASK t (INTERVAL := T#1s, PRIORITY := 0); {named}END_RESOURCE END_CONFIGURATION"
 
 
 def programs(count, statements):
-    """So many programs in 64 instances, of which each has its code."""
+    """This many programs in 64 instances, each with its own code."""
     units = each(count, lambda k: f"PROGRAM p{k} VAR n : INT; END_VAR {'n := n + 1; ' * statements}END_PROGRAM ")
     return configured(units, [f"p{k % count}" for k in range(64)])
 
 
 def doubled(count):
-    """Functions that each call the one before twice, in place."""
+    """Functions that each call the one before twice; calls are inlined."""
     first = "FUNCTION f0 : INT f0 := 1; END_FUNCTION "
     units = first + each(count, lambda k: f"FUNCTION f{k + 1} : INT f{k + 1} := f{k}() + f{k}(); END_FUNCTION ")
     return configured(f"{units}PROGRAM p VAR n : INT; END_VAR n := f{count}(); END_PROGRAM ", ["p"])
 
 
 def library(count):
-    """Functions, of which one is called."""
+    """Functions, only one of which is called."""
     units = each(count, lambda k: f"FUNCTION f{k} : INT VAR_INPUT x : INT; END_VAR f{k} := x + {k % 9}; END_FUNCTION ")
     return configured(f"{units}PROGRAM p VAR n : INT; END_VAR n := f7(n); END_PROGRAM ", ["p"])
 
 
 def wide(count, called):
-    """Functions with as many values as a program has places for, of which a program calls so many."""
+    """Functions with as many values as a program has room for; a program calls `called` of them."""
     units = each(count, lambda k: f"FUNCTION f{k} : INT VAR a : ARRAY [0..4094] OF INT; END_VAR f{k} := a[0]; END_FUNCTION ")
     uses = each(called, lambda k: f"n:=f{k}();")
     return configured(f"{units}PROGRAM p VAR n : INT; END_VAR {uses}END_PROGRAM ", ["p"])
 
 
 def shared(count, programs):
-    """Functions with as many values as a program has places for, of which each program calls another one."""
+    """Functions with as many values as a program has room for; each program calls another one."""
     units = each(count, lambda k: f"FUNCTION f{k} : INT VAR a : ARRAY [0..4094] OF INT; END_VAR f{k} := a[0]; END_FUNCTION ")
     units += each(programs, lambda k: f"PROGRAM p{k} VAR n : INT; END_VAR n := f{k}(); END_PROGRAM ")
     return configured(units, [f"p{k}" for k in range(programs)])
 
 
 def trees(count):
-    """Functions with a structure of 2,047 parts, its halves unlike each other, that a program calls."""
+    """Functions with a structure of 2,047 parts, whose halves differ, that a program calls."""
     types = "TYPE t0 : STRUCT a : INT; END_STRUCT; "
     types += each(10, lambda k: f"t{k + 1} : STRUCT x : t{k}; y : t{k}; z : INT := {k}; END_STRUCT; ")
     units = each(count, lambda k: f"FUNCTION f{k} : INT VAR a : t10; END_VAR f{k} := a.z; END_FUNCTION ")
@@ -154,7 +154,7 @@ def trees(count):
     return configured(f"{types}END_TYPE {units}PROGRAM p VAR n : INT; END_VAR {uses}END_PROGRAM ", ["p"])
 
 
-# what each is, the text, and the fault that is told, if any
+# the name of each text, the text, and its fault, if any
 TEXTS = [
     ("95,000 variables in one list", variables(95000), "G2"),
     ("40,000 variables, used 28,000 times", used_variables(40000, 28000, 1), "G2"),
@@ -182,7 +182,7 @@ TEXTS = [
 
 
 def processor():
-    """Seconds of the processor that the programs have taken that ended until now."""
+    """CPU seconds of all programs that have ended so far."""
     used = resource.getrusage(resource.RUSAGE_CHILDREN)
     return used.ru_utime + used.ru_stime
 
@@ -191,9 +191,9 @@ def main():
     plant = str(pathlib.Path(sys.argv[1]).resolve())
     with tempfile.TemporaryDirectory() as folder:
         source = pathlib.Path(folder) / "text.st"
-        for what, text, _ in TEXTS:
+        for name, text, _ in TEXTS:
             if len(text) > LIMIT:
-                sys.exit(f"checks.py: {what}: {len(text)} bytes")
+                sys.exit(f"checks.py: {name}: {len(text)} bytes")
             source.write_text(text)
             times, spent = [], []
             for _ in range(5):
@@ -201,8 +201,8 @@ def main():
                 done = subprocess.run([plant, "check", str(source)], capture_output=True, text=True, timeout=600)
                 times.append(time.monotonic() - start)
                 spent.append(processor() - before)
-            told = done.stderr.strip() or "accepted"
-            print(f"{what}, {len(text):,} bytes: {min(times) * 1000:.0f} ms, {min(spent) * 1000:.0f} of the processor, {told}", flush=True)
+            answer = done.stderr.strip() or "accepted"
+            print(f"{name}, {len(text):,} bytes: {min(times) * 1000:.0f} ms, {min(spent) * 1000:.0f} ms of CPU time, {answer}", flush=True)
 
 
 if __name__ == "__main__":

@@ -1,9 +1,9 @@
 # shellcheck source=tools/crates.sh
 . "$(dirname "$0")/../tools/crates.sh"
 
-# copied ROOT PROGRAM LIBRARIES CRATES..: copies these crates of the repository at ROOT, and the program of the folder PROGRAM here that
-# stands on them and on these libraries, and goes into the copy of the program. Nothing is written at ROOT.
-# The program's source is `main.rt.txt` here, since the gate reads every `.rt` file of the repository as one of a crate.
+# copied ROOT PROGRAM LIBRARIES CRATES..: copies these crates of the repository at ROOT, and the program of this script's folder PROGRAM, which
+# uses them and these libraries, and changes to the folder of the copied program. Nothing is written at ROOT.
+# The program's source is named `main.rt.txt`, since the gate reads every `.rt` file of the repository as part of a crate.
 copied() {
     here=$(cd "$(dirname "$0")" && pwd)
     root=$(cd "$1" && pwd)

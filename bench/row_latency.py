@@ -1,9 +1,9 @@
 #!/usr/bin/env python3
-"""How long a row takes at pace `settle`, from one acknowledgement to the next, and how much of that its device calls take alone: the row is
-latched, its program runs and is committed, and the save is acknowledged. `strace` times the calls, which costs some microseconds each.
+"""Measures how long a row takes at pace `settle`, from one acknowledgement to the next, and how much of that its device calls take: the row
+is latched, its program runs and is committed, and the save is acknowledged. `strace` times the calls, which costs a few microseconds each.
 
-usage: row_latency.py PLANT [ROWS] [FOLDER]     PLANT is the built program; 1,000 rows where no number is given; FOLDER
-                                               lies on the disk that is to be measured
+usage: row_latency.py PLANT [ROWS] [FOLDER]     PLANT is the built program; ROWS is the number of rows, 1,000 by default;
+                                               FOLDER is on the disk to be measured
 """
 import pathlib
 import re
@@ -15,13 +15,13 @@ TEXT = """PROGRAM Count VAR_EXTERNAL n : DINT; END_VAR n := n + 1; END_PROGRAM
 CONFIGURATION C VAR_GLOBAL RETAIN n : DINT; END_VAR
 RESOURCE R ON CPU TASK T (INTERVAL := T#10ms, PRIORITY := 0); PROGRAM P WITH T : Count; END_RESOURCE END_CONFIGURATION
 """
-# a save is three writes, each behind which the file is synced
+# a save is three writes, each with a sync of the file after it
 CALLS = 6
 LINE = re.compile(r"(\d+) +([\d.]+) (?:<\.\.\. )?(\w+)(.*)")
 
 
 def calls(path):
-    """Each device call: when it began and when it had ended, in seconds."""
+    """Each device call: when it began and when it ended, in seconds."""
     begun = {}
     for line in path.read_text().splitlines():
         found = LINE.match(line)
@@ -36,8 +36,8 @@ def calls(path):
             yield first, first + float(spent.group(1))
 
 
-def told(name, seconds):
-    """The line of so many durations."""
+def print_line(name, seconds):
+    """Prints the line of these durations."""
     least_first = sorted(seconds)
     of = lambda part: 1e6 * least_first[min(len(least_first) - 1, int(len(least_first) * part))]
     print(f"{name:28} p50 {of(0.5):8.0f}   p99 {of(0.99):8.0f}   most {of(1):8.0f}")
@@ -56,8 +56,8 @@ def main():
     saves = [device[at : at + CALLS] for at in range(len(device) - rows * CALLS, len(device), CALLS)]
     ends = [save[-1][1] for save in saves]
     print(f"{rows} rows, microseconds")
-    told("a row", [after - before for before, after in zip(ends, ends[1:])])
-    told("its device calls alone", [sum(end - begin for begin, end in save) for save in saves[1:]])
+    print_line("a row", [after - before for before, after in zip(ends, ends[1:])])
+    print_line("its device calls alone", [sum(end - begin for begin, end in save) for save in saves[1:]])
 
 
 main()

@@ -1,5 +1,5 @@
 #!/usr/bin/env bash
-# Reports how fast `read_plant` reads 1,250 to 10,000 rows of 64 inputs, and the greatest memory of the process. Give the root of the
+# Reports how fast `read_plant` reads 1,250 to 10,000 rows of 64 inputs, and the peak memory of the process. Give the root of the
 # repository.
 set -e
 . "$(dirname "$0")/copied.sh"

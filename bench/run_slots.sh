@@ -1,9 +1,9 @@
 #!/usr/bin/env bash
-# How long `plant check` and `plant run` take, and the greatest memory of the process, for texts of 1 to 4,096 slots. A text has so many
-# globals, all retained, and two programs that add to each of them once a run; `check` makes its plan, `run` starts cold without a row, or
-# latches 1,000 rows and saves each. The retain file lies in memory, so that little is spent on it.
+# Reports how long `plant check` and `plant run` take, and the peak memory of the process, for texts of 1 to 4,096 slots. A text has as many
+# globals, all retained, and two programs that add to each of them once per execution; `check` makes its plan, `run` starts cold without a
+# row, or latches 1,000 rows and saves each. The retain file is in memory, so that it takes little time.
 #
-# usage: bench/run_slots.sh PLANT [FOLDER]     PLANT is the built program; FOLDER is where the files lie, else /dev/shm
+# usage: bench/run_slots.sh PLANT [FOLDER]     PLANT is the built program; FOLDER is the folder for the files, /dev/shm by default
 set -euo pipefail
 
 plant=$(realpath "$1")
@@ -21,7 +21,7 @@ unit() {
     echo END_PROGRAM
 }
 
-# text SLOTS: a text of so many globals
+# text SLOTS: a text of SLOTS globals
 text() {
     local k
     unit A 1 $(($1 / 2))
@@ -32,7 +32,7 @@ text() {
     echo "PROGRAM P WITH T : A; PROGRAM Q WITH T : B; END_RESOURCE END_CONFIGURATION"
 }
 
-# best WORDS: the shortest of five times, in milliseconds, that of the processor, and the memory of the program for these words
+# best WORDS: the shortest of five times, in milliseconds, the shortest CPU time, and the memory of the program for these words
 best() {
     local begin k took least=999999999
     rm -f spent
@@ -40,7 +40,7 @@ best() {
         rm -f store
         begin=$(date +%s%N)
         # shellcheck disable=SC2086 # words without blanks
-        /usr/bin/time -a -o spent -f '%U %S %M' "$plant" $1 > told
+        /usr/bin/time -a -o spent -f '%U %S %M' "$plant" $1 > printed
         took=$((($(date +%s%N) - begin) / 10000))
         [ $took -ge $least ] || least=$took
     done
@@ -52,7 +52,7 @@ best() {
 echo t > none.csv
 { echo t; seq 0 10 9990; } > rows.csv
 printf '%5s %7s' slots bytes
-for what in check start run; do printf ' %10s %10s %7s' "$what ms" processor KiB; done
+for job in check start run; do printf ' %10s %10s %7s' "$job ms" 'CPU ms' KiB; done
 echo
 for slots in 1 512 1024 2048 4096; do
     text $slots > text.st

@@ -1,12 +1,12 @@
 #!/usr/bin/env bash
-# Runs nine programs as code, by Lua 5.4 and as C of volatile variables by gcc -O2, side by side, and prints the nanoseconds of a unit of
-# work, best of three rounds of five series each, or of ROUNDS where that is set, which a machine whose host gives now more and now less
-# wants. With COUNT=1 it prints the instructions of the processor that a unit takes, which no load changes, by callgrind: those of twice the
-# runs less those of the runs. All three have to come to the same result. Give the root of the repository, and then, if need be, the name of
-# a program that is built already. It takes lua5.4 and gcc, and valgrind for instructions.
+# Runs nine programs as code, by Lua 5.4 and as C with volatile variables by gcc -O2, side by side, and prints the nanoseconds of a unit of
+# work, best of three rounds of five series each. ROUNDS sets more rounds, for a machine whose host gives it a varying share. With COUNT=1 it
+# prints the CPU instructions of a unit by callgrind, which no load changes: those of twice the runs minus those of the runs. All three have to
+# compute the same result. Give the root of the repository, and then optionally an already built program. It needs lua5.4 and gcc, and valgrind
+# for instructions.
 set -e
 . "$(dirname "$0")/copied.sh"
-# all that a text's plan and a core stand on
+# the crates below a text's plan and a core
 crates=$(below "$1" 'config serial_core')
 built=${2:+$(realpath "$2")}
 # shellcheck disable=SC2086 # names without blanks
@@ -16,7 +16,7 @@ if [ -z "$built" ]; then
     built=$PWD/out/speed
 fi
 
-# each program with the runs of a series, and with the units of work that a run does
+# each program with the runs of a series, and the units of work of a run
 programs='count 10 200000
 pid 10 20000
 sort 10 99500
@@ -36,12 +36,12 @@ sides() {
     done
 }
 
-# instructions COMMAND..: how many the command takes
+# instructions COMMAND..: the number of CPU instructions that the command takes
 instructions() {
     valgrind --tool=callgrind --callgrind-out-file=/dev/null "$@" 2>&1 | grep -oP 'Collected : \K\d+'
 }
 
-# counted NAME UNITS FIRST COMMAND..: what a unit takes, by so many runs and by twice as many
+# counted NAME UNITS RUNS COMMAND..: the instructions of a unit, from this many runs and from twice as many
 counted() {
     local name=$1 units=$2 runs=$3 once twice
     shift 3
@@ -50,7 +50,7 @@ counted() {
     awk -v name="$name" -v all=$((twice - once)) -v units=$((runs * units)) 'BEGIN { printf " %10.1f", all / units }'
 }
 
-# counts NAME RUNS UNITS: the line of a program, of a tenth of the runs
+# counts NAME RUNS UNITS: the line of a program, from a tenth of the runs
 counts() {
     local runs=$((($2 + 9) / 10))
     printf '%-8s' "$1"

@@ -1,13 +1,13 @@
 #!/usr/bin/env bash
-# What an execution costs beside its statements: the nanoseconds of a latch, a take, a run and a commit, each the mean of so many in the best
-# of three series, for a program without statements and for one that adds 1, beside 10, 100, 1,000 and 4,000 slots of the layout, all but one
-# of which the program does not name. Give the root of the repository.
+# Reports the cost of an execution apart from its statements: the nanoseconds of a latch, a take, a run and a commit, each the mean of a series,
+# in the best of three series, for a program without statements and for one that adds 1, in layouts of 10, 100, 1,000 and 4,000 slots, of which
+# the program names only one. Give the root of the repository.
 set -euo pipefail
 . "$(dirname "$0")/copied.sh"
 # shellcheck disable=SC2046 # names without blanks
 copied "$1" steps 'anyhow thiserror' $(below "$1" 'config serial_core')
 
-# text STATEMENT SLOTS: a program of the statement, with so many globals
+# text STATEMENT SLOTS: a program of the statement, with SLOTS globals
 text() {
     local k
     echo "PROGRAM Add VAR_EXTERNAL n : DINT; END_VAR $1 END_PROGRAM"

@@ -1,8 +1,8 @@
 #!/usr/bin/env bash
-# `plant run` over a real retain file, 10,000 rows, beside as many transactions of SQLite that change one row, with synchronous=FULL, on
+# Compares `plant run` over a real retain file, 10,000 rows, with as many SQLite transactions that change one row, with synchronous=FULL, on
 # the same disk.
 #
-# usage: bench/run_store.sh PLANT [FOLDER]     PLANT is the built program; FOLDER lies on the disk to be measured
+# usage: bench/run_store.sh PLANT [FOLDER]     PLANT is the built program; FOLDER is on the disk to be measured
 set -euo pipefail
 
 plant=$(realpath "$1")
@@ -19,13 +19,13 @@ echo t > none.csv
 milliseconds() {
     local begin
     begin=$(date +%s%N)
-    "$@" > told
+    "$@" > printed
     echo $((($(date +%s%N) - begin) / 1000000))
 }
 
 echo "start-up, 100 times 'plant check': $(milliseconds bash -c "for i in {1..100}; do '$plant' check n.st; done") ms"
-/usr/bin/time -f 'plant run, 10,000 rows: %e s, %M KiB' "$plant" run n.st --plant rows.csv --store store --start cold > told
-/usr/bin/time -f 'plant run, pace free: %e s, %M KiB' "$plant" run n.st --plant rows.csv --store store --start cold --pace free > told
+/usr/bin/time -f 'plant run, 10,000 rows: %e s, %M KiB' "$plant" run n.st --plant rows.csv --store store --start cold > printed
+/usr/bin/time -f 'plant run, pace free: %e s, %M KiB' "$plant" run n.st --plant rows.csv --store store --start cold --pace free > printed
 for mode in DELETE WAL; do
-    /usr/bin/time -f "SQLite, 10,000 transactions, journal_mode=$mode: %e s, %M KiB" "$bench/sqlite.py" $mode 10000 > told
+    /usr/bin/time -f "SQLite, 10,000 transactions, journal_mode=$mode: %e s, %M KiB" "$bench/sqlite.py" $mode 10000 > printed
 done

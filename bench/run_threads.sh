@@ -1,11 +1,11 @@
 #!/usr/bin/env bash
-# Commits a second of `plant run` over a real retain file with 1, 2, 4 and 8 resources, each with one or eight programs that count in variables
-# of their own, at both paces, beside SQLite's transactions that change one row, with synchronous=FULL, on the same disk in the same run, of one
-# writer and of as many writers as there are resources, each with a row of its own. A
-# save is three writes and three syncs, the first two of a file aside. At pace `free` a run is over in some 20 ms, so it is made 20 times.
-# Then how long one execution takes beside 4,095 variables that it does not name, since a snapshot copies them.
+# Reports the commits per second of `plant run` over a real retain file with 1, 2, 4 and 8 resources, each with one or eight programs that count
+# in their own variables, at both paces. For comparison it reports SQLite's transactions that change one row, with synchronous=FULL, on the
+# same disk in the same run, by one writer and by as many writers as there are resources, each with its own row. A save is three writes and
+# three syncs, except the first two of a file. At pace `free` a run takes only about 20 ms, so it runs 20 times. Last it reports how long one
+# execution takes with 4,095 variables that it does not name, since a snapshot copies them.
 #
-# usage: bench/run_threads.sh PLANT [FOLDER]     PLANT is the built program; FOLDER lies on the disk to be measured
+# usage: bench/run_threads.sh PLANT [FOLDER]     PLANT is the built program; FOLDER is on the disk to be measured
 set -euo pipefail
 
 plant=$(realpath "$1")
@@ -14,7 +14,7 @@ work=$(mktemp -d -p "${2:-/tmp}")
 trap 'rm -rf "$work"' EXIT
 cd "$work"
 
-# text RESOURCES PROGRAMS OTHERS: a configuration of so many resources, so many programs on each, and so many variables that none names
+# text RESOURCES PROGRAMS OTHERS: a configuration of RESOURCES resources, PROGRAMS programs on each, and OTHERS variables that none names
 text() {
     local j k
     for ((k = 0; k < $1 * $2; k++)); do echo "PROGRAM Unit$k VAR_EXTERNAL n$k : DINT; END_VAR n$k := n$k + 1; END_PROGRAM"; done
@@ -40,8 +40,8 @@ file = open('store', 'rb').read()
 print(max(int.from_bytes(file[at + 1 : at + 9], 'big') for at in (0, 131072) if file[at] == 0xA5))"
 }
 
-# told NAME: a count of the last report
-told() {
+# count_of NAME: a count of the last report
+count_of() {
     awk -v name="$1" '$1 == name { print $NF }' report
 }
 
@@ -52,19 +52,19 @@ milliseconds() {
     took=$((($(date +%s%N) - begin) / 1000000 + 1))
 }
 
-# measure WHAT PACE RUNS: so many runs of text.st, summed up
+# measure NAME PACE RUNS: prints the sums of RUNS runs of text.st
 measure() {
     local commits=0 all=0 count=0 run
     for ((run = 0; run < $3; run++)); do
         rm -f store
         milliseconds "$plant" run text.st --plant rows.csv --store store --start cold --pace "$2"
-        commits=$((commits + $(told "done"))) all=$((all + took)) count=$((count + $(saves)))
+        commits=$((commits + $(count_of "done"))) all=$((all + took)) count=$((count + $(saves)))
     done
     printf '%-38s %9s %9s %12s %8s %13s %13s\n' "$1" $commits $all $((commits * 1000 / all)) $count \
         "$(awk -v d=$commits -v s=$count 'BEGIN { printf "%.2f", d / s }')" "$(awk -v d=$commits -v s=$count 'BEGIN { printf "%.2f", 6 * s / d }')"
 }
 
-printf '%-38s %9s %9s %12s %8s %13s %13s\n' what commits ms commits/s saves commits/save steps/commit
+printf '%-38s %9s %9s %12s %8s %13s %13s\n' run commits ms commits/s saves commits/save steps/commit
 for programs in 1 8; do
     for pace in settle free; do
         rows=$([ $pace = settle ] && echo $((2000 / programs)) || echo 10000)

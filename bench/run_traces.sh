@@ -1,8 +1,8 @@
 #!/usr/bin/env bash
-# A trace of 65,536 entries, the longest there is: how long `plant run` takes with and without it, and how long `plant replay` takes for it.
-# Seven programs count on two resources, 8,192 rows. The retain file lies in memory, so that little is spent on it.
+# Reports how long `plant run` takes with and without a trace of 65,536 entries, the longest possible one, and how long its `plant replay` takes.
+# Seven programs count on two resources, over 8,192 rows. The retain file is in memory, so that it takes little time.
 #
-# usage: bench/run_traces.sh PLANT [FOLDER]     PLANT is the built program; FOLDER is where the files lie, else /dev/shm
+# usage: bench/run_traces.sh PLANT [FOLDER]     PLANT is the built program; FOLDER is the folder for the files, /dev/shm by default
 set -euo pipefail
 
 plant=$(realpath "$1")
@@ -23,7 +23,7 @@ cd "$work"
 } > text.st
 { echo t; seq 0 8191; } > rows.csv
 
-# timed NAME WORD..: how long the program takes for these words
+# timed NAME WORD..: prints how long the program takes for these words
 timed() {
     local begin name=$1
     shift
@@ -42,4 +42,4 @@ for _ in 1 2 3; do
 done
 tail -n 1 trace
 wc -c < trace | sed 's/$/ bytes/'
-echo "written alone, as the replay is read: $(cp trace copy; for _ in 1 2 3; do begin=$(date +%s%N); cat trace > copy; echo -n "$((($(date +%s%N) - begin) / 1000000)) "; done)ms to copy the same bytes"
+echo "for comparison: $(cp trace copy; for _ in 1 2 3; do begin=$(date +%s%N); cat trace > copy; echo -n "$((($(date +%s%N) - begin) / 1000000)) "; done)ms to copy the same bytes"

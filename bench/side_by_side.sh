@@ -1,8 +1,8 @@
 #!/usr/bin/env bash
-# All that is compared with something else, in one run on one machine, as tables in Markdown: programs as slot code, by Lua and in C; commits a
-# second beside SQLite; starts and checks by size of text.
+# Prints all comparisons in one run on one machine, as Markdown tables: programs as slot code, by Lua and in C; commits per second compared with
+# SQLite; starts and checks by size of text.
 #
-# usage: bench/side_by_side.sh PLANT [FOLDER]     PLANT is the built program; FOLDER lies on the disk to be measured
+# usage: bench/side_by_side.sh PLANT [FOLDER]     PLANT is the built program; FOLDER is on the disk to be measured
 set -euo pipefail
 
 root=$(realpath "$(dirname "$0")/..")
@@ -17,20 +17,20 @@ best() {
     local least=999999999 begin took
     for _ in 1 2 3 4 5; do
         begin=$(date +%s%N)
-        "$@" > told 2>&1 || true
+        "$@" > printed 2>&1 || true
         took=$((($(date +%s%N) - begin) / 10000))
         [ "$took" -ge "$least" ] || least=$took
     done
     printf '%d.%02d' $((least / 100)) $((least % 100))
 }
 
-# anew MODE ROWS: so many transactions of SQLite over a new database
-anew() {
+# transactions MODE ROWS: ROWS transactions of SQLite over a new database
+transactions() {
     rm -f ./*.db ./*.db-*
     "$root/bench/sqlite.py" "$1" "$2"
 }
 
-# counters COUNT: a text of one program with so many statements
+# counters COUNT: a text of one program with COUNT statements
 counters() {
     echo 'PROGRAM Add VAR_EXTERNAL n : DINT; END_VAR'
     for ((k = 0; k < $1; k++)); do echo 'n := n + 1;'; done
@@ -52,7 +52,7 @@ counters 1 > one.st
 took=$(best "$plant" run one.st --plant rows.csv --store store --start cold)
 echo "| \`plant run\`, $rows rows | $(awk "BEGIN { printf \"%.0f\", $rows / $took * 1000 }") |"
 for mode in DELETE WAL; do
-    took=$(best anew $mode $rows)
+    took=$(best transactions $mode $rows)
     echo "| SQLite, \`journal_mode=$mode\`, \`synchronous=FULL\` | $(awk "BEGIN { printf \"%.0f\", $rows / $took * 1000 }") |"
 done
 echo

@@ -1,5 +1,5 @@
 #!/usr/bin/env python3
-"""Changes one row of an SQLite database in the folder where it runs, in so many transactions, each on the disk before the next.
+"""Changes one row of an SQLite database in the current folder, in COUNT transactions, each on the disk before the next.
 
 usage: sqlite.py MODE COUNT     MODE is DELETE or WAL
 """

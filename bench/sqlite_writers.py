@@ -1,6 +1,6 @@
 #!/usr/bin/env python3
-"""So many processes that each change a row of their own in one SQLite database in the folder where it runs, each transaction on the disk
-before the next of that process, with synchronous=FULL. It prints how many there were a second, of all together.
+"""Starts WRITERS processes that each change a row of their own in one SQLite database in the current folder, each transaction on the disk
+before the next of that process, with synchronous=FULL. It prints the transactions per second of all processes together.
 
 usage: sqlite_writers.py MODE WRITERS COUNT     MODE is DELETE or WAL; each writer makes COUNT transactions
 """

@@ -1,13 +1,13 @@
 #!/usr/bin/env python3
 """Feeds the built program broken texts, plants and retain files.
 
-Each is accepted, or refused with one fault line and the status of its kind; a place lies inside the text, and a retain file that was
-there stays as it was. Nothing crashes. With `--explain` a view follows that line: of printable characters alone, with the line and the column
-of the place, and a caret under its byte. `plant show` refuses just the retain files that a start refuses, and leaves them as they are.
+Each is accepted, or refused with one fault line and the status of its kind. A place is inside the text, and an existing retain file stays
+unchanged. Nothing crashes. With `--explain` a view follows that line: it has only printable characters, the line and the column of the place,
+and a caret under its byte. `plant show` refuses exactly the retain files that a start refuses, and leaves them unchanged.
 
-Of the texts most are of the whole language; none takes more than a second of the processor.
+Most of the texts use the whole language; none takes more than a second of CPU time.
 
-usage: tests/broken.py PLANT [TEXTS [PLANTS [STORES]]]     PLANT is the built program; 4000, 500 and 500 where no numbers are given
+usage: tests/broken.py PLANT [TEXTS [PLANTS [STORES]]]     PLANT is the built program; the others are numbers, 4000, 500 and 500 by default
 """
 import os
 import pathlib
@@ -20,19 +20,19 @@ import tempfile
 
 TOKEN = re.compile(r"\(\*.*?\*\)|[A-Za-z0-9_#%]+|:=|=>|\.\.|<=|>=|<>|\S", re.DOTALL)
 FAULT = re.compile(r"fault ([A-Z])([0-9]+)(?: at ([0-9]+))?\n")
-# what a warm start says of a record of another layout
-OTHER = re.compile(r"the retain file has another layout: \d+ carried, \d+ new, \d+ retyped, \d+ dropped\n")
+# the report of a warm start about a record of another layout
+OTHER = re.compile(r"the retain file has a different layout: \d+ carried, \d+ new, \d+ retyped, \d+ dropped\n")
 ROOT = pathlib.Path(__file__).resolve().parent.parent
-# texts of the whole language, from which three of four broken ones are made
+# texts of the whole language; three of four broken texts are made from them
 WHOLE = ("conveyor.st", "recipe.st")
 
 
-def fail(what, told):
-    sys.exit(f"broken.py: {what}: {told}")
+def fail(name, answer):
+    sys.exit(f"broken.py: {name}: {answer}")
 
 
 def spent():
-    """Seconds of the processor that the programs have taken that ended until now."""
+    """CPU seconds of all programs that have ended so far."""
     used = resource.getrusage(resource.RUSAGE_CHILDREN)
     return used.ru_utime + used.ru_stime
 
@@ -47,19 +47,19 @@ class Plant:
         before = spent()
         done = subprocess.run([self.program, *words], capture_output=True, text=True, timeout=60)
         if spent() - before > 1:
-            fail(words, "more than a second of the processor")
+            fail(words, "more than a second of CPU time")
         return done.returncode, done.stdout, done.stderr
 
-    def look(self, what, answer, status, codes):
-        """Whether it was refused, with one line of one of these codes; else it was accepted, perhaps over a record of another layout."""
+    def look(self, name, answer, status, codes):
+        """The fault if it was refused, with one line of one of these codes; None if it was accepted, perhaps over a record of another layout."""
         found, out, err = answer
         if found == 0:
             if err and not OTHER.fullmatch(err) or not out:
-                fail(what, answer)
+                fail(name, answer)
             return None
         fault = FAULT.fullmatch(err)
         if found != status or out or not fault or fault[1] not in codes:
-            fail(what, answer)
+            fail(name, answer)
         return fault
 
 
@@ -80,7 +80,7 @@ def change(pick, tokens, pool):
 
 
 def look_at_view(text, fault, answer):
-    """Whether a view of the fault follows its line, and stands at its place."""
+    """Checks that a view of the fault follows its line, and shows its place."""
     if answer[:2] != (2, "") or not answer[2].startswith(fault[0]):
         fail(text, answer)
     view = answer[2][len(fault[0]) :]
@@ -126,7 +126,7 @@ def texts(plant, pick, count):
 
 
 def spoiled(pick, data, places):
-    """Bytes with one byte changed, dropped or doubled, or the end cut off; the byte is one of the places'."""
+    """The data with one byte at one of the places changed, dropped or doubled, or with the end cut off there."""
     at = pick.choice(places)
     kind = pick.randrange(4)
     if kind == 0:
@@ -173,7 +173,7 @@ def stores(plant, pick, count):
         words = ("run", source, "--plant", "none.csv", "--store", "broken", "--start", start)
         shown = plant.run("show", "broken")
         if store.read_bytes() != broken:
-            fail(broken[:64], "a look changed the retain file")
+            fail(broken[:64], "plant show changed the retain file")
         fault = plant.look(broken[:64], plant.run(*words), 4, "S")
         refused = fault[0] if fault else None
         if (shown[2].splitlines(keepends=True) or [None])[0] != refused or (shown[0] == 0) != (refused is None):
@@ -193,14 +193,14 @@ def main():
     pick = random.Random(1)
     with tempfile.TemporaryDirectory() as folder:
         os.chdir(folder)
-        told = []
+        results = []
         for name, kind, count in zip(("texts", "plants", "retain files"), (texts, plants, stores), counts):
             accepted = kind(plant, pick, count)
             if accepted in (0, count):
                 fail(name, f"{accepted} of {count} accepted")
-            told.append(f"{count} {name}, {accepted} of them accepted")
+            results.append(f"{count} {name}, {accepted} of them accepted")
         os.chdir("/")
-    print(f"broken.py: {'; '.join(told)}")
+    print(f"broken.py: {'; '.join(results)}")
 
 
 main()

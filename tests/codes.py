@@ -1,7 +1,7 @@
 #!/usr/bin/env python3
-"""Tries each example of docs/CODES.md on the built program: it is answered with the code that its row says.
+"""Tries each example of docs/CODES.md on the built program, which has to answer with the code of the example's row.
 
-An example in backticks is taken as it stands; one in words is built by the table below, under these same words.
+An example in backticks is taken literally. One in words is looked up, by these words, in the tables below.
 
 usage: tests/codes.py PLANT     PLANT is the built program
 """
@@ -25,7 +25,7 @@ def fail(text):
 
 def changed(new, old):
     if COUNTER.count(old) != 1:
-        fail(f"`{old}` stands {COUNTER.count(old)} times in the counter's text")
+        fail(f"`{old}` occurs {COUNTER.count(old)} times in the counter's text")
     return COUNTER.replace(old, new)
 
 
@@ -75,7 +75,7 @@ def record(generation, layout, values):
 # the rows of the run whose trace is changed
 TRACED = "t\n0\n10\n20\n"
 
-# retain files in words, each with the start that meets it
+# retain files in words, each with the kind of start that reads it
 STORES = {
     "`head -c 262145 /dev/zero > f`": (bytes(FILE_BYTES + 1), "warm"),
     "262,144 zero bytes, but 0xA5 at 0": (whole(b"\xa5"), "warm"),
@@ -92,10 +92,10 @@ class Program:
 
     def answers(self, code, status, words):
         ended = subprocess.run([self.program, *words], capture_output=True, text=True, timeout=60)
-        told = (ended.returncode, ended.stdout, ended.stderr)
+        answer = (ended.returncode, ended.stdout, ended.stderr)
         wanted = rf"fault {code}( at \d+)?\n" if " at " not in code else rf"fault {code}\n"
         if ended.returncode != status or ended.stdout or not re.fullmatch(wanted, ended.stderr):
-            fail(f"{code}, {shlex.join(words)[:200]}: told {str(told)[:300]}")
+            fail(f"{code}, {shlex.join(words)[:200]}: the answer is {str(answer)[:300]}")
         self.tried += 1
 
     def run(self, plant="rows.csv", store="store", start="cold"):
@@ -120,7 +120,7 @@ class Program:
         elif example in SOURCES:
             text = SOURCES[example]()
         else:
-            return fail(f"{answer}: nothing builds the example: {example}")
+            return fail(f"{answer}: no table has the example: {example}")
         pathlib.Path("source.st").write_text(text)
         return self.answers(answer, 2, ["check", "source.st"])
 
@@ -128,7 +128,7 @@ class Program:
         command = re.fullmatch(r"`plant (.*)`", example)
         if command:
             return self.answers(answer, 3, shlex.split(command[1]))
-        for rows in PLANTS.get(example) or fail(f"{answer}: nothing builds the example: {example}"):
+        for rows in PLANTS.get(example) or fail(f"{answer}: no table has the example: {example}"):
             if rows is None:
                 self.answers(answer, 3, self.run(plant="nowhere.csv"))
                 self.answers(answer, 3, self.run(plant="."))
@@ -146,7 +146,7 @@ class Program:
         subprocess.run([self.program, *words], check=True, capture_output=True, timeout=60)
         lines = pathlib.Path("trace.txt").read_text().splitlines(keepends=True)
         if lines.count(f"{old}\n") != 1:
-            fail(f"`{old}` stands {lines.count(old)} times in the trace")
+            fail(f"`{old}` occurs {lines.count(old)} times in the trace")
         pathlib.Path("changed.txt").write_text("".join(lines).replace(f"{old}\n", f"{new}\n"))
         self.answers(answer, 3, ["replay", "s.st", "--plant", "traced.csv", "--trace", "changed.txt"])
 
@@ -155,7 +155,7 @@ class Program:
         for store in stores:
             self.answers(answer, 4, self.run(store=store))
         if not stores:
-            file, start = STORES.get(example) or fail(f"{answer}: nothing builds the example: {example}")
+            file, start = STORES.get(example) or fail(f"{answer}: no table has the example: {example}")
             pathlib.Path("kept").write_bytes(file)
             self.answers(answer, 4, self.run(store="kept", start=start))
 
@@ -184,7 +184,7 @@ def main():
         for code, _meaning, example in rows_of(page, "The start: status 4"):
             program.store(example, code)
         os.chdir(ROOT)
-    print(f"codes.py: {program.tried} examples as they should be")
+    print(f"codes.py: {program.tried} examples as expected")
 
 
 main()

@@ -1,7 +1,7 @@
 #!/usr/bin/env python3
-"""Looks whether each drop that is written out lets go of all that its value holds, and does nothing else.
+"""Checks that each hand-written drop releases everything that its value holds, and does nothing else.
 
-No contract says so: a drop that forgets a field is proved, and its memory is never given back.
+No contract says so: a drop that forgets a field can be proved, and leaks the field's memory.
 
 usage: tests/drops.py
 """
@@ -22,12 +22,12 @@ def main():
         for name, body in IMPL.findall(path.read_text()):
             count += 1
             if not BODY.fullmatch(re.sub(r"\s", "", body)):
-                odd.append(f"{path.relative_to(ROOT)}: the drop of {name} does more than let go of what it holds, or less")
+                odd.append(f"{path.relative_to(ROOT)}: the drop of {name} releases less than its value holds, or does more")
     for line in odd:
         print(f"drops.py: {line}", file=sys.stderr)
     if odd or not count:
         sys.exit(1)
-    print(f"drops.py: {count} drops let go of all that their values hold")
+    print(f"drops.py: {count} drops release all that their values hold")
 
 
 if __name__ == "__main__":

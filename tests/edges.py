@@ -1,8 +1,8 @@
 #!/usr/bin/env python3
-"""Runs operators, loops, labels, subscripts, conversions and standard blocks on the edges of each type, on the built program.
+"""Runs operators, loops, labels, subscripts, conversions and standard blocks at the limits of each type, on the built program.
 
-What is expected is computed here, from the formulas of the language and on unbounded numbers. Hundreds of rows go into one text; those that
-meet a fault have a program of their own each, and the trace tells which fault it was.
+This script computes the expected values from the formulas of the language, on unbounded numbers. Hundreds of rows go into one text; each row
+that faults has a program of its own, and the trace has its fault.
 
 usage: tests/edges.py PLANT     PLANT is the built program
 """
@@ -19,24 +19,24 @@ from language import ALL, BITS, COMPARISONS, NUMBERS, SIGNED, UNSIGNED, batches,
 
 TIME_TOP = 2**63 - 1
 DURATIONS = (-TIME_TOP - 1, -TIME_TOP, -1, 0, 1, 86_400_000, TIME_TOP)
-# types of values of names, and how they are declared
+# enumerated types, and their declarations
 NAMED = {"Hue": ("Red", "Green", "Blue"), "One": ("Alone",), "Wide": tuple(f"W{k}" for k in range(256))}
 ENUMERATIONS = "TYPE " + " ".join(f"{name} : ({', '.join(names)});" for name, names in NAMED.items()) + " END_TYPE\n"
 MOST_ROWS = 400
 MOST_FAULTS = 64
 
 
-def fail(name, told):
-    sys.exit(f"edges.py: {name}: {told}")
+def fail(name, answer):
+    sys.exit(f"edges.py: {name}: {answer}")
 
 
 def shown(kind, number):
-    """A value as a report has it."""
+    """A value as a report prints it."""
     return NAMED[kind][number].upper() if kind in NAMED else spelled(kind, number)
 
 
 def literal(kind, number):
-    """A value as an expression has it where a value of its type is expected."""
+    """A value as an expression writes it in a place of its type."""
     if kind == "TIME":
         return f"T#{number}ms"
     if kind in NAMED:
@@ -49,16 +49,16 @@ def is_literal(kind, number):
 
 
 class Rows:
-    """Statements over variables, each with the values that it leaves, or with the fault that it meets.
+    """Statements over variables, each with the values that it leaves, or with its fault.
 
-    In variables and statements `~` stands for the number of the row.
+    In variables and statements `~` means the number of the row.
     """
 
     def __init__(self, before=""):
         self.before, self.given, self.faults = before, [], []
 
     def add(self, variables, body, wanted):
-        """Variables are (name, type, number or text of an initial value); what is wanted is a fault, or numbers by name."""
+        """Variables are (name, type, number or text of an initial value); `wanted` is a fault, or numbers by name."""
         (self.faults if isinstance(wanted, str) else self.given).append((variables, body, wanted))
 
     def value(self, kind, number, expression, operands):
@@ -76,7 +76,7 @@ class Rows:
 
     @staticmethod
     def declared(variables, number):
-        """The declarations of a row, and the assignments of what no initial value can be."""
+        """The declarations of a row, and assignments of values that no literal can write."""
         declarations, assigned = [], []
         for name, kind, initial in variables:
             name = name.replace("~", str(number))
@@ -105,7 +105,7 @@ class Rows:
         plant.scene(name, text, wanted | {"faults": 0, "done": 1}, budget=1_000_000)
 
     def check_faults(self, plant, name, rows):
-        """Each row in a program of its own, which leaves nothing."""
+        """Runs each row in a program of its own, whose values have to stay initial."""
         units, instances, wanted = [], [], {"faults": len(rows), "done": len(rows)}
         for number, (variables, statements, _) in enumerate(rows):
             declared, assigned = self.declared(variables, number)
@@ -127,10 +127,10 @@ def numbers_kind(path, kinds):
     return kinds[path.split("[")[0]].split(" OF ")[-1]
 
 
-# ---- operands that are literals, and such that are computed
+# ---- literal and computed operands
 
 def plain(kind, number):
-    """The forms of an operand: a variable, a literal, and what an operation gives. Each with the operands that it names."""
+    """The forms of an operand: a variable, a literal, and an operation, each with the operands that it names."""
     same = {"BOOL": "NOT (NOT @)", "TIME": "(@ + T#0ms)"}.get(kind, "(@ OR 0)" if kind in BITS else "(@ + 0)")
     forms = [("@", [(kind, number)]), (same, [(kind, number)])]
     if is_literal(kind, number):
@@ -139,14 +139,14 @@ def plain(kind, number):
 
 
 def over(rows, result, kind, a, b, number, mark):
-    """An operation over its operands in every form, but for two literals, which have no type."""
+    """Adds an operation over its operands in every form, except over two literals, which have no type."""
     for (left, named), (right, more) in itertools.product(plain(kind, a), plain(kind, b)):
         if named or more:
             rows.value(result, number, f"{left} {mark} {right}", named + more)
 
 
 def few(kind):
-    """The ends of a type, and what is about 0."""
+    """The limits of a type, and numbers around 0."""
     return sorted({n for n in (least(kind), -1, 0, 1, 2, greatest(kind)) if holds(kind, n)})
 
 
@@ -178,7 +178,7 @@ def operands(plant):
 
 
 def groups(plant):
-    """Operators without parentheses, which group by their levels and from the left."""
+    """Operators without parentheses, which group by precedence and from the left."""
     rows = Rows()
     names = [("DINT", n) for n in (7, -3, 2, 5)]
     a, b, c, d = (n for _, n in names)
@@ -207,7 +207,7 @@ def groups(plant):
 
 
 def spellings(plant):
-    """Literals in each of their forms, and expressions of literals alone, which take the type of their place."""
+    """Literals in each of their forms, and expressions of only literals, which take the type of their place."""
     rows = Rows()
     for kind, expression, number in (
         ("INT", "3 -5", -2), ("INT", "3 - -5", 8), ("INT", "-(5)", -5), ("INT", "-5 * -3", 15), ("INT", "-7 / 2", -3),
@@ -237,7 +237,7 @@ def spellings(plant):
 
 
 def outputs(plant):
-    """A block's inputs are evaluated before its body, and its outputs copied in their order, each into what its target is by then."""
+    """A block's inputs are evaluated before its body, and its outputs copied in order; each target is evaluated when it is reached."""
     rows = Rows("""FUNCTION_BLOCK Two VAR_INPUT x, y : INT; END_VAR VAR_OUTPUT n, m : INT; END_VAR
 n := x + 1; m := x * 10 + y; END_FUNCTION_BLOCK
 """)
@@ -315,7 +315,7 @@ def selections(plant):
 
 
 def conversions(plant):
-    """Each conversion at the ends of both types, and one past them."""
+    """Each conversion at the limits of both types, and one past them."""
     for source in ALL:
         rows = Rows()
         for target in ALL:
@@ -356,7 +356,7 @@ def shifts(plant):
 # ---- statements
 
 def counted(kind, start, limit, step, most):
-    """The control variable after a FOR and how often it turned; nothing where that is more often than asked."""
+    """The control variable after a FOR, and the number of turns; None if they are more than `most`."""
     i, turns = start, 0
     while (i <= limit) if step > 0 else (i >= limit):
         turns += 1
@@ -434,7 +434,7 @@ def subscripts(plant):
     for i in (1, 2, 3):
         rows.add([("a~", "ARRAY [1..3] OF INT", "[3, 1, 2]"), ("i~", "INT", i), ("r~", "INT", None)], "r~ := a~[a~[a~[i~]]];",
                  {"r~": (None, 3, 1, 2)[(None, 3, 1, 2)[(None, 3, 1, 2)[i]]]})
-    # a subscript is tested before the next one is evaluated, and an expression before the subscripts of its target
+    # a subscript is checked before the next one is evaluated, and an expression before the subscripts of its target
     flat = [("a~", "Face", None), ("i~", "INT", 9), ("z~", "INT", 0), ("r~", "INT", None)]
     rows.add(flat, "r~ := a~[i~][1 / z~];", "F3")
     rows.add(flat, "a~[i~][1 / z~] := 1;", "F3")
@@ -466,30 +466,30 @@ FUNCTION_BLOCK Keep VAR_INPUT x : {kind}; END_VAR VAR_OUTPUT y, z : {kind}; END_
 # ---- standard blocks over long runs
 
 def runs(plant):
-    """Each block over two hundred calls with inputs that were drawn, the timers at moments that were drawn too."""
+    """Each block over two hundred calls with random inputs, the timers at random moments too."""
     pick = random.Random(2)
     drawn = [tuple(pick.randrange(2) for _ in range(4)) for _ in range(200)]
     first = [given[:1] for given in drawn]
     two = [given[:2] for given in drawn]
-    language.block(plant, "SR, drawn", "SR", ["S1", "R"], two, language.latch(False))
-    language.block(plant, "RS, drawn", "RS", ["S", "R1"], two, language.latch(True))
-    language.block(plant, "R_TRIG, drawn", "R_TRIG", ["CLK"], first, language.edge(False))
-    language.block(plant, "F_TRIG, drawn", "F_TRIG", ["CLK"], first, language.edge(True))
+    language.block(plant, "SR, random inputs", "SR", ["S1", "R"], two, language.latch(False))
+    language.block(plant, "RS, random inputs", "RS", ["S", "R1"], two, language.latch(True))
+    language.block(plant, "R_TRIG, random inputs", "R_TRIG", ["CLK"], first, language.edge(False))
+    language.block(plant, "F_TRIG, random inputs", "F_TRIG", ["CLK"], first, language.edge(True))
     seldom = [(u, d, int(pick.random() < 0.1), int(pick.random() < 0.1)) for u, d, _, _ in drawn]
     for preset in (-32768, -1, 0, 1, 5, 32767):
         given = f"PV := {preset}"
-        language.block(plant, f"CTU to {preset}, drawn", "CTU", ["CU", "R"], [(u, r) for u, _, r, _ in seldom],
+        language.block(plant, f"CTU to {preset}, random inputs", "CTU", ["CU", "R"], [(u, r) for u, _, r, _ in seldom],
                        lambda u, r, s=language.counter("CTU", preset): s(u, 0, r, 0), preset=given)
-        language.block(plant, f"CTD from {preset}, drawn", "CTD", ["CD", "LD"], [(d, n) for _, d, _, n in seldom],
+        language.block(plant, f"CTD from {preset}, random inputs", "CTD", ["CD", "LD"], [(d, n) for _, d, _, n in seldom],
                        lambda d, n, s=language.counter("CTD", preset): s(0, d, 0, n), preset=given)
-        language.block(plant, f"CTUD about {preset}, drawn", "CTUD", ["CU", "CD", "R", "LD"], seldom, language.counter("CTUD", preset),
+        language.block(plant, f"CTUD about {preset}, random inputs", "CTUD", ["CU", "CD", "R", "LD"], seldom, language.counter("CTUD", preset),
                        preset=given)
     for period in (0, 1, 70, 1000):
         times = list(itertools.accumulate(pick.choice((1, 10, 69, 70, 71, 500)) for _ in drawn))
         for name in ("TON", "TOF", "TP"):
-            language.block(plant, f"{name} of {period} ms, drawn", name, ["IN"], first, language.timer(name, period), times=times,
+            language.block(plant, f"{name} of {period} ms, random inputs", name, ["IN"], first, language.timer(name, period), times=times,
                            preset=f"PT := T#{period}ms")
-    # the ends of moments and of TIME
+    # the limits of moments and of TIME
     last = 2**62 - 1
     for period, given in ((TIME_TOP, f"T#{TIME_TOP}ms"), (last, f"T#{last}ms"), (last - 1, f"T#{last - 1}ms"), (-5, "T#0ms - T#5ms")):
         for name, steps in itertools.product(("TON", "TOF", "TP"), ([(1,)] * 4, [(1,), (0,), (0,), (0,)], [(0,), (1,), (1,), (0,)])):

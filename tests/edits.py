@@ -1,9 +1,9 @@
 #!/usr/bin/env python3
-"""Looks whether each edit of crates/*/must-fail, strength/ and tests/wrong still applies: each of its `old:` texts stands once in the file that
-it names.
+"""Checks that each edit of crates/*/must-fail, strength/ and tests/wrong still applies: each of its `old:` texts occurs exactly once in the file
+that it names.
 
-usage: tests/edits.py                  looks at all of them
-       tests/edits.py EDIT FOLDER      lays one of tests/wrong in, in a copy of the repository
+usage: tests/edits.py                  checks all of them
+       tests/edits.py EDIT FOLDER      applies one of tests/wrong to a copy of the repository
 """
 import pathlib
 import sys
@@ -12,11 +12,11 @@ ROOT = pathlib.Path(__file__).resolve().parent.parent
 
 
 class Misfit(Exception):
-    """Why an edit does not apply."""
+    """Why an edit doesn't apply."""
 
 
-def laid_in(edit, crate):
-    """The files of a crate that an edit changes, with their texts as they are then."""
+def edited(edit, crate):
+    """The files of a crate that an edit changes, with their new texts."""
     texts, path, old = {}, None, None
     for line in edit.read_text().split("\n"):
         word, _, rest = line.partition(": ")
@@ -33,7 +33,7 @@ def laid_in(edit, crate):
                 raise Misfit("a 'new:' without an 'old:'")
             found = texts[path].count(old)
             if found != 1:
-                raise Misfit(f"an 'old:' text stands in {path.relative_to(crate)} {found} times")
+                raise Misfit(f"an 'old:' text occurs in {path.relative_to(crate)} {found} times")
             texts[path] = texts[path].replace(old, line[len("new:") :].removeprefix(" "))
             old = None
     if not texts:
@@ -41,14 +41,14 @@ def laid_in(edit, crate):
     return texts
 
 
-def look():
-    """Looks at all edits: how many there are, and how many don't apply."""
+def check_all():
+    """Checks all edits; returns how many there are, and how many don't apply."""
     edits = [(it, it.parent.parent.name) for it in ROOT.glob("crates/*/must-fail/*.edit")]
     edits += [(it, it.parent.name) for it in [*ROOT.glob("strength/*/*.edit"), *ROOT.glob("tests/wrong/*/*.edit")]]
     bad = 0
     for edit, crate in sorted(edits):
         try:
-            laid_in(edit, ROOT / "crates" / crate)
+            edited(edit, ROOT / "crates" / crate)
         except Misfit as why:
             print(f"edits.py: {edit.relative_to(ROOT)}: {why}", file=sys.stderr)
             bad += 1
@@ -58,10 +58,10 @@ def look():
 def main():
     if len(sys.argv) > 1:
         edit, folder = (pathlib.Path(word) for word in sys.argv[1:])
-        for path, text in laid_in(edit, folder / "crates" / edit.parent.name).items():
+        for path, text in edited(edit, folder / "crates" / edit.parent.name).items():
             path.write_text(text)
         return
-    count, bad = look()
+    count, bad = check_all()
     if bad or not count:
         sys.exit(1)
     print(f"edits.py: {count} edits apply")

@@ -1,6 +1,6 @@
 #!/usr/bin/env bash
-# Runs each example by its commands over a new retain file, the cold one first, and compares its reports. Each run writes a trace, which is run
-# again by one thread and has to tell the same.
+# Runs the commands of each example over a new retain file, the cold one first, and compares the reports. Each run writes a trace, whose replay
+# in one thread must report the same.
 #
 # usage: tests/examples.sh PLANT     PLANT is the built program
 set -euo pipefail
@@ -10,7 +10,7 @@ examples=$(realpath "$(dirname "$0")/../examples")
 work=$(mktemp -d)
 trap 'rm -rf "$work"' EXIT
 
-# again WORDS: runs the trace of the run of these words again
+# again WORDS: replays the trace of the run with these words
 again() {
     [ "$1 $3" = "run --plant" ] || { echo "examples.sh: no source and plant in: $*" >&2; exit 1; }
     "$plant" replay "$2" --plant "$4" --trace trace
@@ -22,14 +22,14 @@ for example in "$examples"/*/; do
     cd "$work/now"
     for command in *.command; do
         read -ra words < "$command"
-        "$plant" "${words[@]}" --trace trace > told
-        diff "${command%.command}.report" told || { echo "examples.sh: $example tells something else" >&2; exit 1; }
-        again "${words[@]}" > retold
-        diff <(sed '/^acked /d' told) retold || { echo "examples.sh: the replay of $example tells something else" >&2; exit 1; }
+        "$plant" "${words[@]}" --trace trace > reported
+        diff "${command%.command}.report" reported || { echo "examples.sh: $example reports something else" >&2; exit 1; }
+        again "${words[@]}" > replayed
+        diff <(sed '/^acked /d' reported) replayed || { echo "examples.sh: the replay of $example reports something else" >&2; exit 1; }
         count=$((count + 1))
     done
     cd "$work"
     rm -r "$work/now"
 done
 [ "$count" -ge 18 ] || { echo "examples.sh: only $count runs" >&2; exit 1; }
-echo "examples.sh: $count runs and their replays as they should be"
+echo "examples.sh: $count runs and their replays as expected"

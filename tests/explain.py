@@ -1,7 +1,7 @@
 #!/usr/bin/env python3
-"""Tries what the built program says of refused texts with --explain: the line of the code, and behind it what a person is shown.
+"""Tries --explain of the built program on refused texts: it prints the line of the code, and after it an explanation for a person.
 
-Each case has the text with `@` at the place of the fault, where it has one, and all that is shown, by the rules of docs/GUIDE.md, "Faults of a
+Each case has the text, with `@` at the place of the fault if there is one, and the whole explanation, by the rules of docs/GUIDE.md, "Faults of a
 text, for a person".
 
 usage: tests/explain.py PLANT     PLANT is the built program
@@ -44,11 +44,11 @@ def fail(text):
 
 def tank(new, old=STATEMENT):
     if TANK.count(old) != 1:
-        fail(f"`{old}` stands {TANK.count(old)} times in the text")
+        fail(f"`{old}` occurs {TANK.count(old)} times in the text")
     return TANK.replace(old, new)
 
 
-# what some cases add behind that text
+# what some cases add after that text
 POINT = "TYPE Point : STRUCT x : INT; y : INT; END_STRUCT; END_TYPE\n"
 MODE = "TYPE Mode : (Fill, Drain); END_TYPE\n"
 VALVE = (
@@ -56,72 +56,72 @@ VALVE = (
     "full := amount > 9; END_FUNCTION_BLOCK\n"
 )
 
-# an enumerated type with one name too many, whose `x` stands 14 bytes before the end
+# an enumerated type with one name too many, whose `x` is 14 bytes before the end
 MANY = "TYPE t : (" + ",".join(f"n{k:02x}" for k in range(256)) + ",@x00); END_TYPE"
 
-# each case: what is broken, the text, and what is shown
+# each case: the code, the text, and the explanation
 CASES = [
     ("L1", "PROGRAM P @$ END_PROGRAM", """\
-error[L1]: the byte 0x24 (`$`) may not stand here
+error[L1]: the byte 0x24 (`$`) isn't allowed here
  --> t.st:1:11
   |
 1 | PROGRAM P $ END_PROGRAM
   |           ^
 """),
     ("L1", "PROGRAM P\n\tn := @'a'; END_PROGRAM", """\
-error[L1]: the byte 0x27 (`'`) may not stand here
+error[L1]: the byte 0x27 (`'`) isn't allowed here
  --> t.st:2:7
   |
 2 | \tn := 'a'; END_PROGRAM
   | \t     ^
-  = help: there are no strings in this language
+  = help: strings aren't supported
 """),
     ("L1", "PROGRAM P @\x01 END_PROGRAM", """\
-error[L1]: the byte 0x01 may not stand here
+error[L1]: the byte 0x01 isn't allowed here
  --> t.st:1:11
   |
 1 | PROGRAM P ? END_PROGRAM
   |           ^
-  = help: a text has ASCII characters alone
+  = help: use printable ASCII characters
 """),
     ("L1", "PROGRAM P @(* \x1b[2J *) END_PROGRAM", """\
-error[L1]: the byte 0x1B may not stand in a comment
+error[L1]: the byte 0x1B isn't allowed in a comment
  --> t.st:1:11
   |
 1 | PROGRAM P (* ?[2J *) END_PROGRAM
   |           ^
 """),
     ("L2", "PROGRAM P n := @2#102; END_PROGRAM", """\
-error[L2]: `2#102` is no literal
+error[L2]: `2#102` isn't a literal
  --> t.st:1:16
   |
 1 | PROGRAM P n := 2#102; END_PROGRAM
   |                ^~~~~
 """),
     ("L2", "PROGRAM P n := @99999999999999999999; END_PROGRAM", """\
-error[L2]: 99999999999999999999 is over 18446744073709551615, the greatest number
+error[L2]: 99999999999999999999 is over 18446744073709551615, the largest number
  --> t.st:1:16
   |
 1 | PROGRAM P n := 99999999999999999999; END_PROGRAM
   |                ^~~~~~~~~~~~~~~~~~~~
 """),
     ("L2", "CONFIGURATION C VAR_GLOBAL n AT @%IB3 : INT; END_VAR END_CONFIGURATION", """\
-error[L2]: `%IB3` is no literal
+error[L2]: `%IB3` isn't a literal
  --> t.st:1:33
   |
 1 | CONFIGURATION C VAR_GLOBAL n AT %IB3 : INT; END_VAR END_CONFIGURATION
   |                                 ^~~~
-  = help: an address is %I or %Q, X or W, and a number, as in %IX0
+  = help: an address is %IX, %QX, %IW or %QW and a number, as in %IX0
 """),
     ("L3", "PROGRAM @a__b END_PROGRAM", """\
-error[L3]: `a__b` is no name: two underscores stand in a row
+error[L3]: `a__b` isn't a name: it has two underscores in a row
  --> t.st:1:9
   |
 1 | PROGRAM a__b END_PROGRAM
   |         ^~~~
 """),
     ("L3", f"PROGRAM @{'a' * 65} END_PROGRAM", f"""\
-error[L3]: this name has 65 characters, at most 64 are allowed
+error[L3]: this name has 65 characters; at most 64 are allowed
  --> t.st:1:9
   |
 1 | PROGRAM {'a' * 65} END_PROGRAM
@@ -133,10 +133,10 @@ error[L4]: a comment begins inside another one
   |
 1 | PROGRAM P (* a (* b *) *) END_PROGRAM
   |                ^
-  = help: end the outer comment with `*)` before it
+  = help: close the outer comment with `*)` before it
 """),
     ("L4", "PROGRAM P\r\n@(* a\r\nEND_PROGRAM\r\n", """\
-error[L4]: this comment is not closed
+error[L4]: this comment isn't closed
  --> t.st:2:1
   |
 2 | (* a
@@ -144,11 +144,11 @@ error[L4]: this comment is not closed
   = help: a comment ends with `*)`
 """),
     ("L5", " " * 1048577, """\
-error[L5]: the text is longer than 1048576 bytes
+error[L5]: the source is longer than 1048576 bytes
 --> t.st
 """),
     ("P1", "PROGRAM P n := 1 @END_PROGRAM", """\
-error[P1]: `END_PROGRAM` can't stand here
+error[P1]: `END_PROGRAM` isn't allowed here
  --> t.st:1:18
   |
 1 | PROGRAM P n := 1 END_PROGRAM
@@ -156,7 +156,7 @@ error[P1]: `END_PROGRAM` can't stand here
   = help: a `;` may be missing before it
 """),
     ("P1", "PROGRAM P n := 1;@\n", """\
-error[P1]: the text ends too early
+error[P1]: the source ends too early
  --> t.st:1:18
   |
 1 | PROGRAM P n := 1;
@@ -164,15 +164,15 @@ error[P1]: the text ends too early
   = help: `END_PROGRAM` is missing
 """),
     ("P1", tank("level @= 1;"), """\
-error[P1]: `=` can't stand here
+error[P1]: `=` isn't allowed here
   --> t.st:10:9
    |
 10 |   level = 1;
    |         ^
-   = help: `:=` gives a value, `=` compares
+   = help: `:=` assigns, `=` compares
 """),
     ("P1", tank("IF level > 1\n  @level := 1; END_IF;"), """\
-error[P1]: `level` can't stand here
+error[P1]: `level` isn't allowed here
   --> t.st:11:3
    |
 11 |   level := 1; END_IF;
@@ -180,7 +180,7 @@ error[P1]: `level` can't stand here
    = help: `THEN` may be missing before it
 """),
     ("P1", tank("IF level > 1 THEN level := 1;\n"), """\
-error[P1]: `END_PROGRAM` can't stand here
+error[P1]: `END_PROGRAM` isn't allowed here
   --> t.st:12:1
    |
 12 | END_PROGRAM
@@ -188,20 +188,20 @@ error[P1]: `END_PROGRAM` can't stand here
    = help: `END_IF` may be missing before it
 """),
     ("P1", tank("raw : @REAL;", "raw : DINT := 5;"), """\
-error[P1]: `REAL` can't stand here
+error[P1]: `REAL` isn't allowed here
  --> t.st:6:11
   |
 6 |     raw : REAL;
   |           ^~~~
-  = help: this word is reserved, but not part of the language here
+  = help: this word is reserved, but isn't supported
 """),
     ("P2", tank("level := " + "(" * 63 + "1" + ")" * 63 + ";"), """\
-error[P2]: an expression, a statement or an initial value is more than 64 deep
+error[P2]: an expression, a statement or an initial value is over 64 deep
 --> t.st
- = help: give a part of it a variable or a function of its own
+ = help: move a part of it into a variable or a function
 """),
     ("C1", tank("level := @levl + 1;"), """\
-error[C1]: `levl` stands for nothing here
+error[C1]: `levl` isn't declared in this scope
   --> t.st:10:12
    |
 10 |   level := levl + 1;
@@ -209,7 +209,7 @@ error[C1]: `levl` stands for nothing here
    = help: did you mean `level`?
 """),
     ("C1", tank("raw : @DITN;", "raw : DINT := 5;"), """\
-error[C1]: `DITN` stands for nothing here
+error[C1]: `DITN` isn't declared in this scope
  --> t.st:6:11
   |
 6 |     raw : DITN;
@@ -217,12 +217,12 @@ error[C1]: `DITN` stands for nothing here
   = help: did you mean `DINT`?
 """),
     ("C1", tank("VAR_GLOBAL\n    other : INT;", "VAR_GLOBAL").replace(STATEMENT, "level := @other + 1;"), """\
-error[C1]: `other` stands for nothing here
+error[C1]: `other` isn't declared in this scope
   --> t.st:10:12
    |
 10 |   level := other + 1;
    |            ^~~~~
-   = help: a unit names the global `other` under VAR_EXTERNAL
+   = help: a program or block declares the global `other` in VAR_EXTERNAL
 """),
     ("C1", tank("spot : Point;", "slow : TON;").replace(STATEMENT, "level := spot.@yy;")
         + POINT, """\
@@ -259,28 +259,28 @@ error[C1]: `Valve` has no output `ful`
 """),
     ("C1", tank("row : ARRAY [0..1] OF Point;", "slow : TON;").replace(STATEMENT, "level := row[0].@z;")
         + POINT, """\
-error[C1]: `z` stands for nothing here
+error[C1]: `z` isn't declared in this scope
   --> t.st:10:19
    |
 10 |   level := row[0].z;
    |                   ^
 """),
     ("C2", tank("raw : DINT := 5; @raw : INT;", "raw : DINT := 5;"), """\
-error[C2]: `raw` is declared in line 6 already
+error[C2]: `raw` is already declared on line 6
  --> t.st:6:22
   |
 6 |     raw : DINT := 5; raw : INT;
   |                      ^~~
 """),
     ("C2", TANK + "FUNCTION @tank : INT tank := 1; END_FUNCTION\n", """\
-error[C2]: `tank` is declared in line 1 already
+error[C2]: `tank` is already declared on line 1
   --> t.st:22:10
    |
 22 | FUNCTION tank : INT tank := 1; END_FUNCTION
    |          ^~~~
 """),
     ("C2", tank("tank : DINT;", "raw : DINT := 5;").replace("tank :", "@tank :"), """\
-error[C2]: `tank` is the name of the program in line 1
+error[C2]: `tank` is the name of the program on line 1
  --> t.st:6:5
   |
 6 |     tank : DINT;
@@ -301,7 +301,7 @@ error[C2]: `ton` is the name of a standard function block
   |     ^~~
 """),
     ("C2", TANK + "TYPE\n  Mode : (Fill, Drain,\n    @FILL);\nEND_TYPE\n", """\
-error[C2]: `FILL` is declared in line 23 already
+error[C2]: `FILL` is already declared on line 23
   --> t.st:24:5
    |
 24 |     FILL);
@@ -315,21 +315,21 @@ error[C2]: `X` is given twice
   |                             ^
 """),
     ("C2", tank("PROGRAM P WITH T : Tank;\n    PROGRAM @p WITH T : Tank;", "PROGRAM P WITH T : Tank;"), """\
-error[C2]: `p` is declared in line 19 already
+error[C2]: `p` is already declared on line 19
   --> t.st:20:13
    |
 20 |     PROGRAM p WITH T : Tank;
    |             ^
 """),
     ("C2", tank("level : INT;\n    @LEVEL AT %IW3 : INT;\n  END_VAR\n  RESOURCE", "level : INT;\n  END_VAR\n  RESOURCE"), """\
-error[C2]: `LEVEL` is declared in line 15 already
+error[C2]: `LEVEL` is already declared on line 15
   --> t.st:16:5
    |
 16 |     LEVEL AT %IW3 : INT;
    |     ^~~~~
 """),
     ("C2", tank("PROGRAM @T WITH T", "PROGRAM P WITH T"), """\
-error[C2]: `T` is declared in line 18 already
+error[C2]: `T` is already declared on line 18
   --> t.st:19:13
    |
 19 |     PROGRAM T WITH T : Tank;
@@ -343,7 +343,7 @@ error[C2]: `x` is given twice
   |                                                         ^
 """),
     ("C3", tank("level := @raw * DINT#2;"), """\
-error[C3]: `level` is INT, the expression is DINT
+error[C3]: `level` is INT; the expression is DINT
   --> t.st:10:12
    |
 10 |   level := raw * DINT#2;
@@ -351,14 +351,14 @@ error[C3]: `level` is INT, the expression is DINT
    = help: convert it with DINT_TO_INT
 """),
     ("C3", tank("level := @level + raw;"), """\
-error[C3]: the operands of `+` are INT and DINT: they have to be of one type
+error[C3]: the operands of `+` are INT and DINT: they must have the same type
   --> t.st:10:12
    |
 10 |   level := level + raw;
    |            ^~~~~
 """),
     ("C3", tank("IF @level THEN level := 1; END_IF;"), """\
-error[C3]: a condition is BOOL, the expression is INT
+error[C3]: a condition is BOOL; the expression is INT
   --> t.st:10:6
    |
 10 |   IF level THEN level := 1; END_IF;
@@ -366,28 +366,28 @@ error[C3]: a condition is BOOL, the expression is INT
    = help: convert it with INT_TO_BOOL
 """),
     ("C3", tank("slow(IN := open, PT := @level);"), """\
-error[C3]: the input `PT` is TIME, the expression is INT
+error[C3]: the input `PT` is TIME; the expression is INT
   --> t.st:10:26
    |
 10 |   slow(IN := open, PT := level);
    |                          ^~~~~
 """),
     ("C3", tank("level := DINT_TO_INT(@level);"), """\
-error[C3]: `DINT_TO_INT` takes arguments of other types than INT
+error[C3]: `DINT_TO_INT` doesn't take INT
   --> t.st:10:24
    |
 10 |   level := DINT_TO_INT(level);
    |                        ^~~~~
 """),
     ("C3", tank("open := @1;"), """\
-error[C3]: `open` is BOOL, the expression is a number
+error[C3]: `open` is BOOL; the expression is a number
   --> t.st:10:11
    |
 10 |   open := 1;
    |           ^
 """),
     ("C3", tank("raw : DINT := @TRUE;", "raw : DINT := 5;"), """\
-error[C3]: the variable is DINT, the expression is BOOL
+error[C3]: the variable is DINT; the expression is BOOL
  --> t.st:6:19
   |
 6 |     raw : DINT := TRUE;
@@ -395,43 +395,43 @@ error[C3]: the variable is DINT, the expression is BOOL
   = help: convert it with BOOL_TO_DINT
 """),
     ("C4", tank("level := level + @40000;"), """\
-error[C4]: 40000 is outside INT (-32768 to 32767)
+error[C4]: 40000 doesn't fit in INT (-32768 to 32767)
   --> t.st:10:20
    |
 10 |   level := level + 40000;
    |                    ^~~~~
 """),
     ("C4", tank("level := @-40000;"), """\
-error[C4]: -40000 is outside INT (-32768 to 32767)
+error[C4]: -40000 doesn't fit in INT (-32768 to 32767)
   --> t.st:10:12
    |
 10 |   level := -40000;
    |            ^
 """),
     ("C4", tank("PRIORITY := @65536", "PRIORITY := 0"), """\
-error[C4]: 65536 is over 65535, the greatest PRIORITY
+error[C4]: 65536 is over 65535, the largest PRIORITY
   --> t.st:18:46
    |
 18 |     TASK T (INTERVAL := T#100ms, PRIORITY := 65536);
    |                                              ^~~~~
 """),
     ("C5", tank("VAR_EXTERNAL CONSTANT", "VAR_EXTERNAL").replace(STATEMENT, "@" + STATEMENT), """\
-error[C5]: `level` stands under VAR_EXTERNAL CONSTANT: it can't be assigned
+error[C5]: `level` is declared VAR_EXTERNAL CONSTANT: it can't be assigned
   --> t.st:10:3
    |
 10 |   level := level + 1;
    |   ^~~~~
-   = help: a global that is neither CONSTANT nor an input is named under VAR_EXTERNAL
+   = help: declare a global that is neither CONSTANT nor an input in VAR_EXTERNAL
 """),
     ("C5", tank("@slow.Q := open;"), """\
-error[C5]: `slow` is an instance: what is in it can't be assigned from outside
+error[C5]: `slow` is an instance: its outputs can't be assigned from outside
   --> t.st:10:3
    |
 10 |   slow.Q := open;
    |   ^~~~
 """),
     ("C6", tank("FUNCTION @f : INT f := f(); END_FUNCTION\nCONFIGURATION Plant", "CONFIGURATION Plant"), """\
-error[C6]: `f` contains itself, or is more than 64 deep
+error[C6]: `f` contains itself, or is over 64 deep
   --> t.st:13:10
    |
 13 | FUNCTION f : INT f := f(); END_FUNCTION
@@ -445,14 +445,14 @@ error[C7]: the range 1..0 is reversed
    |                 ^
 """),
     ("C7", tank("CASE level OF\n  5: level := 1;\n  @5: ;\n  END_CASE;"), """\
-error[C7]: `5` is a label in line 11 already
+error[C7]: `5` is already a label on line 11
   --> t.st:12:3
    |
 12 |   5: ;
    |   ^
 """),
     ("C7", tank("IF open THEN CASE level OF\n  1..3: level := 1;\n  @2, 4: ;\n  END_CASE; END_IF;"), """\
-error[C7]: `2` is in the range 1..3 of line 11 already
+error[C7]: `2` is already in the range 1..3 on line 11
   --> t.st:12:3
    |
 12 |   2, 4: ;
@@ -461,14 +461,14 @@ error[C7]: `2` is in the range 1..3 of line 11 already
     ("C7", tank(
         "CASE level OF\n  0: ;\n  3: level := 1;\n  ELSE CASE level OF\n  9: ;\n  0..1:\n  ;\n  @1..3: ;\n  END_CASE; END_CASE;"
     ), """\
-error[C7]: the range 1..3 overlaps a label in line 15
+error[C7]: the range 1..3 overlaps a label on line 15
   --> t.st:17:3
    |
 17 |   1..3: ;
    |   ^
 """),
     ("C7", tank("CASE level OF -1: ; 0, @-1: ; END_CASE;"), """\
-error[C7]: `-1` is a label in line 10 already
+error[C7]: `-1` is already a label on line 10
   --> t.st:10:26
    |
 10 |   CASE level OF -1: ; 0, -1: ; END_CASE;
@@ -476,7 +476,7 @@ error[C7]: `-1` is a label in line 10 already
 """),
     ("C7", tank("state : Mode;", "slow : TON;").replace(STATEMENT, "CASE state OF\n  Fill: ;\n  Drain, @FILL: ;\n  END_CASE;")
         + MODE, """\
-error[C7]: `FILL` is a label in line 11 already
+error[C7]: `FILL` is already a label on line 11
   --> t.st:12:10
    |
 12 |   Drain, FILL: ;
@@ -490,7 +490,7 @@ error[C8]: the bounds 2..1 are reversed
   |                  ^
 """),
     ("C8", TANK + "TYPE Row : ARRAY [@-1..4095] OF INT; END_TYPE\n", """\
-error[C8]: an array of -1..4095 has 4097 elements, at most 4096 are allowed
+error[C8]: an array [-1..4095] has 4097 elements; at most 4096 are allowed
   --> t.st:22:19
    |
 22 | TYPE Row : ARRAY [-1..4095] OF INT; END_TYPE
@@ -505,28 +505,28 @@ error[C8]: the bounds 3..-1 are reversed
 """),
     ("C8", tank("band : Line := (row := @[5(0), 1]);", "raw : DINT := 5;")
         + "TYPE Line : STRUCT row : ARRAY [1..5] OF INT; END_STRUCT; END_TYPE\n", """\
-error[C8]: the list has 6 elements, its array has 5
+error[C8]: the list has 6 elements; its array has 5
  --> t.st:6:28
   |
 6 |     band : Line := (row := [5(0), 1]);
   |                            ^
 """),
     ("C8", tank("raw : ARRAY [1..2] OF INT := @[1, 2, 3];", "raw : DINT := 5;"), """\
-error[C8]: the list has 3 elements, its array has 2
+error[C8]: the list has 3 elements; its array has 2
  --> t.st:6:34
   |
 6 |     raw : ARRAY [1..2] OF INT := [1, 2, 3];
   |                                  ^
 """),
     ("C9", tank("@EXIT;"), """\
-error[C9]: `EXIT` stands outside a loop
+error[C9]: `EXIT` is outside a loop
   --> t.st:10:3
    |
 10 |   EXIT;
    |   ^~~~
 """),
     ("C10", tank("level := @ABS(level, 1);"), """\
-error[C10]: the number of arguments is 2, `ABS` takes 1
+error[C10]: the number of arguments is 2; `ABS` takes 1
   --> t.st:10:12
    |
 10 |   level := ABS(level, 1);
@@ -561,7 +561,7 @@ error[C10]: `Q` is an output of `TON`
    |
 10 |   slow(Q := open);
    |        ^
-   = help: an output is copied: `Q => variable`
+   = help: copy an output with `Q => variable`
 """),
     ("C10", tank("slow(PT := T#1s, @IN => open);"), """\
 error[C10]: `IN` is an input of `TON`
@@ -569,7 +569,7 @@ error[C10]: `IN` is an input of `TON`
    |
 10 |   slow(PT := T#1s, IN => open);
    |                    ^~
-   = help: an input is given a value: `IN := value`
+   = help: set an input with `IN := value`
 """),
     ("C10", tank("inlet : Valve;", "slow : TON;").replace(STATEMENT, "inlet(@amuont := 1);")
         + VALVE, """\
@@ -581,7 +581,7 @@ error[C10]: `Valve` has no input `amuont`
    = help: did you mean `amount`?
 """),
     ("C11", tank("VAR_GLOBAL RETAIN\n    @in AT %IW0 : INT;", "VAR_GLOBAL"), """\
-error[C11]: `in` has an address and stands under RETAIN
+error[C11]: `in` has an address and is declared RETAIN
   --> t.st:15:5
    |
 15 |     in AT %IW0 : INT;
@@ -596,18 +596,18 @@ error[C13]: `x00` is one name too many for an enumerated type
   |    {" " * 86}^~~
 """),
     ("G2", "PROGRAM P END_PROGRAM", """\
-error[G2]: the text has no CONFIGURATION
+error[G2]: the source has no CONFIGURATION
 --> t.st
 """),
     ("G2", TANK + TANK[TANK.index("CONFIGURATION"):].replace("Plant", "Spare"), """\
-error[G2]: `Spare` is a second CONFIGURATION, a text has one
+error[G2]: `Spare` is a second CONFIGURATION; a source has one
   --> t.st:22:15
    |
 22 | CONFIGURATION Spare
    |               ^~~~~
 """),
     ("G3", tank("WITH Slow", "WITH T"), """\
-error[G3]: the task `Slow` is unknown in resource `R`
+error[G3]: the resource `R` has no task `Slow`
   --> t.st:19:20
    |
 19 |     PROGRAM P WITH Slow : Tank;
@@ -621,21 +621,21 @@ error[G3]: the program type `Tnak` is unknown
    |                        ^~~~
 """),
     ("G3", tank("WITH T : Valve", "WITH T : Tank") + VALVE, """\
-error[G3]: `Valve` is a function block, the type of a program is wanted here
+error[G3]: `Valve` is a function block, not a program
   --> t.st:19:24
    |
 19 |     PROGRAM P WITH T : Valve;
    |                        ^~~~~
 """),
     ("G3", tank("VAR_GLOBAL\n    levels : INT;", "VAR_GLOBAL\n    level : INT;"), """\
-error[G3]: the global `level` of program `Tank` is unknown
+error[G3]: the program `Tank` uses the unknown global `level`
  --> t.st:3:5
   |
 3 |     level : INT;
   |     ^~~~~
 """),
     ("G3", tank("VAR_GLOBAL\n    level : DINT;", "VAR_GLOBAL\n    level : INT;"), """\
-error[G3]: the VAR_EXTERNAL `level` of program `Tank` is INT, the global is DINT
+error[G3]: the VAR_EXTERNAL `level` of program `Tank` is INT; the global is DINT
  --> t.st:3:5
   |
 3 |     level : INT;
@@ -644,7 +644,7 @@ error[G3]: the VAR_EXTERNAL `level` of program `Tank` is INT, the global is DINT
     ("G3", tank("VAR_EXTERNAL\n    table : ARRAY [0..3] OF INT;", "VAR_EXTERNAL").replace(
         "VAR_GLOBAL", "VAR_GLOBAL\n    table : ARRAY [0..4] OF INT;"
     ), """\
-error[G3]: the VAR_EXTERNAL `table` of program `Tank` has other bounds or elements than the global
+error[G3]: the VAR_EXTERNAL `table` of program `Tank` differs from the global in bounds or element type
  --> t.st:3:5
   |
 3 |     table : ARRAY [0..3] OF INT;
@@ -652,7 +652,7 @@ error[G3]: the VAR_EXTERNAL `table` of program `Tank` has other bounds or elemen
 """),
     ("G3", tank("VAR_EXTERNAL\n    state : Mode;", "VAR_EXTERNAL").replace("VAR_GLOBAL", "VAR_GLOBAL\n    state : INT;")
         + MODE, """\
-error[G3]: the VAR_EXTERNAL `state` of program `Tank` is Mode, the global is INT
+error[G3]: the VAR_EXTERNAL `state` of program `Tank` is Mode; the global is INT
  --> t.st:3:5
   |
 3 |     state : Mode;
@@ -660,7 +660,7 @@ error[G3]: the VAR_EXTERNAL `state` of program `Tank` is Mode, the global is INT
 """),
     ("G3", tank("VAR_EXTERNAL\n    table : Row;", "VAR_EXTERNAL").replace("VAR_GLOBAL", "VAR_GLOBAL\n    table : ARRAY [0..3] OF DINT;")
         + "TYPE Row : ARRAY [0..3] OF INT; END_TYPE\n", """\
-error[G3]: the VAR_EXTERNAL `table` of program `Tank` has other bounds or elements than the global
+error[G3]: the VAR_EXTERNAL `table` of program `Tank` differs from the global in bounds or element type
  --> t.st:3:5
   |
 3 |     table : Row;
@@ -669,11 +669,11 @@ error[G3]: the VAR_EXTERNAL `table` of program `Tank` has other bounds or elemen
     ("G3", tank("VAR_EXTERNAL\n    table : Rows;", "VAR_EXTERNAL").replace("VAR_GLOBAL", "VAR_GLOBAL\n    table : Columns;")
         + "TYPE Row : ARRAY [0..3] OF INT; Column : ARRAY [0..4] OF INT;\n"
         + "Rows : ARRAY [0..1] OF Row; Columns : ARRAY [0..1] OF Column; END_TYPE\n", """\
-error[G3]: a task, a program or a global is unknown, or is another than it is used as
+error[G3]: a task, program or global is unknown, or doesn't fit its use
 --> t.st
 """),
     ("G3", TANK + VALVE.replace("VAR_INPUT", "VAR_EXTERNAL Total : INT; END_VAR\nVAR_INPUT"), """\
-error[G3]: the global `Total` of function block `Valve` is unknown
+error[G3]: the function block `Valve` uses the unknown global `Total`
   --> t.st:22:35
    |
 22 | FUNCTION_BLOCK Valve VAR_EXTERNAL Total : INT; END_VAR
@@ -681,7 +681,7 @@ error[G3]: the global `Total` of function block `Valve` is unknown
 """),
     ("G3", tank("VAR_EXTERNAL\n    spot : Point;", "VAR_EXTERNAL").replace("VAR_GLOBAL", "VAR_GLOBAL\n    SPOT : Size;")
         + POINT + POINT.replace("Point", "Size"), """\
-error[G3]: the VAR_EXTERNAL `spot` of program `Tank` is Point, the global is Size
+error[G3]: the VAR_EXTERNAL `spot` of program `Tank` is Point; the global is Size
  --> t.st:3:5
   |
 3 |     spot : Point;
@@ -723,14 +723,14 @@ error[G3]: the global `level` is INT: SINGLE takes a BOOL global
    |                       ^~~~~
 """),
     ("G4", tank("VAR_GLOBAL\n    out AT %QW256 : INT;", "VAR_GLOBAL"), """\
-error[G4]: `%QW256` is out of its range: 0 to 255
+error[G4]: `%QW256` is out of range: 0 to 255
   --> t.st:15:12
    |
 15 |     out AT %QW256 : INT;
    |            ^~~~~~
 """),
     ("G4", tank("VAR_GLOBAL\n    in AT %IX1024 : BOOL;", "VAR_GLOBAL"), """\
-error[G4]: `%IX1024` is out of its range: 0 to 1023
+error[G4]: `%IX1024` is out of range: 0 to 1023
   --> t.st:15:11
    |
 15 |     in AT %IX1024 : BOOL;
@@ -751,21 +751,21 @@ error[G4]: `%QW3` has 16 bits: `out` has to be INT, UINT or WORD
    |            ^~~~
 """),
     ("G4", tank("VAR_GLOBAL CONSTANT out AT %QW3 : INT := 1; END_VAR\n  VAR_GLOBAL", "VAR_GLOBAL"), """\
-error[G4]: `out` has the address `%QW3` and stands under CONSTANT
+error[G4]: `out` has the address `%QW3` and is declared CONSTANT
   --> t.st:14:30
    |
 14 |   VAR_GLOBAL CONSTANT out AT %QW3 : INT := 1; END_VAR
    |                              ^~~~
 """),
     ("G4", tank("VAR_GLOBAL\n    in AT (* %IW9 *) %IW3 : INT := 5;", "VAR_GLOBAL"), """\
-error[G4]: `%IW3` is an input: `in` may have no initial value
+error[G4]: `%IW3` is an input: `in` can't have an initial value
   --> t.st:15:22
    |
 15 |     in AT (* %IW9 *) %IW3 : INT := 5;
    |                      ^~~~
 """),
     ("G4", tank("VAR_GLOBAL\n    in AT %IW0 : INT;\n    flow AT %iw0 : UINT;", "VAR_GLOBAL"), """\
-error[G4]: `%iw0` is used twice: `in` in line 15 has it already
+error[G4]: `%iw0` is used twice: `in` on line 15 already has it
   --> t.st:16:13
    |
 16 |     flow AT %iw0 : UINT;
@@ -774,28 +774,28 @@ error[G4]: `%iw0` is used twice: `in` in line 15 has it already
     ("G5", TANK[:TANK.index("  RESOURCE")] + "".join(
         f"  RESOURCE R{k} ON CPU TASK T (INTERVAL := T#1s, PRIORITY := 0); PROGRAM P WITH T : Tank; END_RESOURCE\n" for k in range(9)
     ) + "END_CONFIGURATION\n", """\
-error[G5]: there are 9 resources, at most 8 are allowed
+error[G5]: there are 9 resources; at most 8 are allowed
   --> t.st:25:12
    |
 25 |   RESOURCE R8 ON CPU TASK T (INTERVAL := T#1s, PRIORITY := 0); PROGRAM P WITH T : Tank; END_RESOURCE
    |            ^~
 """),
     ("G5", tank("".join(f"    TASK T{k} (INTERVAL := T#1s, PRIORITY := 0);\n" for k in range(33)) + "    TASK T (", "    TASK T ("), """\
-error[G5]: the resource `R` has 34 tasks, at most 32 are allowed
+error[G5]: the resource `R` has 34 tasks; at most 32 are allowed
   --> t.st:50:10
    |
 50 |     TASK T32 (INTERVAL := T#1s, PRIORITY := 0);
    |          ^~~
 """),
     ("G5", tank("".join(f"    PROGRAM P{k} WITH T : Tank;\n" for k in range(64)) + "    PROGRAM P ", "    PROGRAM P "), """\
-error[G5]: there are 65 programs, at most 64 are allowed
+error[G5]: there are 65 programs; at most 64 are allowed
   --> t.st:83:13
    |
 83 |     PROGRAM P WITH T : Tank;
    |             ^
 """),
     ("G6", tank("VAR_GLOBAL RETAIN\n" + "".join(f"v{k:063d} : DINT;\n" for k in range(1772)) + "END_VAR VAR_GLOBAL", "VAR_GLOBAL"), """\
-error[G6]: the record of the RETAIN variables has 131140 bytes, at most 131059 are allowed
+error[G6]: the record of the RETAIN variables has 131140 bytes; at most 131059 are allowed
 --> t.st
 """),
     ("G6", tank("VAR RETAIN kept : INT; END_VAR\n  VAR\n    raw", "VAR\n    raw").replace("VAR_GLOBAL", "VAR_GLOBAL RETAIN\n"
@@ -813,14 +813,14 @@ error[G8]: the program `P` has no task
    |
 19 |     PROGRAM P : Tank;
    |             ^
-   = help: write WITH and the name of a task behind `P`
+   = help: write WITH and the name of a task after `P`
 """),
     ("M1", tank("VAR_GLOBAL\n" + "".join(f"v{k} : INT;\n" for k in range(4096)), "VAR_GLOBAL"), """\
-error[M1]: there are 4097 globals, at most 4096 paths are allowed
+error[M1]: there are 4097 globals; at most 4096 paths are allowed
 --> t.st
 """),
     ("M1", tank("raw : ARRAY [1..4096] OF DINT;", "raw : DINT := 5;"), """\
-error[M1]: there are more than 4096 paths, instances of blocks or values of functions
+error[M1]: there are more than 4096 paths, block instances or function values
 --> t.st
 """),
     ("M2", tank(STATEMENT * 20000), """\
@@ -868,8 +868,8 @@ def main():
             ended = subprocess.run([program, *words_of(code)], cwd=folder, capture_output=True, timeout=60)
             wanted = line_of(code, text) + shown
             if (ended.returncode, ended.stdout, ended.stderr.decode()) != (2, b"", wanted):
-                fail(f"{code}: status {ended.returncode}, told\n{ended.stderr.decode()}and wanted\n{wanted}")
-    print(f"explain.py: {len(CASES)} texts explained as they should be")
+                fail(f"{code}: status {ended.returncode}, printed\n{ended.stderr.decode()}and expected\n{wanted}")
+    print(f"explain.py: {len(CASES)} texts explained as expected")
 
 
 if __name__ == "__main__":

@@ -1,9 +1,9 @@
 #!/usr/bin/env python3
-"""Tries `plant explain` for each code of docs/CODES.md: the titles agree, what is said to give the code gives it, and what is said to be
-right is accepted.
+"""Tries `plant explain` for each code of docs/CODES.md: the titles agree, each wrong example gives the code, and each right one is
+accepted.
 
-The title of a code is the second cell of its row, up to the first colon or semicolon. Where memory has to run out just then, only what is
-right is tried.
+The title of a code is the second cell of its row, up to the first colon or semicolon. If memory has to run out for a code, only its right
+example is tried.
 
 usage: tests/explanations.py PLANT     PLANT is the built program
 """
@@ -17,7 +17,7 @@ import tempfile
 ROOT = pathlib.Path(__file__).resolve().parent.parent
 COUNTER = (ROOT / "tests/texts/counter.st").read_text()
 MAIN = "PROGRAM Main VAR n : INT; END_VAR n := n + 1; END_PROGRAM\n"
-RAN_OUT = "on the command line, where memory runs out just then"
+RAN_OUT = "on the command line, if memory runs out just then"
 LOG_ROWS = "t\n" + "".join(f"{moment}\n" for moment in range(10000))
 
 
@@ -35,9 +35,9 @@ def units(lines):
     return f"{lines}\n{main}{configuration()}"
 
 
-# whole texts, by where the lines of the example stand in them
+# whole texts, by the place where they have the lines of the example
 TEXTS = {
-    "as a whole text": lambda lines: lines,
+    "as a whole source": lambda lines: lines,
     "before a configuration that runs the program Main": units,
     "in the program Main, where n is an INT": lambda lines: units(f"PROGRAM Main VAR n : INT; END_VAR\n{lines}\nEND_PROGRAM"),
     "in a configuration, before its resources": lambda lines: MAIN + configuration(globals_=lines),
@@ -46,13 +46,13 @@ TEXTS = {
 
 
 class Explanation:
-    """What is told of a code, taken apart."""
+    """The explanation of a code, split into its parts."""
 
-    def __init__(self, code, told):
+    def __init__(self, code, printed):
         form = rf"{code}: (.+)\n((?:.+\n)+?)(?:This gives {code}, (.+):\n((?:    .*\n)+)This is right:\n((?:    .*\n)+))?Exit status (\d): .+\.\n"
-        parts = re.fullmatch(form, told)
+        parts = re.fullmatch(form, printed)
         if not parts:
-            fail(f"{code}: an explanation has another form:\n{told}")
+            fail(f"{code}: an explanation has another form:\n{printed}")
         self.code, self.title, self.frame, self.status = code, parts[1], parts[3], int(parts[6])
         self.wrong, self.right = ("\n".join(line[4:] for line in (lines or "").splitlines()) for lines in (parts[4], parts[5]))
 
@@ -63,19 +63,19 @@ class Program:
     def __init__(self, program):
         self.program, self.tried = program, 0
 
-    def told(self, *words):
+    def run(self, *words):
         return subprocess.run([self.program, *words], capture_output=True, text=True, check=False, timeout=60)
 
     def explanation(self, code):
-        told = self.told("explain", code)
-        if told.returncode or told.stderr:
-            fail(f"{code}: explain ended with {told.returncode}, {told.stderr}")
-        if self.told("explain", code.lower()).stdout != told.stdout:
-            fail(f"{code}: it is told otherwise in lower case")
-        return Explanation(code, told.stdout)
+        ended = self.run("explain", code)
+        if ended.returncode or ended.stderr:
+            fail(f"{code}: explain ended with {ended.returncode}, {ended.stderr}")
+        if self.run("explain", code.lower()).stdout != ended.stdout:
+            fail(f"{code}: it has another explanation in lower case")
+        return Explanation(code, ended.stdout)
 
     def shell(self, lines, files):
-        """What command lines end with, run beside these files."""
+        """Runs command lines in a folder with these files."""
         with tempfile.TemporaryDirectory(dir="/dev/shm" if os.path.isdir("/dev/shm") else None) as folder:
             for name, text in files.items():
                 pathlib.Path(folder, name).write_text(text)
@@ -86,19 +86,19 @@ class Program:
 
 
 def commands(program, example, lines):
-    """How the commands end that try these lines of an example, and the trace where one is looked at."""
+    """Runs the commands that try these lines of an example. They print the trace if its outcomes matter."""
     files = {"own.st": COUNTER, "own.csv": "t\n0\n", "later.csv": "t\n10\n"}
     run = "plant run own.st --plant own.csv --store own.retain --start cold"
     if example.frame in ("on the command line", RAN_OUT):
         return program.shell(f"plant run own.st --plant own.csv --store traced --start cold --trace own.trace > first\n{lines}", files)
-    if example.frame == "as the plant of a text without inputs":
+    if example.frame == "as the plant of a source without inputs":
         return program.shell(run, files | {"own.csv": f"{lines}\n"})
     if example.frame == "in the trace of one program over rows at 0, 10 and 20":
         change = f"[ $(grep -cx '{example.right}' own.trace) = 1 ] && sed -i 's#^{example.right}$#{lines}#' own.trace"
         replay = "plant replay own.st --plant own.csv --trace own.trace"
         return program.shell(f"{run} --trace own.trace > first && {change} && {replay}", files | {"own.csv": "t\n0\n10\n20\n"})
     if example.frame not in TEXTS:
-        fail(f"{example.code}: nothing builds an example {example.frame}")
+        fail(f"{example.code}: no text has a place for an example {example.frame}")
     files["own.st"] = TEXTS[example.frame](lines)
     if example.status == 2:
         return program.shell("plant check own.st", files)
@@ -108,18 +108,18 @@ def commands(program, example, lines):
 
 
 def try_example(program, example):
-    """What is wrong gives the code, and what is right none."""
+    """Checks that the wrong example gives the code, and the right one none."""
     if example.frame is None:
         return
     right = commands(program, example, example.right)
     if right.returncode or re.search(r"fault|\bF\d$", right.stderr, re.MULTILINE):
-        fail(f"{example.code}: what is right ended with {right.returncode}, {right.stderr[-300:]}\n{example.right}")
+        fail(f"{example.code}: the right example ended with {right.returncode}, {right.stderr[-300:]}\n{example.right}")
     if example.frame == RAN_OUT:
         return
     wrong = commands(program, example, example.wrong)
     wanted = rf"done .* {example.code}" if example.status == 0 else rf"fault {example.code}( at \d+)?"
     if wrong.returncode != example.status or not re.search(rf"^{wanted}$", wrong.stderr, re.MULTILINE):
-        fail(f"{example.code}: what is wrong ended with {wrong.returncode}, {wrong.stderr[-300:]}\n{example.wrong}")
+        fail(f"{example.code}: the wrong example ended with {wrong.returncode}, {wrong.stderr[-300:]}\n{example.wrong}")
 
 
 def titles(page):
@@ -131,20 +131,20 @@ def titles(page):
 def main():
     program = Program(os.path.abspath(sys.argv[1]))
     wanted = titles((ROOT / "docs/CODES.md").read_text())
-    table = re.findall(r'codes "([A-Z]\d+)"', (ROOT / "crates/source_run/specs/ToldCodes.antt").read_text())
+    table = re.findall(r'codes "([A-Z]\d+)"', (ROOT / "crates/source_run/specs/ListedCodes.antt").read_text())
     if sorted(table) != sorted(wanted):
         fail(f"docs/CODES.md and the table differ in {sorted(set(table) ^ set(wanted))}")
     for code, title in wanted.items():
         example = program.explanation(code)
         if example.title != title:
-            fail(f"{code}: it is titled {example.title!r}, and in docs/CODES.md {title!r}")
+            fail(f"{code}: its title is {example.title!r}, but {title!r} in docs/CODES.md")
         try_example(program, example)
-    # N1 was a code once, and is none again.
+    # N1 used to be a code.
     for code in ("Z9", "N1"):
-        unknown = program.told("explain", code)
+        unknown = program.run("explain", code)
         if (unknown.returncode, unknown.stdout, unknown.stderr) != (1, "", "error: there is no such code\n"):
             fail(f"{code}: explain ended with {unknown.returncode}, {unknown.stdout}{unknown.stderr}")
-    print(f"explanations.py: {len(wanted)} codes and {program.tried} examples as they should be")
+    print(f"explanations.py: {len(wanted)} codes and {program.tried} examples as expected")
 
 
 main()

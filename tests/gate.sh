@@ -1,7 +1,7 @@
 #!/usr/bin/env bash
-# The gate: whether all edits apply, drops do no more than they should, and documents read plainly; every proof from nothing, the edits that
-# the prover must refuse, the tests; then the built program over real files. Its last line is 'N passed, M failed', and only if all has
-# passed does the script end with 0.
+# The gate. It checks that all edits apply, that drops do nothing but release memory, and that the documents are in plain English. Then it
+# runs every proof from scratch, the edits that the prover must refuse, the tests, and the built program over real files. Its last line is
+# 'N passed, M failed', and it exits with 0 only if everything passed.
 set -euo pipefail
 cd "$(dirname "$0")/.."
 
@@ -12,8 +12,8 @@ tests/drops.py
 tests/english.py
 echo "free disk: $(df -m --output=avail . | tail -n 1 | tr -d ' ') MB; the proofs of all crates take about 25,000"
 
-# rt takes three times the memory that a large crate needs for its need, and leaves processors idle beside it. So it is told how many checks
-# may run side by side: one a processor, with five gigabytes each.
+# rt reserves three times the memory that a large crate needs, and so leaves processors idle. RT_JOBS sets how many checks may run in
+# parallel: one per processor, if each has five gigabytes.
 if [ -z "${RT_JOBS:-}" ]; then
     room=$(awk '$1 == "MemAvailable:" { print int($2 / 5242880) }' /proc/meminfo)
     RT_JOBS=$(nproc)
@@ -29,7 +29,7 @@ tools/rt.py ci | {
     done
     case $last in
         *" passed, 0 failed")
-            tests/scripts.sh "$plant" || { echo "the built program has failed" >&2; exit 1; }
+            tests/scripts.sh "$plant" || { echo "the built program failed" >&2; exit 1; }
             mkdir -p out
             cp "$plant" out/plant
             ;;

@@ -1,24 +1,24 @@
 #!/usr/bin/env bash
-# Kills a running `plant` over and over, and looks at what a warm restart finds.
+# Kills a running `plant` over and over, and checks the values after a warm restart.
 #
-# This is a killed process and not a power cut: what it wrote before is still in the system's hands. Power cuts are the simulated
-# disk's, in the crates' tests.
+# Killing a process isn't a power cut: the system still has what the process wrote. The tests of the crates cover power cuts, with a simulated
+# disk.
 #
-# usage: tests/kill.sh PLANT [KILLS]     PLANT is the built program; so many kills in runs, half of them at each pace, and as many in warm
-#                                        starts of another layout
+# usage: tests/kill.sh PLANT [KILLS]     PLANT is the built program; KILLS is the number of kills within runs, half of them at each pace, and
+#                                        also of those within warm starts of another layout, 100 by default
 set -euo pipefail
 
 plant=$(realpath "$1")
 start_kills=${2:-100}
 kills=$(((start_kills + 1) / 2))
-# After so many seconds the script gives up.
+# The script gives up after this many seconds.
 limit=900
 
 work=$(mktemp -d)
 trap 'rm -rf "$work"' EXIT
 cd "$work"
 
-# Two resources that add to the same variables, each in a thread of its own; with a step of a recipe, counters and timers that are kept too.
+# Two resources that add to the same variables, each in its own thread. A step of a recipe, counters and timers are retained too.
 cat > counters.st <<'END'
 TYPE Phase : (Fill, Heat, Drain); END_TYPE
 PROGRAM Count
@@ -49,7 +49,7 @@ CONFIGURATION Killed
 END_CONFIGURATION
 END
 steps=(FILL HEAT DRAIN)
-# The same with a variable more, before those that are kept.
+# The same with one more variable, before the retained ones.
 sed 's/RETAIN a : DINT;/RETAIN k : INT := 7; a : DINT;/' counters.st > more.st
 echo t > none.csv
 
@@ -58,18 +58,18 @@ fail() {
     exit 1
 }
 
-# rows FIRST COUNT: a plant of so many rows, 10 ms apart
+# rows FIRST COUNT: a plant of COUNT rows, 10 ms apart
 rows() {
     echo t
     seq "$1" 10 $(($1 + 10 * ($2 - 1)))
 }
 
-# value NAME: what the last report tells of a variable or a count
+# value NAME: the value of a variable or a count in the last report
 value() {
     awk -v name="$1" '$1 == name { print $NF }' report
 }
 
-# whole: all that the executions have written stands together, of each of them or of none
+# whole: checks that each execution wrote either all of its values or none
 whole() {
     local r s
     a=$(value A)
@@ -83,14 +83,14 @@ whole() {
     counted_to S "$s"
 }
 
-# counted_to RESOURCE N: its counter has counted every other of so many executions
+# counted_to RESOURCE N: checks that its counter counted every other one of N executions
 counted_to() {
     local pulses=$((($2 + 1) / 2))
     [ $pulses -le 32767 ] || pulses=32767
     [ "$(value "$1/P.PULSES.CV")" -eq $pulses ] || fail "$1 ran $2 times, and counted to $(value "$1/P.PULSES.CV")"
 }
 
-# Checks a report: each execution has added to both variables, and all is acknowledged.
+# check: checks that each execution of the report added to both variables, and that everything is acknowledged
 check() {
     whole
     [ "$a" -eq $((known + $(value done))) ] || fail "from $known on $(value done) executions counted to $a"
@@ -98,11 +98,11 @@ check() {
     known=$a
 }
 
-# look TEXT STORE: restarts warm without a row, and checks what is there
+# look TEXT STORE: restarts warm without a row, and checks the values
 look() {
     "$plant" run "$1" --plant none.csv --store "$2" --start warm > report 2> fault || fail "a warm start was refused: $(cat fault)"
     whole
-    [ "$a" -ge "$known" ] || fail "A = $a, but an earlier life had acknowledged $known"
+    [ "$a" -ge "$known" ] || fail "A = $a, but an earlier life acknowledged $known"
     known=$a
 }
 
@@ -113,16 +113,16 @@ live() {
 
 started=$SECONDS
 life=1
-# strike PACE COUNT WHOLE: kills lives of so many rows, which take about WHOLE milliseconds. A kill counts where the killed life had saved
-# a row: it came within the run, not before it and not after it. WHOLE follows what lives take: it shrinks where one was over before its
-# kill, and else it grows a little.
+# strike PACE COUNT WHOLE: kills lives of COUNT rows, which take about WHOLE milliseconds. A kill counts if the killed life had saved a row:
+# it came during the run, neither before nor after it. WHOLE adapts: it shrinks if a life was over before its kill, and otherwise grows a
+# little.
 strike() {
     local pace=$1 count=$2 whole=$3 counted=0 before pid ended whole_life
     while [ "$counted" -lt "$kills" ]; do
         [ $((SECONDS - started)) -lt $limit ] || fail "only $counted of $kills kills at pace $pace in $limit seconds"
         rows $((life * 10000000)) "$count" > plant.csv
         before=$known
-        # No function: its process would be killed, and not the program.
+        # Not through a function: the kill would hit its process instead of the program.
         "$plant" run counters.st --plant plant.csv --store store --start warm --pace "$pace" > report 2> fault &
         pid=$!
         sleep "$(awk -v ms=$((RANDOM * whole / 32768)) 'BEGIN { printf "%.3f", ms / 1000 }')"
@@ -135,21 +135,21 @@ strike() {
             [ "$known" -eq "$before" ] || counted=$((counted + 1))
             whole=$((whole + whole / 100 + 1))
         elif [ $ended -eq 0 ] || grep -q '^B = [0-9]*$' report; then
-            # It had ended, or was killed behind its report.
+            # It had ended, or was killed after its report.
             whole=$((whole * 9 / 10 + 1))
             check
             whole_life=$known
             look counters.st store
-            [ "$known" -eq "$whole_life" ] || fail "a whole life told A = $whole_life, but A = $known"
+            [ "$known" -eq "$whole_life" ] || fail "a whole life reported A = $whole_life, but A = $known"
         else
-            # It was killed in its report, which comes when all is saved.
+            # It was killed while it wrote its report, after everything was saved.
             look counters.st store
         fi
         life=$((life + 1))
     done
 }
 
-# look_alike STORE: a warm start of each text over a copy of the file left finds what was kept
+# look_alike STORE: checks that a warm start of each text, over a copy of the file, finds the kept values
 look_alike() {
     local text kept=$known
     for text in counters.st more.st; do
@@ -160,11 +160,11 @@ look_alike() {
     [ "$(value K)" -eq 7 ] || fail "a killed start of another layout left K = $(value K)"
 }
 
-# strike_starts: kills warm starts of another layout, each over a copy of the file. A kill counts where the start had written to the file
-# and had not answered. The delay, in microseconds, follows: it grows where a kill came before that, and shrinks where one came after it.
+# strike_starts: kills warm starts of another layout, each over a copy of the file. A kill counts if the start had written to the file but
+# had not reported yet. The delay, in microseconds, adapts: it grows if a kill came too early, and shrinks if one came too late.
 strike_starts() {
     local counted=0 middle=50000 after delay pid
-    # Nobody writes to it, so a read from it only waits: for less time than a process takes to begin.
+    # Nobody writes to this pipe, so a read from it only waits; unlike `sleep`, it starts no process, which would take longer.
     mkfifo silence
     exec 9<> silence
     while [ "$counted" -lt "$start_kills" ]; do
@@ -191,7 +191,7 @@ strike_starts() {
     done
 }
 
-# took PACE MODE COUNT: how many milliseconds a life of so many rows takes, which is a whole one
+# took PACE MODE COUNT: measures the milliseconds that a whole life of COUNT rows takes
 took() {
     local begin
     rows $((life * 10000000)) "$3" > plant.csv
@@ -202,7 +202,7 @@ took() {
     check
 }
 
-# One row after another is settled: as many rows as take about a second and a half on this disk, 100 to 10,000.
+# At pace settle: as many rows as take about a second and a half on this disk, 100 to 10,000.
 known=0
 took settle cold 200
 [ "$known" -eq 400 ] || fail "a whole life counted $known of 400 executions"
@@ -212,13 +212,13 @@ count=$((1500 * 200 / milliseconds))
 strike settle $count $((milliseconds * count / 200))
 settled=$life
 
-# Rows are latched one after another: 10,000 at a time.
+# At pace free: 10,000 rows at a time.
 took free warm 10000
 strike free 10000 "$milliseconds"
 
-# Starts that save what goes on in another layout. One that is asked for tells so in one line.
+# Starts that save the carried values in another layout. Each reports that in one line.
 starts=0
-takes_over="the retain file has another layout: $("$plant" show store | grep -c ' = ') carried, 1 new, 0 retyped, 0 dropped"
+takes_over="the retain file has a different layout: $("$plant" show store | grep -c ' = ') carried, 1 new, 0 retyped, 0 dropped"
 strike_starts
 
 echo "kill.sh: $kills kills within a run at each pace, in $((settled - 1)) and $((life - settled)) lives; A = $known, B = $((3 * known));" \

@@ -1,9 +1,9 @@
 #!/usr/bin/env python3
-"""Runs texts of the whole language on the built program, by quick code and by the machine on values, and compares what each variable is
-in the end.
+"""Runs texts of the whole language on the built program, by quick code and by the machine on values, and compares the final value
+of each variable.
 
-What is expected of an operator, a function or a block is computed here, from the formulas of the language and on unbounded numbers; the
-scenes have the values that they are to give beside them.
+This script computes the expected values of operators, functions and blocks from the formulas of the language, on unbounded numbers; the other
+scenes list their expected values.
 
 usage: tests/language.py PLANT     PLANT is the built program
 """
@@ -14,7 +14,7 @@ import subprocess
 import sys
 import tempfile
 
-# what a refusal begins with
+# the beginning of an error message
 NAME = pathlib.Path(sys.argv[0]).name
 
 # the whole-number types and the bit strings, with their bits
@@ -38,13 +38,13 @@ def holds(kind, number):
 
 
 def edges(kind):
-    """The numbers about the ends of a type, and about 0."""
+    """Numbers around the limits of a type, and around 0."""
     low, high = least(kind), greatest(kind)
     return sorted({n for n in (low, low + 1, -7, -2, -1, 0, 1, 2, 3, 7, high // 2 + 1, high - 1, high) if holds(kind, n)})
 
 
 def spelled(kind, number):
-    """A value as a report has it."""
+    """A value as a report prints it."""
     if kind == "BOOL":
         return "TRUE" if number else "FALSE"
     if kind in BITS:
@@ -53,7 +53,7 @@ def spelled(kind, number):
 
 
 def initial(kind, number):
-    """A value as an initial value is written."""
+    """A value as a text writes an initial value."""
     if kind == "TIME":
         return f"T#{number}ms"
     return spelled(kind, number) if kind == "BOOL" else str(number)
@@ -73,7 +73,7 @@ class Plant:
         return subprocess.run(words, cwd=self.folder, capture_output=True, text=True, check=False, timeout=60)
 
     def check(self, text):
-        """The words of the sizes that a text has."""
+        """The sizes of a text, split into words."""
         (self.folder / "text.st").write_text(text)
         return subprocess.run([self.program, "check", "text.st"], cwd=self.folder, capture_output=True, text=True, check=True).stdout.split()
 
@@ -84,7 +84,7 @@ class Plant:
         return subprocess.run(words, cwd=self.folder, capture_output=True, text=True, check=False, timeout=60)
 
     def report(self, name, text, **given):
-        """The counts and the values of a run that ends well, which are the same by either machine."""
+        """The counts and the values of a run that succeeds; they have to be the same by either machine."""
         ran = self.run(text, **given)
         if ran.returncode:
             sys.exit(f"{NAME}: {name}: status {ran.returncode}, {ran.stderr.strip()}\n{text}")
@@ -95,13 +95,13 @@ class Plant:
         return dict(line.split(" ", 1) for line in lines[:5]), dict(line.split(" = ", 1) for line in lines[5:])
 
     def same_by_values(self, name, text, report, given):
-        """The same run by the machine on values alone, over a store of its own, has this report."""
+        """Checks that the same run by the machine on values, over a store of its own, has this report."""
         other = self.run(text, **(given | {"store": given.get("store", "store") + "-values", "trace": False, "machine": "values"}))
-        if other.returncode or other.stdout != report or "runs by quick code 0," not in other.stderr:
+        if other.returncode or other.stdout != report or "program runs: quick 0," not in other.stderr:
             sys.exit(f"{NAME}: {name}: by the machine on values status {other.returncode}\n{other.stdout}{other.stderr}\nby quick code\n{report}\n{text}")
 
     def scene(self, name, text, wanted, **given):
-        """The values that a text leaves, and its counts where some are wanted."""
+        """Checks the values that a text leaves, and its counts if some are expected."""
         counts, values = self.report(name, text, **given)
         for path, value in wanted.items():
             found = counts.get(path) if path in counts else values.get(path)
@@ -128,13 +128,13 @@ END_CONFIGURATION
 
 
 class Table:
-    """Expressions over values, each with what it gives or with the fault that it meets."""
+    """Expressions over values, each with its result or its fault."""
 
     def __init__(self):
         self.given, self.faults = [], []
 
     def add(self, kind, number, expression, operands):
-        """The expression has `@` in place of each operand; a number None is a fault of its name."""
+        """The expression has `@` in place of each operand; a `number` that is a string is the name of a fault."""
         (self.faults if isinstance(number, str) else self.given).append((kind, number, expression, operands))
 
     def check(self, plant, name):
@@ -155,7 +155,7 @@ class Table:
         plant.scene(name, configured("\n".join(body), "VAR " + "\n".join(variables) + " END_VAR"), wanted)
 
     def check_faults(self, plant, name, rows):
-        """Each expression in a program of its own, which leaves nothing."""
+        """Runs each expression in a program of its own, whose values have to stay initial."""
         units, instances, wanted = [], [], {"faults": len(rows), "done": len(rows)}
         for k, (kind, fault, expression, operands) in enumerate(rows):
             variables = []
@@ -188,7 +188,7 @@ def batches(items, size):
 
 
 def quotient(a, b):
-    """Toward zero."""
+    """The quotient, rounded toward zero."""
     return abs(a) // abs(b) * (1 if (a < 0) == (b < 0) else -1)
 
 
@@ -300,7 +300,7 @@ def conversions(plant):
         table.check(plant, f"conversions of {source}")
 
 
-# ---- standard blocks: what each gives, call by call
+# ---- standard blocks: their outputs, call by call
 
 def latch(reset_first):
     q = 0
@@ -423,7 +423,7 @@ def blocks(plant):
         block(plant, f"CTD from {preset}", "CTD", ["CD", "LD"], up, lambda d, l, s=counter("CTD", preset): s(0, d, 0, l), preset=f"PV := {preset}")
         all_four = [tuple((code >> k) & 1 for k in range(4)) for code in (0, 1, 0, 1, 0, 2, 0, 3, 0, 8, 1, 9, 0, 4, 0, 12, 2, 0, 1, 0, 3, 2, 1)]
         block(plant, f"CTUD about {preset}", "CTUD", ["CU", "CD", "R", "LD"], all_four, counter("CTUD", preset), preset=f"PV := {preset}")
-    # the ends of INT
+    # the limits of INT
     for name, first, edge_input, preset, cv in (("CTU", "R", "CU", 32767, 32767), ("CTD", "LD", "CD", -32768, -32768)):
         body = f"b({'LD := TRUE, ' if name == 'CTD' else ''}PV := {preset});\nFOR i := 1 TO 3 DO b({edge_input} := FALSE{', LD := FALSE' if name == 'CTD' else ''}); b({edge_input} := TRUE); END_FOR;\nc := b.CV;"
         if name == "CTU":
@@ -434,7 +434,7 @@ def blocks(plant):
 # ---- statements, ticks, types, units
 
 def faulted(plant, name, body, variables, fault, before="", budget=10000):
-    """The body meets this fault, and leaves nothing."""
+    """Checks that the body meets this fault."""
     plant.scene(name, configured(body, variables, before=before), {"faults": 1, "done": 1}, budget=budget, trace=True)
     found = [line.split()[-1] for line in (plant.folder / "trace").read_text().splitlines() if line.startswith("done ")]
     if found != [fault]:
@@ -442,7 +442,7 @@ def faulted(plant, name, body, variables, fault, before="", budget=10000):
 
 
 def ticked(plant, name, body, ticks, variables, wanted, before=""):
-    """The body takes exactly so many ticks: with one less it is F5."""
+    """Checks that the body takes exactly this many ticks: with one fewer it faults with F5."""
     plant.scene(name, configured(body, variables, before=before), wanted | {"faults": 0}, budget=ticks)
     if ticks > 1:
         faulted(plant, f"{name}, a tick short", body, variables, "F5", before, budget=ticks - 1)
@@ -513,7 +513,7 @@ FUNCTION_BLOCK Outer VAR r : Ramp; END_VAR VAR_OUTPUT s : INT; END_VAR r(n := 2)
 
 
 def ticks(plant):
-    """Loops of each kind, alone, in one another, and in functions and blocks: each with the ticks that it takes."""
+    """Loops of each kind, alone, nested, and in functions and blocks, each with the ticks that it takes."""
     for name, body, count, variables, wanted in (
         # FOR 1, and each of 3 turns: FOR 1, 2 turns of 2, the turn back
         ("a FOR in a FOR", "FOR i := 1 TO 3 DO FOR j := 1 TO 2 DO k := k + 1; END_FOR; END_FOR;", 19, "i, j, k : INT;", {"I": 4, "J": 3, "K": 6}),
@@ -563,7 +563,7 @@ def ticks(plant):
 
 
 def worked(plant):
-    """The worked tables of statements, functions and blocks, with the values that stand there."""
+    """The worked tables of statements, functions and blocks, with their values."""
     square = "FUNCTION Sq : DINT VAR_INPUT x : DINT; END_VAR Sq := x * x; END_FUNCTION"
     ticked(plant, "a square", "y := Sq(46340);", 2, "VAR y : DINT; END_VAR", {"R/P.Y": 2147395600}, before=square)
     faulted(plant, "a square outside its type", "y := Sq(46341);", "VAR y : DINT; END_VAR", "F1", before=square)
@@ -576,12 +576,12 @@ def worked(plant):
                               ("SHR(BYTE#16#81, 8)", "16#00")):
         plant.scene(expression, configured(f"y := {expression};", "VAR y : BYTE; END_VAR"), {"R/P.Y": value})
 
-    def told(*values):
+    def listed(*values):
         each = iter(values)
         return lambda *_: next(each)
 
     def timed(*values):
-        return told(*({"Q": q, "ET": et} for q, et in values))
+        return listed(*({"Q": q, "ET": et} for q, et in values))
     times, period = (0, 50, 100, 150), "PT := T#100ms"
     on, off = [(1,)] * 4, [(1,), (0,), (0,), (0,)]
     block(plant, "the worked TON", "TON", ["IN"], on, timed((0, 0), (0, 50), (1, 100), (1, 100)), times, period)
@@ -589,10 +589,10 @@ def worked(plant):
     block(plant, "the worked TP", "TP", ["IN"], off, timed((1, 0), (1, 50), (0, 0), (0, 0)), times, period)
     for name, q in (("TON", 1), ("TOF", 1), ("TP", 0)):
         block(plant, f"a {name} of no time", name, ["IN"], [(1,)], timed((q, 0)), [0], "PT := T#0ms")
-    block(plant, "the worked F_TRIG", "F_TRIG", ["CLK"], [(0,), (0,)], told({"Q": 1}, {"Q": 0}))
+    block(plant, "the worked F_TRIG", "F_TRIG", ["CLK"], [(0,), (0,)], listed({"Q": 1}, {"Q": 0}))
     block(plant, "the worked CTUD", "CTUD", ["CU", "CD"], [(1, 1), (0, 0), (1, 0)],
-          told({"CV": 0, "QD": 1}, {"CV": 0, "QD": 1}, {"CV": 1, "QD": 0}), preset="PV := 3")
-    block(plant, "the worked CTU", "CTU", ["CU", "R"], [(1, 1), (1, 0)], told({"CV": 0}, {"CV": 0}), preset="PV := 1")
+          listed({"CV": 0, "QD": 1}, {"CV": 0, "QD": 1}, {"CV": 1, "QD": 0}), preset="PV := 3")
+    block(plant, "the worked CTU", "CTU", ["CU", "R"], [(1, 1), (1, 0)], listed({"CV": 0}, {"CV": 0}), preset="PV := 1")
 
 
 def types(plant):
@@ -627,9 +627,9 @@ CONFIGURATION C RESOURCE R ON CPU TASK T (INTERVAL := T#10ms, PRIORITY := 0); PR
     wanted = [f"R/P.{x}" for x in ("F.A", "F.B", "F.C", "T.IN", "T.PT", "T.Q", "T.ET", "T.RUN", "T.START", "K.A", "K.B", "K.C")]
     if list(values) != wanted:
         sys.exit(f"{NAME}: the paths of blocks: {list(values)}")
-    told = plant.check(text)
-    if told != "resources 1 tasks 1 programs 1 slots 12 retained 9".split():
-        sys.exit(f"{NAME}: the sizes of blocks: {told}")
+    sizes = plant.check(text)
+    if sizes != "resources 1 tasks 1 programs 1 slots 12 retained 9".split():
+        sys.exit(f"{NAME}: the sizes of blocks: {sizes}")
 
 
 def tasks(plant):
@@ -663,7 +663,7 @@ TASK T (INTERVAL := T#10ms, PRIORITY := 0); PROGRAM P WITH T : A; END_RESOURCE E
     plant.scene("inputs of each type", inputs, {"S": -32768 + 65535 + 65535 + 1}, rows="t,I,u,w,b\n0,-32768,65535,65535,1\n")
 
 
-# what each of 64 programs does; the number of its type stands for @
+# the text of each of 64 programs; @ is the number of its type
 WORK = """PROGRAM Work@
 VAR RETAIN n : DINT; m : Mode; p : Point; END_VAR
 VAR flow : Meter; late : TON; edge : R_TRIG; i, rises, lates : INT; END_VAR
@@ -686,7 +686,7 @@ END_PROGRAM
 
 
 def working(number, rows):
-    """What a program of this number has after rows of (moment, level, go)."""
+    """The values of a program of this number after rows of (moment, level, go)."""
     n = x = rises = lates = total = counted = 0
     mode, y, on, before, cu = "IDLE", [0, 0, 0], False, False, False
     step = timer("TON", 10 * number + 20)
@@ -708,7 +708,7 @@ def working(number, rows):
 
 
 def many(plant, count=30):
-    """64 programs on 8 resources, each over most of the language, and what is kept of them."""
+    """64 programs on 8 resources, each over most of the language, and their kept values."""
     pick = random.Random(3)
     rows = [(10 * k, pick.choice((-32768, -7, 0, 1, 32767)), int(pick.random() < 0.7)) for k in range(count)]
     table = "t,level,go\n" + "".join(f"{t},{level},{go}\n" for t, level, go in rows)
@@ -738,13 +738,13 @@ END_CONFIGURATION"""
     if sum(int(values[f"R{r}/P{k}.N"]) for r in range(8) for k in range(8)) != int(values["SHARED"]):
         sys.exit(f"{NAME}: 64 programs at pace free: {values['SHARED']} shared")
     replayed(plant, "the trace of 64 programs at pace free", text, values)
-    told = plant.check(text)
-    if told != "resources 8 tasks 64 programs 64 slots 1793 retained 385".split():
-        sys.exit(f"{NAME}: the sizes of 64 programs: {told}")
+    sizes = plant.check(text)
+    if sizes != "resources 8 tasks 64 programs 64 slots 1793 retained 385".split():
+        sys.exit(f"{NAME}: the sizes of 64 programs: {sizes}")
 
 
 def replayed(plant, name, text, wanted):
-    """The last trace, run again over the last plant by one thread, has these values."""
+    """Checks that the last trace, replayed over the last plant in one thread, has these values."""
     ran = plant.replay(text)
     lines = dict(line.split(" = ", 1) for line in ran.stdout.splitlines()[4:])
     wrong = {path: lines.get(path) for path, value in wanted.items() if lines.get(path) != str(value)}
@@ -754,7 +754,7 @@ def replayed(plant, name, text, wanted):
 
 
 def all_globals(plant):
-    """As many globals as there may be, each of them added to, and kept."""
+    """The most globals that a text may have, each of them added to, and kept."""
     half = 2048
     units = []
     for unit, first in (("A", 1), ("B", half + 1)):
@@ -769,9 +769,9 @@ PROGRAM P WITH T : A; PROGRAM Q WITH T : B; END_RESOURCE END_CONFIGURATION"""
     plant.scene("4,096 globals", text, wanted | {"done": 6, "faults": 0}, rows="t\n0\n10\n20\n", trace=True)
     replayed(plant, "the trace of 4,096 globals", text, wanted)
     plant.scene("4,096 globals warm again", text, wanted | {"rows": 0}, rows="t\n", start="warm")
-    told = plant.check(text)
-    if told != "resources 1 tasks 1 programs 2 slots 4096 retained 4096".split():
-        sys.exit(f"{NAME}: the sizes of 4,096 globals: {told}")
+    sizes = plant.check(text)
+    if sizes != "resources 1 tasks 1 programs 2 slots 4096 retained 4096".split():
+        sys.exit(f"{NAME}: the sizes of 4,096 globals: {sizes}")
 
 
 def main():

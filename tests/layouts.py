@@ -1,12 +1,12 @@
 #!/usr/bin/env python3
-"""Starts one text after another warm over one retain file, on the built program: two texts whose retained variables differ.
+"""Starts two texts in turn over one retain file, on the built program; their retained variables differ.
 
-The first text runs some rows, which change values; then the second starts without a row, and then the first one again. What each variable
-has to be is computed here: it goes on where the text before retained its path with its type, as they are written, and else begins anew.
+The first text runs some rows, which change values; then the second starts without a row, and then the first one again. This script computes
+the expected value of each variable: it is kept if the text before retained the same path with the same type, and otherwise is initial.
 
-Then a start over the greatest layout that there is.
+Then it tries a start over the largest layout.
 
-usage: tests/layouts.py PLANT [SECONDS]     PLANT is the built program; SECONDS of the processor are for that start, 4 where none are named
+usage: tests/layouts.py PLANT [SECONDS]     PLANT is the built program; SECONDS is the CPU time allowed for that start, 4 by default
 """
 import dataclasses
 import pathlib
@@ -22,7 +22,7 @@ from language import ALL, edges, initial, spelled  # noqa: E402
 PAIRS = 200
 SEED = 61131
 ELEMENTARY = [*ALL, "TIME"]
-# what variables, types, names of types, programs and instances are called; few, so that what is dropped and what is new often meet
+# the names of variables, types, enumerated values, programs and instances; few, so that dropped and new ones often coincide
 GLOBALS, OWN, INNER = ([f"{letter}{k}" for k in range(8)] for letter in "gpb")
 TYPES = ["Mode", "Phase", "Hue"]
 NAMES = ["Stopped", "Running", "Fault", "Open", "Closed", "Idle"]
@@ -31,17 +31,17 @@ INSTANCES = ["box", "crate"]
 LAST_MOMENT = 20
 
 
-# seconds of the processor; other work on the machine takes its part
+# CPU seconds; other work on the machine adds to them
 MOST = int(sys.argv[2]) if len(sys.argv) > 2 else 4
 
 
-def fail(what, told):
-    sys.exit(f"layouts.py: {what}: {told}")
+def fail(name, answer):
+    sys.exit(f"layouts.py: {name}: {answer}")
 
 
 @dataclasses.dataclass(frozen=True)
 class Variable:
-    """A variable as a text declares it; the rows of the text give it the value that is assigned, where there is one."""
+    """A variable as a text declares it; at each row the text assigns it a value, unless `assigned` is None."""
 
     name: str
     kind: str
@@ -53,7 +53,7 @@ class Variable:
 
 @dataclasses.dataclass(frozen=True)
 class Text:
-    """A text: its enumerated types with their names, its variables by where they stand, and the names that make their paths."""
+    """A text: its enumerated types with their values, its variables by the unit that declares them, and the names in their paths."""
 
     types: dict
     globals: tuple
@@ -64,7 +64,7 @@ class Text:
     is_instance_retained: bool
 
 
-# What a text is, written.
+# Writing a text.
 
 
 def type_of(variable):
@@ -90,7 +90,7 @@ def section(opening, lines):
 
 
 def sections(text, opening, variables):
-    """The variables in sections of their own where one is retained and the next is not, so that they keep their order."""
+    """The variables, each in a section of its own, so that retained ones and others keep their order."""
     return "".join(section(f"{opening} RETAIN" if it.is_retained else opening, [declared(text, it)]) for it in variables)
 
 
@@ -120,12 +120,12 @@ def written(text):
     )
 
 
-# What is expected, by paths.
+# The expected values, by path.
 
 
 @dataclasses.dataclass(frozen=True)
 class Slot:
-    """What stands at a path: its type as a record writes it, how its values are shown, and the values before and after rows."""
+    """The variable at a path: its type as a record writes it, how its values are shown, and the values before and after rows."""
 
     spelling: str
     shown: tuple | None
@@ -133,7 +133,7 @@ class Slot:
     first: int
     ran: int
 
-    def tell(self, number):
+    def spell(self, number):
         return spelled(self.spelling, number) if self.shown is None else self.shown[number]
 
 
@@ -144,7 +144,7 @@ def slot_of(text, variable, is_retained):
 
 
 def placed(text, before, variables, is_retained=None):
-    """The slots of variables by their paths. They are retained as they say themselves, or as the instance that has them."""
+    """The slots of variables by their paths. Inside an instance, that instance decides whether they are retained."""
     slots = {}
     for it in variables:
         slot = slot_of(text, it, it.is_retained if is_retained is None else is_retained)
@@ -179,20 +179,20 @@ def retained(slots):
 
 
 def changes(old, new):
-    """What a warm start tells of a record with the layout of one text, by another text; nothing where their layouts are the same."""
+    """The report of a warm start by the new text over a record of the old one; empty if their layouts are the same."""
     old, new = retained(old), retained(new)
     if list(old.items()) == list(new.items()):
         return ""
     both = old.keys() & new.keys()
     carried = sum(old[path] == new[path] for path in both)
-    return told_changes(carried, len(new) - len(both), len(both) - carried, len(old) - len(both))
+    return changes_line(carried, len(new) - len(both), len(both) - carried, len(old) - len(both))
 
 
-def told_changes(carried, added, retyped, dropped):
-    return f"the retain file has another layout: {carried} carried, {added} new, {retyped} retyped, {dropped} dropped\n"
+def changes_line(carried, added, retyped, dropped):
+    return f"the retain file has a different layout: {carried} carried, {added} new, {retyped} retyped, {dropped} dropped\n"
 
 
-# Texts by chance.
+# Random texts.
 
 
 def new_value(chance, types, kind):
@@ -243,19 +243,19 @@ def first_text(chance):
 
 
 def other_names(chance, old):
-    """The names as they were, more often than not; else one more, one fewer, in another order, or others."""
+    """Often the same names; otherwise one more, one fewer, another order, or others."""
     more = [name for name in NAMES if name not in old]
     return chance.choice([old, old, old, (*old, more[0]), old[:-1] or old, tuple(reversed(old)), new_names(chance)])
 
 
 def other_types(chance, old):
-    """Types with their old names or others, and what each old type is called now: a type's own name is no part of a record."""
+    """Types with the same values or others, and the new name of each old type: a record doesn't have the names of types."""
     retyped = dict(zip(old, chance.sample(TYPES, len(old)) if chance.random() < 0.3 else old))
     return {retyped[name]: other_names(chance, names) for name, names in old.items()}, retyped
 
 
 def other_variable(chance, types, old):
-    """One of the changes that a variable may meet, or none; None where it is dropped. Its values are others."""
+    """The variable with other values and perhaps one more change; None if it is dropped."""
     change = chance.choice(["none"] * 4 + ["dropped", "type", "retained", "bounds", "case"])
     if change == "dropped":
         return None
@@ -274,7 +274,7 @@ def free_of(old, called):
 
 
 def renamed(chance, old, called):
-    """Variables whose names are new, or those of one another."""
+    """The variables, some of them perhaps with new names, or with each other's names."""
     if not old or chance.random() < 0.6:
         return old
     free = free_of(old, called)
@@ -283,7 +283,7 @@ def renamed(chance, old, called):
 
 
 def other_variables(chance, types, retyped, called, old):
-    """What becomes of variables. Each type that they have goes by the name that it has now."""
+    """The variables of the other text, with the new names of their types."""
     typed = [dataclasses.replace(it, kind=retyped.get(it.kind, it.kind)) for it in old]
     changed = [other_variable(chance, types, it) for it in typed]
     left = renamed(chance, [it for it in changed if it is not None], called)
@@ -293,7 +293,7 @@ def other_variables(chance, types, retyped, called, old):
 
 
 def in_other_order(chance, old):
-    """The text with its variables in another order, as chance has it, and its globals with other values."""
+    """The text with its variables in a random order, and its globals with other values."""
     revalued = (valued(chance, old.types, it, it.kind) for it in chance.sample(old.globals, len(old.globals)))
     return dataclasses.replace(old, globals=tuple(revalued), program=tuple(chance.sample(old.program, len(old.program))))
 
@@ -313,7 +313,7 @@ def other_text(chance, old):
     )
 
 
-# Pairs of them, on the built program.
+# Pairs of texts, on the built program.
 
 
 class Pair:
@@ -322,28 +322,28 @@ class Pair:
     def __init__(self, plant, number, folder):
         self.plant, self.name, self.folder = plant, f"pair {number} of seed {SEED}", folder
 
-    def told(self, *words, aside=""):
-        """What these words tell; beside it they tell this on the standard error."""
+    def output(self, *words, aside=""):
+        """The lines that these words print; on the standard error they have to print `aside`."""
         ended = subprocess.run([self.plant, *words], capture_output=True, text=True, timeout=60, cwd=self.folder)
         if ended.returncode or ended.stderr != aside:
             fail(self.name, f"{' '.join(words)}: status {ended.returncode}, {ended.stderr}")
         return ended.stdout.splitlines()
 
     def starts(self, source, rows, mode, slots, values, aside=""):
-        """The text tells these values once its run is over, and this on the standard error."""
-        lines = self.told("run", source, "--plant", rows, "--store", "store", "--start", mode, aside=aside)
+        """Checks that a run of the text reports these values, and prints `aside` on the standard error."""
+        lines = self.output("run", source, "--plant", rows, "--store", "store", "--start", mode, aside=aside)
         found = dict(line.split(" = ") for line in lines if " = " in line)
-        wanted = {path: slot.tell(values[path]) for path, slot in slots.items()}
+        wanted = {path: slot.spell(values[path]) for path, slot in slots.items()}
         if found != wanted:
             differ = sorted(path for path in found.keys() | wanted.keys() if found.get(path) != wanted.get(path))
-            fail(self.name, f"{source}, {mode}: " + ", ".join(f"{it} is {found.get(it)} for {wanted.get(it)}" for it in differ))
+            fail(self.name, f"{source}, {mode}: " + ", ".join(f"{it} is {found.get(it)}, not {wanted.get(it)}" for it in differ))
 
     def shows(self, slots, values):
-        """The file's last record has the values that are retained, by their paths and types, and the moment of the last row."""
-        _, moment, *lines = self.told("show", "store")
-        wanted = sorted(f"{path} {slot.spelling} = {slot.tell(values[path])}" for path, slot in slots.items() if slot.is_retained)
+        """Checks that the file's last record has the retained values and the moment of the last row."""
+        _, moment, *lines = self.output("show", "store")
+        wanted = sorted(f"{path} {slot.spelling} = {slot.spell(values[path])}" for path, slot in slots.items() if slot.is_retained)
         if moment != f"moment {LAST_MOMENT}ms" or sorted(lines) != wanted:
-            fail(self.name, f"the record has {moment}, {lines} for {wanted}")
+            fail(self.name, f"the record has {moment}, {lines}, not {wanted}")
 
     def go(self, first, second):
         (self.folder / "first.st").write_text(written(first))
@@ -360,7 +360,7 @@ class Pair:
 
 
 def try_pairs(plant):
-    """How many values were told after a warm start of the other text."""
+    """Tries all pairs; returns how many values were compared after a warm start of the other text."""
     chance, count = random.Random(SEED), 0
     for number in range(PAIRS):
         first = first_text(chance)
@@ -373,7 +373,7 @@ def try_pairs(plant):
     return count
 
 
-# The largest layouts that there are: 4,096 paths, and a record whose body has 131,059 bytes.
+# The largest layout: 4,096 paths, and a record whose body has 131,059 bytes.
 
 
 PATHS = 4096
@@ -381,14 +381,14 @@ BODY = 131_059
 
 
 def long_names():
-    """Names with which the record of so many INT has the greatest body: 12 bytes, and a line `NAME INT` with LF and two bytes for each."""
+    """Names of INT variables whose record has the largest body: 12 bytes, and for each variable a line `NAME INT` with LF and two bytes."""
     left = BODY - 12 - PATHS * (len(" INT\n") + 2)
     short, rest = divmod(left, PATHS)
     return [f"V{number:04}".ljust(short + (number < rest), "X") for number in range(PATHS)]
 
 
 def counters(names, first):
-    """A text that retains so many INT, each of which begins with this number, and counts none of them."""
+    """A text that retains an INT of each name with this initial value, and changes none of them."""
     variables = " ".join(f"{name} : INT := {first};" for name in names)
     return (
         f"PROGRAM Idle VAR_EXTERNAL {names[0]} : INT; END_VAR {names[0]} := {names[0]}; END_PROGRAM CONFIGURATION C "
@@ -402,14 +402,14 @@ def limit():
 
 
 def try_limits(plant):
-    """A start over a record of the greatest layout, in another order and with one name changed; the seconds of the processor that it took."""
+    """Starts over a record of the largest layout, in another order and with one name changed; returns the CPU seconds of that start."""
     names = long_names()
     others = [*reversed(names)]
     others[PATHS // 2] = "W" + others[PATHS // 2][1:]
     with tempfile.TemporaryDirectory() as folder:
         folder = pathlib.Path(folder)
         (folder / "none.csv").write_text("t\n")
-        moved = told_changes(PATHS - 1, 1, 0, 1)
+        moved = changes_line(PATHS - 1, 1, 0, 1)
         for source, listed, first, mode, aside in ("first.st", names, 1, "cold", ""), ("second.st", others, 2, "warm", moved):
             (folder / source).write_text(counters(listed, first))
             words = [plant, "run", source, "--plant", "none.csv", "--store", "store", "--start", mode]
@@ -419,10 +419,10 @@ def try_limits(plant):
             if ended.returncode or ended.stderr != aside:
                 fail("the limits", f"{source}: status {ended.returncode}, {ended.stderr}")
         if int.from_bytes((folder / "store").read_bytes()[9:13], "big") != BODY:
-            fail("the limits", "the record is not the greatest")
+            fail("the limits", "the record isn't the largest")
         wanted = [f"{name} = {2 if name[0] == 'W' else 1}" for name in others]
         if ended.stdout.splitlines()[5:] != wanted:
-            fail("the limits", "the values are not those that were kept")
+            fail("the limits", "the values aren't the kept ones")
     return after.ru_utime + after.ru_stime - before.ru_utime - before.ru_stime
 
 
@@ -430,8 +430,8 @@ def main():
     plant = str(pathlib.Path(sys.argv[1]).resolve())
     count, took = try_pairs(plant), try_limits(plant)
     print(
-        f"layouts.py: {PAIRS} pairs of texts, and {count} values after a warm start of the other one as they should be; "
-        f"over the greatest layout in {took:.2f} s of the processor"
+        f"layouts.py: {PAIRS} pairs of texts, with {count} values as expected after a warm start of the other one; "
+        f"a start over the largest layout took {took:.2f} s of CPU time"
     )
 
 

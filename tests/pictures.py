@@ -1,7 +1,7 @@
 #!/usr/bin/env python3
-"""Compares the pictures of README.md with what the program prints, or writes them anew.
+"""Compares the pictures of README.md with the output of the program, or updates them.
 
-In README.md a line `<!-- picture: NAME -->` stands before each block that is one of them; docs/plot.svg is one too.
+In README.md a line `<!-- picture: NAME -->` precedes each block that is a picture; docs/plot.svg is one too.
 
 usage: tests/pictures.py PLANT [--write]     PLANT is the built program
 """
@@ -53,31 +53,31 @@ class Pictures:
             shutil.copytree(ROOT / "examples" / example, work / example)
         (work / "tank.st").write_text(TANK)
 
-    def told(self, words, folder=".", status=0):
-        """Returns what the program tells, with the command line before it."""
+    def output(self, words, folder=".", status=0):
+        """Returns the command line, and the output of the program after it."""
         done = subprocess.run([self.plant, *shlex.split(words)], cwd=self.work / folder, capture_output=True, text=True)
         if done.returncode != status:
             sys.exit(f"pictures.py: `plant {words}` ended with {done.returncode}: {done.stderr}")
         return f"$ plant {words}\n{done.stdout}{done.stderr}"
 
     def run(self):
-        cold = self.told("run dosing.st --plant plant.csv --store dosing.retain --start cold", "dosing")
-        warm = self.told("run dosing.st --plant next.csv --store dosing.retain --start warm", "dosing")
-        # how many saves a run makes, and so the generation, hangs on its threads
-        shown = self.told("show dosing.retain", "dosing").splitlines(keepends=True)
+        cold = self.output("run dosing.st --plant plant.csv --store dosing.retain --start cold", "dosing")
+        warm = self.output("run dosing.st --plant next.csv --store dosing.retain --start warm", "dosing")
+        # the number of saves in a run, and so the generation, depends on its threads
+        shown = self.output("show dosing.retain", "dosing").splitlines(keepends=True)
         return cold + warm + "$ plant show dosing.retain | tail -n 3\n" + "".join(shown[-3:])
 
     def fault(self):
-        return self.told("check tank.st --explain", status=2)
+        return self.output("check tank.st --explain", status=2)
 
     def plot(self):
-        self.told("run flow.st --plant plant.csv --store flow.retain --start cold --trace flow.trace", "flow")
-        self.told("plot flow.st --plant plant.csv --trace flow.trace --out flow.svg", "flow")
+        self.output("run flow.st --plant plant.csv --store flow.retain --start cold --trace flow.trace", "flow")
+        self.output("plot flow.st --plant plant.csv --trace flow.trace --out flow.svg", "flow")
         return (self.work / "flow" / "flow.svg").read_text()
 
 
 def block(name):
-    """The block of README.md behind the mark of that name."""
+    """Matches the block of README.md after the mark of that name."""
     return re.compile(rf"(<!-- picture: {name} -->\n```\n)(.*?)(```\n)", re.DOTALL)
 
 
@@ -100,8 +100,8 @@ def main():
         README.write_text(readme)
         PLOT.write_text(plot)
     elif differ:
-        sys.exit(f"pictures.py: not what the program prints today: {', '.join(differ)}; tests/pictures.py PLANT --write writes them")
-    print("pictures.py: 3 pictures are what the program prints")
+        sys.exit(f"pictures.py: not what the program prints today: {', '.join(differ)}; tests/pictures.py PLANT --write updates them")
+    print("pictures.py: 3 pictures match the output of the program")
 
 
 main()

@@ -1,9 +1,9 @@
 #!/usr/bin/env python3
-"""Reads pictures of runs back: what `plant plot` draws shows the values, executions, faults and overruns that the texts
+"""Reads pictures of runs back: `plant plot` has to draw the values, executions, faults and overruns that the texts
 mean.
 
-What has to be seen is worked out here from the meaning of the texts. What is seen is read from the picture alone, by
-the labels of its scales.
+This script computes them from the meaning of the texts. It reads the drawn ones from the picture alone, by the labels
+of its scales.
 
 usage: tests/plots.py PLANT     PLANT is the built program
 """
@@ -18,7 +18,7 @@ import xml.etree.ElementTree as tree
 
 SVG = "{http://www.w3.org/2000/svg}"
 
-# how far two places of a picture may be apart that are one, in pixels
+# how many pixels apart two equal places of a picture may be
 NEAR = 0.011
 
 
@@ -26,9 +26,9 @@ def fail(text):
     sys.exit(f"plots.py: {text}")
 
 
-def expect(what, seen, wanted):
+def expect(name, seen, wanted):
     if seen != wanted:
-        fail(f"{what}: seen {str(seen)[:400]}, wanted {str(wanted)[:400]}")
+        fail(f"{name}: seen {str(seen)[:400]}, expected {str(wanted)[:400]}")
 
 
 def shift(element):
@@ -62,7 +62,7 @@ class Picture:
         self.labelled = [(shift(mark)[0], int(mark.find(f"{SVG}text").text)) for mark in parts(self.root, "moment")]
 
     def is_round(self):
-        """Whether the labels of the axis are multiples of 1, 2 or 5 times a power of ten, one after another."""
+        """Whether the labels of the axis are multiples of 1, 2 or 5 times a power of ten, without gaps."""
         if len(self.labelled) < 2:
             return True
         steps = {b[1] - a[1] for a, b in zip(self.labelled, self.labelled[1:])}
@@ -70,7 +70,7 @@ class Picture:
         return not steps and bool(re.fullmatch("[125]0*", str(step))) and all(t % step == 0 for _x, t in self.labelled)
 
     def moment(self, x):
-        """The moment of the run whose place this is, by the labels of the axis."""
+        """The moment of the run at this place, by the labels of the axis."""
         (low, first), (high, last) = self.labelled[0], self.labelled[-1]
         place = bisect.bisect_left(self.moments, first + (last - first) * (x - low) / (high - low))
         beside = self.moments[max(place - 1, 0) : place + 1]
@@ -80,7 +80,7 @@ class Picture:
         return moment
 
     def course(self, label):
-        """The values of a strip: pairs of a moment and the value from it on, as far as its labels tell values apart."""
+        """The values of a strip: pairs of a moment and the value from it on, as far as its labels distinguish values."""
         drawing = part(self.lines[label], "drawing")
         levels = [(shift(level)[1], level.find(f"{SVG}text").text) for level in parts(drawing, "level")]
         names = not all(re.fullmatch(r"-?\d+(ms)?", text) for _y, text in levels)
@@ -103,7 +103,7 @@ class Picture:
         return course
 
     def ticks(self, resource, program):
-        """The moments of the executions that did all, as far as they are apart."""
+        """The moments of the complete executions, as far as the picture distinguishes them."""
         way = part(self.lane(resource, program), "ticks").get("d")
         return [self.moment(float(x)) for x in re.findall(r"M([\d.]+) 3v10", way)]
 
@@ -181,7 +181,7 @@ END_CONFIGURATION
 
 
 def changes(values, moments, first):
-    """What is seen of the values that something takes at these moments, which was `first` before: the changes alone."""
+    """The course of a variable that was `first` and takes these values at these moments: only the changes."""
     seen, last = [(moments[0], first)], first
     for moment, value in zip(moments, values):
         if value != last:
@@ -191,7 +191,8 @@ def changes(values, moments, first):
 
 
 def phases(scene):
-    """Numbers below 0, BOOL, names, durations, at rows beside the multiples of the interval; a name with marks."""
+    """Negative numbers, BOOL, enumerated values and durations, at rows off the multiples of the interval; a file name
+    with special characters."""
     source = "a&b<c>'d'.st"
     pathlib.Path(source).write_text(PHASES)
     moments = [3, 8, 13, 20, 23, 60, 61, 62, 70, 103, 104, 1003]
@@ -209,7 +210,7 @@ def phases(scene):
     expect("faults", picture.marks("R", "P", "cross"), [])
     expect("overruns", picture.marks("R", "P", "triangle"), [])
 
-    # A warm start goes on from what was kept, from the moment of the last row on.
+    # A warm start goes on from the kept values, at the moment of the last row.
     later = [1100, 1110, 1125]
     scene.run(source, later, start="warm")
     picture = scene.plot(source, [moments[-1], *later], "n")
@@ -277,7 +278,7 @@ END_CONFIGURATION
 
 
 def extremes(scene):
-    """The least and the greatest numbers at the first and the last moments that a plant may have."""
+    """The smallest and the largest numbers at the first and the last moments that a plant may have."""
     pathlib.Path("extremes.st").write_text(EXTREMES)
     moments = [0, 2**61, 2**62 - 1]
     scene.run("extremes.st", moments)
@@ -290,7 +291,7 @@ def extremes(scene):
 
 
 def many(scene):
-    """Of 16 variables the first 12 are shown, and the picture says so; others are shown where they are asked for."""
+    """Of 16 variables the first 12 are shown, and the picture says so; others are shown if they are asked for."""
     names = [f"v{k}" for k in range(15)]
     more = f"VAR_GLOBAL {', '.join(names)} : INT; END_VAR VAR_GLOBAL RETAIN"
     pathlib.Path("many.st").write_text((TEXTS / "counter.st").read_text().replace("VAR_GLOBAL RETAIN", more))
@@ -303,11 +304,11 @@ def many(scene):
     expect("strips", list(scene.plot("many.st", moments, "n", "v14").lines), ["N", "V14"])
     ended = scene.plant("plot", "many.st", "--plant", "rows.csv", "--trace", "trace", "--out", "none.svg", "nowhere")
     if ended.returncode == 0 or pathlib.Path("none.svg").exists():
-        fail("a path that is not there is drawn")
+        fail("a path that doesn't exist is drawn")
 
 
 def long(scene):
-    """A counter over 10,000 rows: no more than some bytes a step, and one line for what doesn't change."""
+    """A counter over 10,000 rows: only a few bytes per step, and one line for what doesn't change."""
     text = (TEXTS / "counter.st").read_text().replace("n := n + 1", "n := n + 1; m := m")
     pathlib.Path("long.st").write_text(text.replace("n : INT;", "n : INT; m : INT;"))
     moments = [10 * k for k in range(10000)]
@@ -315,7 +316,7 @@ def long(scene):
     picture = scene.plot("long.st", moments, "m", "n")
     expect("M", picture.course("M"), [(0, "0")])
     course = picture.course("N")
-    # a pixel has many rows here, so each step is right to within the hundredth of a pixel by which it is drawn
+    # a pixel has many rows here, and steps are drawn only to the hundredth of a pixel
     for moment, value in course:
         if abs(moment / 10 + 1 - value) > 3:
             fail(f"N is {value} at {moment}")
@@ -336,7 +337,7 @@ def main():
             if os.path.exists("store"):
                 os.remove("store")
         os.chdir(TEXTS)
-    print(f"plots.py: {scene.drawn} pictures read as they should be")
+    print(f"plots.py: {scene.drawn} pictures as expected")
 
 
 main()

@@ -1,7 +1,7 @@
 #!/usr/bin/env python3
-"""Tries how far a run says it is: on a terminal, and nowhere else.
+"""Checks that a run reports its progress on a terminal, and nowhere else.
 
-Where the system has no terminal to give, or one that is no device of Linux, only the latter is tried.
+If the system has no terminal, or one that isn't a Linux device, only the second part is checked.
 
 usage: tests/progress.py PLANT     PLANT is the built program
 """
@@ -22,7 +22,7 @@ def fail(text):
 
 
 def has_terminal():
-    """Whether there is a terminal to be had that `plant` knows for one."""
+    """Whether the system has a terminal that `plant` recognizes as one."""
     try:
         terminal, end = pty.openpty()
     except OSError:
@@ -34,11 +34,11 @@ def has_terminal():
 
 
 def on_terminal(words, folder):
-    """Returns the exit status, the standard output, and what a terminal as the standard error has got."""
+    """Returns the exit status, the standard output, and the output of a terminal as the standard error."""
     terminal, end = pty.openpty()
     with subprocess.Popen(words, cwd=folder, stdout=subprocess.PIPE, stderr=end) as running:
         os.close(end)
-        told, shown = b"", b""
+        out, shown = b"", b""
         while True:
             try:
                 part = os.read(terminal, 65536)
@@ -47,9 +47,9 @@ def on_terminal(words, folder):
             if not part:
                 break
             shown += part
-        told = running.stdout.read()
+        out = running.stdout.read()
     os.close(terminal)
-    return running.returncode, told.decode(), shown.decode()
+    return running.returncode, out.decode(), shown.decode()
 
 
 def main():
@@ -63,20 +63,20 @@ def main():
         if done.returncode or done.stderr:
             fail(f"no terminal: {done.stderr!r}")
         if not has_terminal():
-            print("progress.py: nothing is told where there is no terminal; there was none to be had")
+            print("progress.py: no progress is reported without a terminal; the system has no terminal to try")
             return
-        status, told, shown = on_terminal(words, folder)
-        if (status, re.sub("acked .*", "", told)) != (0, re.sub("acked .*", "", done.stdout)):
-            fail(f"on a terminal the report is another one: {told}")
+        status, out, shown = on_terminal(words, folder)
+        if (status, re.sub("acked .*", "", out)) != (0, re.sub("acked .*", "", done.stdout)):
+            fail(f"on a terminal the report differs: {out}")
         numbers = [int(n) for n in re.findall(rf"\r(\d+) of {ROWS} rows", shown)]
         if not numbers or numbers[-1] != ROWS or numbers != sorted(numbers) or len(numbers) > 2 * 100 + 2:
             fail(f"on a terminal: {shown[:300]!r}")
         if not shown.endswith("\r\x1b[K"):
-            fail(f"what was told of rows stays on the terminal: {shown[-40:]!r}")
-        status, told, shown = on_terminal([plant, "check", "nowhere.st"], folder)
-        if (status, told, shown) != (2, "", "fault X1\r\n"):
-            fail(f"a refused source on a terminal: {status} {told!r} {shown!r}")
-    print(f"progress.py: {len(numbers)} times told on a terminal, and nowhere else")
+            fail(f"the progress stays on the terminal: {shown[-40:]!r}")
+        status, out, shown = on_terminal([plant, "check", "nowhere.st"], folder)
+        if (status, out, shown) != (2, "", "fault X1\r\n"):
+            fail(f"a refused source on a terminal: {status} {out!r} {shown!r}")
+    print(f"progress.py: progress is reported {len(numbers)} times on a terminal, and nowhere else")
 
 
 main()

@@ -1,13 +1,13 @@
 #!/usr/bin/env python3
-"""Refuses each request for memory of the built program in turn, and looks at what it answers and what it leaves of files.
+"""Refuses each request for memory of the built program in turn, and checks its answer and the files it leaves.
 
-Each request alone, and each with all later ones. What is told is the number of the stage that the work was at, and files are as they were, a
-retain file as it was or as a stop within the run leaves it; the few requests that the program can do without give the whole answer. The same
-command with memory gives the right answer then. Besides: files whose opening or reading fails for want of memory, less and less room
-for addresses, and the count of requests between the device steps of runs.
+It refuses each request alone, and each with all later ones. The program has to report the code of the stage it was at, and to leave files
+unchanged; a retain file may also be as a stop within the run leaves it. If the program can do without a request, which is rare, it has to give
+the whole answer. The same command with memory has to give the right answer afterwards. The script also tries files that can't be opened or
+read because memory runs out, smaller and smaller address spaces, and the number of requests between the device steps of runs.
 
-usage: tests/refusals.py PLANT [--all | --few]     PLANT is the built program. Of the large scenes each of the first requests is refused and
-                                                   some of the others, with --all each one, with --few some of all scenes
+usage: tests/refusals.py PLANT [--all | --few]     PLANT is the built program. In large scenes the script refuses each of the first requests
+                                                   and some of the others; with --all each one, with --few some in all scenes
 """
 import concurrent.futures
 import dataclasses
@@ -24,64 +24,64 @@ HERE = pathlib.Path(__file__).resolve().parent
 TEXTS = HERE / "texts"
 DOSING = HERE.parent / "examples" / "dosing"
 
-# how many scenes are tried side by side, and the seconds after which a program hangs
+# how many scenes are tried in parallel, and the seconds after which a program counts as hanging
 WORKERS = 2
 HANGS = 60
-# of a large scene: up to which request each one is refused, and about how many more
+# in a large scene: up to which request each one is refused, and about how many of the later ones
 EACH = 2000
 MORE = 150
-# where few are refused: each so-manieth
+# with --few: the least step between refused requests
 FEW = 13
-# of the room for addresses, in KiB: its steps, the most, and after how many whole answers there is enough
+# of the address space, in KiB: its steps, the largest one, and how many whole answers in a row show that it is enough
 KIB = 1024
 SMALL, LARGE, MOST_ROOM = 50, 1000, 200_000
 ENOUGH = 3
-# a scene with so many findings is not gone on with
+# a scene stops after this many findings
 MOST_FINDINGS = 5
-# all requests have been met after so many starts that none was refused in; threads that meet in another way make some more or fewer
+# the sweep ends after this many starts without a refusal; the number of requests varies with the timing of threads
 IDLE = 2
 IDLE_OF_THREADS = 20
 
-# the numbers that tell of memory, and that of a thread which could not be started, each with its status
+# the codes for out of memory, and the one for a thread that could not be started, each with its status
 STATUS = {"L6": 2, "P3": 2, "C12": 2, "M3": 2, "G9": 2, "I6": 3, "V5": 3, "N2": 4, "S5": 4, "K6": 5, "H1": 5}
-# those that a run which has been started ends with
+# the codes of a run that had started
 OF_RUNS = {"K6", "H1", "V5"}
-# statuses from here on are not the program's: it was not loaded
+# a status from here on isn't the program's: it was not loaded
 NOT_LOADED = 126
-# the calls that are device steps, and how many rows the runs have whose requests are counted
+# the calls that are device steps, and the numbers of rows of the runs whose requests are counted
 DEVICE = {"pread", "pwrite", "fdatasync", "ftruncate"}
 MANY = [0, 100, 1000]
 GROWING = ["counter.st", "wide.st", "idle.st"]
-# how much is tried, where it isn't what the gate tries
+# how much is tried, if not the same as in the gate
 ALL, SOME = "--all", "--few"
 # the answer is as with memory, or is neither right nor a refusal
 SAME, WRONG = "same", "wrong"
 
-# What is answered from the first request to the last, by the stages of a job: of one stage answers come in any order.
+# The answers from the first request to the last, by the stages of a job; the answers of one stage come in any order.
 WORDS = ("K6", SAME, "K6")
 BUILD = ("G9", "L6", "P3", "G9", "C12", "M3", "G9")
-# a refusal where the configuration is judged waits, and a rule that is broken comes before it
+# a refusal during the check of the configuration is deferred, so a broken rule is reported first
 WRONG_TEXT = (*WORDS, "G9", "L6", "P3", SAME, "C12")
 RUN = (*WORDS, *BUILD, "I6", "N2 S5", "K6 H1")
 TRACED = (*RUN, "V5")
-# where the threads' ways are open, what is the last request of a run in one is one of the report or the trace in another
+# if threads may interleave, the last request of one run is a request of the report or the trace in another run
 OPEN_TRACED = (*RUN[:-1], "K6 H1 V5")
 REPLAY = (*WORDS, "V5", *BUILD, "I6", "V5", "K6")
 PLOT = (*WORDS, "V5", *BUILD, "I6", "K6", "V5", "K6")
-# how many requests of the words the program can do without: room that is asked for ahead
+# how many requests of the arguments' stage the program can do without: they reserve room in advance
 SPARED = 2
 
 
 class Failure(Exception):
-    """What is not as it should be with memory."""
+    """A wrong answer with memory."""
 
 
-# A program that is started.
+# Starting the program.
 
 
 @dataclasses.dataclass(frozen=True)
 class Ended:
-    """How a program ended; how many requests it made, where it has told so, and how many were refused."""
+    """How a program ended; how many requests it made, if that is known, and how many were refused."""
 
     status: int | None
     out: str
@@ -95,7 +95,7 @@ class Ended:
 
 @dataclasses.dataclass(frozen=True)
 class Call:
-    """A call on a file: the requests before it, those of its own thread, which thread and which call it is, its bytes, and the file's name."""
+    """A call on a file: the requests before it, those of its own thread, the thread, the call, its bytes, and the file's name."""
 
     asked: int
     mine: int
@@ -116,30 +116,30 @@ def calls_of(log):
 
 
 class Program:
-    """The built program in a folder, with the allocator before that of the C library."""
+    """The built program in a folder, with the allocator preloaded before that of the C library."""
 
     def __init__(self, plant, allocator, folder):
         self.plant, self.allocator, self.folder, self.starts = plant, allocator, folder, 0
-        self.told, self.log = folder / ".told", folder / ".log"
+        self.counts, self.log = folder / ".counts", folder / ".log"
 
     def start(self, words, **options):
         self.starts += 1
         try:
             done = subprocess.run([self.plant, *words], cwd=self.folder, capture_output=True, timeout=HANGS, **options)
         except subprocess.TimeoutExpired:
-            return None, "", "it hangs"
+            return None, "", "the program hangs"
         return done.returncode, done.stdout.decode(errors="replace"), done.stderr.decode(errors="replace")
 
     def run(self, words, **how):
-        self.told.write_bytes(b"")
-        environment = {"LD_PRELOAD": self.allocator, "REFUSE_TOLD": str(self.told)}
+        self.counts.write_bytes(b"")
+        environment = {"LD_PRELOAD": self.allocator, "REFUSE_TOLD": str(self.counts)}
         environment |= {f"REFUSE_{name.upper()}": str(value) for name, value in how.items()}
         ended = self.start(words, env=environment)
-        asked, refused, *_ = [*map(int, self.told.read_text().split()), None, None]
+        asked, refused, *_ = [*map(int, self.counts.read_text().split()), None, None]
         return Ended(*ended, asked, refused or 0)
 
     def with_room(self, words, room):
-        """Runs with so many KiB for its addresses, and the C library's own allocator; none where the program has not begun."""
+        """Runs with this many KiB of address space, and the C library's own allocator; None if the program didn't begin."""
         try:
             ended = self.start(words, env={}, preexec_fn=lambda: resource.setrlimit(resource.RLIMIT_AS, (room * KIB, room * KIB)))
         except (OSError, subprocess.SubprocessError):
@@ -147,19 +147,19 @@ class Program:
         return Ended(*ended, 0, 0)
 
     def well(self, words, **how):
-        """Runs what has to end well."""
+        """Runs a job that has to succeed."""
         ended = self.run(words, **how)
         if ended.status:
             raise Failure(f"{' '.join(words)}: {ended}")
         return ended
 
     def calls(self, words, **how):
-        """Runs, and gives the calls on files that were made."""
+        """Runs a job, and returns the calls on files that it made."""
         self.log.write_bytes(b"")
         return self.run(words, log=self.log, **how), calls_of(self.log.read_text())
 
 
-# Files of a folder. What this script keeps there begins with a point.
+# Files of a folder. The names of this script's own files begin with a dot.
 
 
 def left(folder):
@@ -167,7 +167,7 @@ def left(folder):
 
 
 def fill(folder, files):
-    """The folder has these files and no others."""
+    """Makes the folder have these files and no others."""
     there = left(folder)
     for name in there.keys() - files.keys():
         (folder / name).unlink()
@@ -181,10 +181,10 @@ def fill(folder, files):
 
 @dataclasses.dataclass(frozen=True)
 class Scene:
-    """A job: its words, the files before it, and the stages of what it answers where memory is refused.
+    """A job: its words, the files before it, and the stages of its answers when memory is refused.
 
-    With memory it tells `report`, where one is named, or is refused with the line `refusal`. It writes `store`, a retain file, and `written`.
-    How its threads meet may change its report, but for a fixed one.
+    With memory it prints `report`, if there is one, or is refused with the line `refusal`. It writes `store`, a retain file, and `written`.
+    The timing of its threads may change its report, unless the scene is fixed.
     """
 
     words: tuple[str, ...]
@@ -211,7 +211,7 @@ class Scene:
         return (*self.words[:at], value, *self.words[at + 1 :])
 
     def without_rows(self):
-        """The words of a warm start that has no rows."""
+        """The words of a warm start without rows."""
         return dataclasses.replace(self, words=self.with_option("--plant", "none.csv")).with_option("--start", "warm")
 
 
@@ -220,10 +220,10 @@ def rows(*lines):
 
 
 def changed(text, *changes):
-    """The text with a piece of it in place of another, for each change."""
+    """The text with one piece replaced, for each change."""
     for old, new in changes:
         if text.count(old) != 1:
-            raise Failure(f"{old!r} stands in the text {text.count(old)} times")
+            raise Failure(f"{old!r} occurs in the text {text.count(old)} times")
         text = text.replace(old, new)
     return text.encode()
 
@@ -243,14 +243,14 @@ ROWS = {"rows.csv": rows("t", 0, 10, 20), "later.csv": rows("t", 30, 40), "none.
 
 
 def made(program, words, files, *names):
-    """Files that a job leaves with memory."""
+    """The files that a job leaves with memory."""
     fill(program.folder, files)
     program.well(words.split())
     return {name: (program.folder / name).read_bytes() for name in names}
 
 
 def words_and_looks(program):
-    """What reads no plant."""
+    """Jobs that read no plant."""
     counter, old, wrong = ({name: SOURCES[name]} for name in ("counter.st", "old.st", "wrong.st"))
     record = made(program, "run old.st --plant rows.csv --store s --start cold", old | ROWS, "s")
     next_text = {"next.st": SOURCES["next.st"]}
@@ -301,7 +301,7 @@ def dosings(program):
 
 
 def replays(program):
-    """What is made of a trace."""
+    """Jobs that read a trace."""
     run = "run counter.st --plant rows.csv --store s --start cold --trace t"
     files = {"counter.st": SOURCES["counter.st"], "rows.csv": ROWS["rows.csv"]}
     traced = files | made(program, run, files, "t")
@@ -334,12 +334,12 @@ def scenes_of(program):
             yield Scene(tuple(words.split()), files, stages, is_large=group is large, **options)
 
 
-# What a run may tell and keep.
+# The possible reports and retained values of a run.
 
 
 @dataclasses.dataclass(frozen=True)
 class State:
-    """What a retain file keeps: the moment and the values, as they are shown."""
+    """The contents of a retain file: the moment and the values, as `show` prints them."""
 
     moment: str
     values: frozenset
@@ -365,8 +365,8 @@ def without_acked(report):
 
 
 class Reach:
-    """All states that the run of a scene may go through, and all reports that it may end with: what `replay` tells of each trace that a run
-    of these rows and programs may have, and of each beginning of one."""
+    """All states that the run of a scene may go through, and all its possible reports: those that `replay` gives for each possible trace of
+    these rows and programs, and for each beginning of one."""
 
     def __init__(self, program, scene):
         self.program, self.is_free = program, scene.option("--pace") == "free"
@@ -374,12 +374,12 @@ class Reach:
         program.well(scene.with_option("--trace", ".trace"))
         self.last = state_of(program.well(["show", scene.store]).out)
         lines = (program.folder / ".trace").read_text().splitlines()
-        told = [line.split() for line in lines]
-        self.head = [line for line, words in zip(lines, told) if words[0] not in ("row", "done", "end")]
+        entries = [line.split() for line in lines]
+        self.head = [line for line, words in zip(lines, entries) if words[0] not in ("row", "done", "end")]
         self.rows = [line for line in lines if line.startswith("row ")]
-        done = sorted({(words[1], words[3]) for words in told if words[0] == "done"})
+        done = sorted({(words[1], words[3]) for words in entries if words[0] == "done"})
         self.dones = [f"done {path} {row} {how}" for (path, how), row in itertools.product(done, range(len(self.rows)))]
-        self.begun = next(words[1] for words in told if words[0] == "moment")
+        self.begun = next(words[1] for words in entries if words[0] == "moment")
         self.states, self.reports = set(), set()
         self.go([])
 
@@ -387,19 +387,19 @@ class Reach:
         return int(self.rows[0].split()[1])
 
     def go(self, entries):
-        """Goes on from entries in each way that there is; whether they are the beginning of a trace."""
+        """Goes on from entries in each possible way; returns whether they are the beginning of a trace."""
         trace = [*self.head, *entries, f"end {len(entries)}"]
         (self.program.folder / ".cut").write_text("".join(f"{line}\n" for line in trace))
-        told = self.program.run(self.replay)
-        if told.status:
+        ended = self.program.run(self.replay)
+        if ended.status:
             return False
         latched = [entry for entry in entries if entry.startswith("row ")]
-        self.states.add(self.state(latched, values_of(told.out)))
+        self.states.add(self.state(latched, values_of(ended.out)))
         is_waiting = any([self.go([*entries, done]) for done in self.dones if done not in entries])
         if len(latched) < len(self.rows) and (self.is_free or not is_waiting):
             self.go([*entries, self.rows[len(latched)]])
         if len(latched) == len(self.rows) and not is_waiting:
-            self.reports.add(told.out)
+            self.reports.add(ended.out)
         return True
 
     def state(self, latched, values):
@@ -407,11 +407,11 @@ class Reach:
         return State(moment if moment == "none" else f"{moment}ms", frozenset((path, values[path]) for path, _ in self.last.values))
 
 
-# What one start answers, and leaves.
+# The answer of one start, and the files it leaves.
 
 
 class Judge:
-    """What a scene answers with memory, and whether an answer without it is one that may be."""
+    """Knows the answer of a scene with memory, and decides whether an answer without it is allowed."""
 
     def __init__(self, program, scene):
         self.program, self.scene, self.folder = program, scene, program.folder
@@ -430,14 +430,14 @@ class Judge:
             raise Failure(f"{scene}: with memory {self.want}")
 
     def is_wanted(self):
-        """Whether the answer with memory is the one that is known."""
+        """Whether the answer with memory is the expected one."""
         want, scene = self.want, self.scene
         if scene.refusal is not None:
             return want.err.startswith(scene.refusal) and not want.out and want.status
         return want.status == 0 and scene.report in (None, want.out)
 
     def is_right(self, ended):
-        """Whether this is what the job answers with memory. What a fault's own line is explained with may be less."""
+        """Whether this is the job's answer with memory. The explanation after the line of a fault may be shorter."""
         if self.scene.refusal is not None and "--explain" in self.scene.words:
             return (ended.status, ended.out) == (self.want.status, "") and ended.err.startswith(self.scene.refusal)
         return ended.err == self.want.err and self.is_report(ended)
@@ -448,7 +448,7 @@ class Judge:
         return self.reach is None or without_acked(ended.out) in self.reach.reports
 
     def answer(self, ended):
-        """The number of a refusal for want of memory, or the same as with memory, where all is as it should be."""
+        """The code of an out-of-memory refusal, or SAME for the answer with memory, if all is as expected; otherwise WRONG."""
         after = left(self.folder)
         if ended.asked is None:
             return WRONG
@@ -458,19 +458,19 @@ class Judge:
         return code if code and self.are_spared(code, after) else WRONG
 
     def code_of(self, ended):
-        """The number that is told of memory, in one line. A run that has been started may have said what it takes over before; `show` says more
-        of the fault in other lines."""
+        """The out-of-memory code, reported in one line; None if there is none. A started run may report before it which values it carries
+        over; `show` explains the fault in more lines."""
         said = self.want.err if self.scene.store and ended.err.startswith(self.want.err) else ""
-        told = re.fullmatch(r"fault ([A-Z]\d+)\n((?s:.*))", ended.err.removeprefix(said))
-        if not told or STATUS.get(told.group(1)) != ended.status or ended.out:
+        found = re.fullmatch(r"fault ([A-Z]\d+)\n((?s:.*))", ended.err.removeprefix(said))
+        if not found or STATUS.get(found.group(1)) != ended.status or ended.out:
             return None
-        code, more = told.groups()
+        code, more = found.groups()
         if said and code not in OF_RUNS or more and not {"show", "--explain"} & {*self.scene.words}:
             return None
         return code
 
     def is_whole(self, ended, after):
-        """Whether the files are those that the job leaves with memory: a retain file by what it keeps, and a trace by what is made of it."""
+        """Whether the files are those that the job leaves with memory; a retain file is compared by its values, a trace by its replay."""
         scene = self.scene
         free = {scene.store, scene.written} if scene.store else set()
         if any(after.get(name) != self.wanted.get(name) for name in (after.keys() | self.wanted.keys()) - free):
@@ -485,7 +485,7 @@ class Judge:
         return state == self.reach.last if self.scene.is_fixed else state in self.reach.states and state.moment == self.reach.last.moment
 
     def are_spared(self, code, after):
-        """Whether a refused job has left all files as they were, a retain file so or as a stop would, and what comes then is as it should be."""
+        """Whether a refused job left all files unchanged, or a retain file as a stop would, and whether later jobs work as expected."""
         files, store = self.scene.files, self.scene.store
         if any(after.get(name) != files.get(name) for name in (after.keys() | files.keys()) - {store}):
             return False
@@ -498,8 +498,8 @@ class Judge:
         return self.looked[now] and (is_kept or code in OF_RUNS)
 
     def goes_on(self, now, is_kept):
-        """Whether the same job with memory answers as it should over what a refused run has left; and where that is a record of the run, whether
-        it is one of those that a stop leaves, and a warm start has its values."""
+        """Whether the same job with memory answers as expected over the retain file that a refused run left. If that has a record of the run,
+        it must be one that a stop may leave, and a warm start must have its values."""
         scene, state = self.scene, None
         if not is_kept:
             state = state_of(self.program.run(["show", scene.store]).out)
@@ -519,8 +519,8 @@ class Judge:
 
 
 @dataclasses.dataclass
-class Told:
-    """What was tried: how many starts it took, how many of them wanted memory, what was answered in turn, and what is not as it should be."""
+class Result:
+    """The result of a part: the starts, how many ended out of memory, the answers in order, and what isn't as expected."""
 
     starts: int = 0
     refused: int = 0
@@ -541,12 +541,12 @@ class Told:
 
 
 def are_all(scene, depth):
-    """Whether each request of the scene is refused."""
+    """Whether the script refuses each request of the scene."""
     return depth == ALL or depth is None and not scene.is_large
 
 
 def numbers(scene, asked, how, depth):
-    """The requests that are refused: each, or of a large scene a part of them, in which the first ones are refused alone."""
+    """The requests to refuse: each, or some of a large scene. Only requests that are refused alone include each of the first ones."""
     if are_all(scene, depth):
         return itertools.count(1)
     each, step = (1, FEW) if depth else (EACH, 1) if how == "nth" else (1, 1)
@@ -555,29 +555,29 @@ def numbers(scene, asked, how, depth):
 
 def swept(judge, how, depth):
     """Refuses one request after another, alone or with all later ones."""
-    scene, program, told, idle = judge.scene, judge.program, Told(), 0
+    scene, program, result, idle = judge.scene, judge.program, Result(), 0
     for number in numbers(scene, judge.want.asked, how, depth):
         fill(program.folder, scene.files)
         ended = program.run(scene.words, **{how: number})
         answer = judge.answer(ended)
         if answer == WRONG:
-            told.findings.append(f"{scene}: request {number} {how}: {ended}")
+            result.findings.append(f"{scene}: request {number} {how}: {ended}")
         if ended.asked is not None and not ended.refused:
             idle += 1
             if idle == (IDLE if scene.is_fixed else IDLE_OF_THREADS):
                 break
         else:
-            told.answered(answer)
-        if len(told.findings) >= MOST_FINDINGS:
+            result.answered(answer)
+        if len(result.findings) >= MOST_FINDINGS:
             break
-    return told
+    return result
 
 
 def out_of_order(scene, spans, depth):
-    """What is wrong in the order of the answers, or missing in them, if anything is."""
+    """What is wrong with the order of the answers, or missing in them; None if nothing is."""
     of_words = itertools.takewhile(lambda span: span[0] in WORDS, spans)
     if sum(count for answer, count in of_words if answer == SAME) > SPARED:
-        return "too many requests of the words are not needed"
+        return "too many requests for the words are not needed"
     at = 0
     for answer in (it for it, _ in spans if it != WRONG):
         while at < len(scene.stages) and answer not in scene.stages[at].split():
@@ -588,11 +588,11 @@ def out_of_order(scene, spans, depth):
     return f"no {', '.join(missing)}" if missing and scene.is_fixed and are_all(scene, depth) else None
 
 
-# Files whose opening or reading fails for want of memory.
+# Files that can't be opened or read because memory runs out.
 
 
 def numbers_of(scene, name):
-    """The answers that tell of it; none for a file that is written, whose own fault is told."""
+    """The expected answers; None for a file that the job writes, since it reports that file's own fault."""
     if name == scene.written or name == scene.store and scene.words[0] == "run":
         return None
     if name.endswith(".st"):
@@ -603,25 +603,25 @@ def numbers_of(scene, name):
 
 
 def failed_files(judge):
-    scene, program, told = judge.scene, judge.program, Told()
+    scene, program, result = judge.scene, judge.program, Result()
     for call in itertools.count(1):
         fill(program.folder, scene.files)
         ended, calls = program.calls(scene.words, call=call)
         names = [it.name for it in calls if it.what in ("open", "read")]
         if len(names) < call:
-            return told
+            return result
         wanted = numbers_of(scene, names[call - 1])
         if wanted is not None:
-            told.refused += 1
+            result.refused += 1
             if judge.answer(ended) not in wanted:
-                told.findings.append(f"{scene}: {names[call - 1]} fails for want of memory, call {call}: {ended}")
+                result.findings.append(f"{scene}: {names[call - 1]} fails out of memory, call {call}: {ended}")
 
 
-# Less and less room.
+# Smaller and smaller address spaces.
 
 
 def least_room(program):
-    """With how much room the program is loaded."""
+    """The room with which the program can be loaded."""
     for room in range(SMALL, MOST_ROOM, SMALL):
         ended = program.with_room(["explain", "C3"], room)
         if ended is not None and ended.status is not None and 0 <= ended.status < NOT_LOADED:
@@ -630,25 +630,25 @@ def least_room(program):
 
 
 def rooms(least, depth):
-    """Rooms from there on: in small steps while the job is done by one thread, and then in large ones, since the stack of a thread is large."""
+    """Rooms from the least one on: in small steps while one thread does the job, then in large ones, since the stack of a thread is large."""
     small, large = (SMALL // 4, LARGE // 8) if depth == ALL else (SMALL, LARGE)
     return [*range(least, least + LARGE, small), *range(least + LARGE, MOST_ROOM, large)]
 
 
 def with_less_room(judge, tried_rooms):
-    scene, program, told, enough = judge.scene, judge.program, Told(), 0
+    scene, program, result, enough = judge.scene, judge.program, Result(), 0
     for room in tried_rooms:
         fill(program.folder, scene.files)
         ended = program.with_room(scene.words, room)
         answer = WRONG if ended is None else judge.answer(ended)
         if answer == WRONG:
-            told.findings.append(f"{scene}: with room for {room} KiB: {ended}")
-        told.refused += answer != SAME
+            result.findings.append(f"{scene}: with room for {room} KiB: {ended}")
+        result.refused += answer != SAME
         enough = enough + 1 if answer == SAME else 0
-        if enough == ENOUGH or len(told.findings) >= MOST_FINDINGS:
-            return told
-    told.findings.append(f"{scene}: room for {MOST_ROOM} KiB is not enough")
-    return told
+        if enough == ENOUGH or len(result.findings) >= MOST_FINDINGS:
+            return result
+    result.findings.append(f"{scene}: room for {MOST_ROOM} KiB is not enough")
+    return result
 
 
 # Requests between the device steps of runs.
@@ -656,9 +656,9 @@ def with_less_room(judge, tried_rooms):
 
 @dataclasses.dataclass(frozen=True)
 class Counts:
-    """The requests of a run, seen at its calls on the retain file: how many different counts of them there are from the first step of the start
-    to its last; how many a thread has made by its last save, how many the first thread makes from the start to the report, and how many all
-    others make."""
+    """The requests of a run, as counted at its calls on the retain file: how many different counts there are from the first step of the start
+    to its last, how many requests another thread has made by its last save, how many the first thread makes between the start and the report,
+    and how many all others make."""
 
     at_start: int
     by_savers: int
@@ -672,7 +672,7 @@ def counted(program, words):
         raise Failure(f"{words}: {ended}")
     first, report = calls[0].thread, next(it for it in calls if it.name == "output")
     steps = [it for it in calls if it.name == "s" and it.what in DEVICE]
-    # a start begins with a sync; what comes before it is the look of a warm run, which reads alone
+    # a start begins with a sync; before that a warm run only reads
     start = itertools.dropwhile(lambda it: it.what == "pread", (it for it in steps if it.thread == first))
     by_savers = max((it.mine for it in steps if it.thread != first), default=0)
     seen = [it.mine for it in start]
@@ -680,8 +680,8 @@ def counted(program, words):
 
 
 def growths(program):
-    """Looks at the requests of starts, and at those of runs with more and more rows."""
-    told = Told()
+    """Checks the requests of starts, and those of runs with more and more rows."""
+    result = Result()
     files = SOURCES | {f"rows{count}.csv": rows("t", *range(0, 10 * count, 10)) for count in MANY}
     for source in GROWING:
         fill(program.folder, files)
@@ -689,57 +689,57 @@ def growths(program):
         warm = [counted(program, f"run {text} --plant rows0.csv --store s --start warm") for text in (source, "next.st")]
         none, some, most = (it.by_others for it in cold)
         found = {
-            "a start asks for memory after its first step": any(it.at_start != 1 for it in [*cold, *warm]),
-            "a save asks for memory": any(it.by_savers for it in cold),
-            "the first thread asks for more where there are more rows": len({it.by_first for it in cold}) > 1,
-            "rows ask for memory where nothing runs": source == "idle.st" and most != none,
-            "executions ask for more and more": (most - none) * MANY[1] != (some - none) * MANY[2],
+            "a start requests memory after its first step": any(it.at_start != 1 for it in [*cold, *warm]),
+            "a save requests memory": any(it.by_savers for it in cold),
+            "the first thread requests more memory if there are more rows": len({it.by_first for it in cold}) > 1,
+            "rows request memory although nothing runs": source == "idle.st" and most != none,
+            "executions request more and more memory": (most - none) * MANY[1] != (some - none) * MANY[2],
         }
-        told.findings += [f"{source}: {what}: {cold}, {warm}" for what, is_so in found.items() if is_so]
-    return told
+        result.findings += [f"{source}: {finding}: {cold}, {warm}" for finding, is_so in found.items() if is_so]
+    return result
 
 
 # All of it.
 
 
 def tried(scene, least, depth, program):
-    """All that is tried of a scene."""
-    judge, all_told = Judge(program, scene), Told()
+    """Tries everything on a scene."""
+    judge, total = Judge(program, scene), Result()
     for how in "nth", "from":
-        told = swept(judge, how, depth)
-        order = out_of_order(scene, told.spans, depth)
+        result = swept(judge, how, depth)
+        order = out_of_order(scene, result.spans, depth)
         if order:
-            told.findings.append(f"{scene}: {order}, {how}: {told.spans}")
-        all_told.add(told)
-    all_told.add(failed_files(judge))
-    # one that is hardly optimised takes more stack than it is given when it begins, and the system kills it where there is no room for that
+            result.findings.append(f"{scene}: {order}, {how}: {result.spans}")
+        total.add(result)
+    total.add(failed_files(judge))
+    # a barely optimised program takes more stack than it has at first, and the system kills it if there is no room for more
     if depth != SOME:
-        all_told.add(with_less_room(judge, rooms(least, depth)))
-    return all_told
+        total.add(with_less_room(judge, rooms(least, depth)))
+    return total
 
 
 def in_folder(plant, allocator, work):
-    """Does a part of the work in a folder of its own."""
+    """Does a part of the work in its own folder."""
     with tempfile.TemporaryDirectory() as folder:
         program = Program(plant, allocator, pathlib.Path(folder))
         try:
-            told = work(program)
+            result = work(program)
         except Failure as failure:
-            told = Told(findings=[str(failure)])
-        told.starts = program.starts
-    return told
+            result = Result(findings=[str(failure)])
+        result.starts = program.starts
+    return result
 
 
 def all_of_it(plant, allocator, folder, depth):
-    """Tries all scenes, the large ones first, and looks at growths."""
+    """Tries all scenes, the large ones first, and then `growths`."""
     program = Program(plant, allocator, folder)
     scenes, least = sorted(scenes_of(program), key=lambda it: not it.is_large), least_room(program)
     parts = [functools.partial(tried, scene, least, depth) for scene in scenes]
-    all_told = Told(program.starts)
+    total = Result(program.starts)
     with concurrent.futures.ProcessPoolExecutor(WORKERS) as pool:
-        for told in pool.map(functools.partial(in_folder, plant, allocator), [*parts, growths]):
-            all_told.add(told)
-    return len(scenes), all_told
+        for result in pool.map(functools.partial(in_folder, plant, allocator), [*parts, growths]):
+            total.add(result)
+    return len(scenes), total
 
 
 def main():
@@ -752,14 +752,14 @@ def main():
         subprocess.run(["gcc", "-O2", "-fPIC", "-shared", "-o", allocator, str(HERE / "refuse.c")], check=True)
         (folder / "files").mkdir()
         try:
-            scenes, told = all_of_it(plant, allocator, folder / "files", depth)
+            scenes, total = all_of_it(plant, allocator, folder / "files", depth)
         except Failure as failure:
             sys.exit(f"refusals.py: {failure}")
-    for finding in told.findings:
+    for finding in total.findings:
         print(f"refusals.py: {finding}", file=sys.stderr)
-    if told.findings:
+    if total.findings:
         sys.exit(1)
-    print(f"refusals.py: {told.refused} refusals in {scenes} scenes told by their numbers, with nothing lost, in {told.starts} starts")
+    print(f"refusals.py: {total.refused} refusals in {scenes} scenes reported by their codes, with nothing lost, in {total.starts} starts")
 
 
 if __name__ == "__main__":

@@ -1,24 +1,24 @@
-/* An allocator that refuses requests for memory. Preloaded, it stands before that of the C library.
+/* An allocator that refuses requests for memory. When preloaded, it replaces that of the C library.
  *
- * It counts each call of malloc, calloc, realloc, posix_memalign, aligned_alloc and memalign from 1, in all threads together. What the
- * loader asks for before the program begins is not counted.
+ * It counts each call of malloc, calloc, realloc, posix_memalign, aligned_alloc and memalign from 1, in all threads together. Requests
+ * of the loader before the program begins don't count.
  *
- *   REFUSE_NTH=N      refuses request N alone
+ *   REFUSE_NTH=N      refuses only request N
  *   REFUSE_FROM=N     refuses request N and all later ones
- *   REFUSE_CALL=N     fails the Nth opening or reading of a file for want of memory (ENOMEM)
+ *   REFUSE_CALL=N     fails the Nth opening or reading of a file with ENOMEM
  *   REFUSE_TOLD=FILE  appends 'ASKED REFUSED' to FILE when the program ends: how many requests there were, and how many were refused
  *   REFUSE_LOG=FILE   appends a line to FILE for each call on a file: 'ASKED MINE THREAD WHAT FD BYTES NAME', with the requests before it,
- *                     those of its own thread, which thread that is, how many bytes it takes or gives, and the name of a file that is
- *                     opened, else '-'
- *   REFUSE_TRAP=1     traps where the first request is refused, so that a debugger shows who has made it
+ *                     those of its own thread, the thread, the number of bytes, and the name of the file if it is opened,
+ *                     otherwise '-'
+ *   REFUSE_TRAP=1     traps when the first request is refused, so that a debugger shows who made it
  *
- * A program may ask while it runs, too, by names that it looks up in its environment:
+ * A program may also set this while it runs, by names that it looks up in its environment:
  *
- *   REFUSE:NTH:N      counts anew, and refuses request N alone; there is no such name
- *   REFUSE:FROM:N     counts anew, and refuses request N and all later ones; there is no such name
- *   REFUSE:END        refuses nothing from here on; its value is 'ASKED REFUSED'
+ *   REFUSE:NTH:N      counts from 0 again, and refuses only request N; has no value
+ *   REFUSE:FROM:N     counts from 0 again, and refuses request N and all later ones; has no value
+ *   REFUSE:END        refuses nothing any more; its value is 'ASKED REFUSED'
  *
- * Nothing here takes memory.
+ * This allocator itself requests no memory.
  */
 #define _GNU_SOURCE
 #include <errno.h>
@@ -39,16 +39,16 @@ extern void *__libc_realloc(void *, size_t);
 extern void *__libc_memalign(size_t, size_t);
 extern char **environ;
 
-/* The request that is refused, and the first from which on all are; the call that fails. 0 for none. */
+/* The only request to refuse, the first of all requests to refuse, and the call that fails. 0 for none. */
 static atomic_long nth, from;
 static long failing;
-static int told = -1, logged = -1, is_trapped;
+static int report = -1, logged = -1, is_trapped;
 /* Whether the program has begun. */
 static atomic_int is_running;
 static atomic_long asked, refused, calls;
 static __thread long mine __attribute__((tls_model("initial-exec")));
 
-/* What is written and read here goes by none of the calls that are counted. */
+/* This code reads and writes by none of the counted calls. */
 
 static long number(const char *text) {
     long n = 0;
@@ -94,20 +94,20 @@ __attribute__((constructor)) static void begin(void) {
     nth = number(variable("REFUSE_NTH"));
     from = number(variable("REFUSE_FROM"));
     failing = number(variable("REFUSE_CALL"));
-    told = appended(variable("REFUSE_TOLD"));
+    report = appended(variable("REFUSE_TOLD"));
     logged = appended(variable("REFUSE_LOG"));
     is_trapped = variable("REFUSE_TRAP") != NULL;
     is_running = 1;
 }
 
-/* Tells once. */
+/* Reports once. */
 __attribute__((destructor)) static void end(void) {
-    static atomic_int is_told;
+    static atomic_int is_reported;
     char line[ROOM];
-    if (told >= 0 && !atomic_exchange(&is_told, 1)) say(told, line, put_number(put_number(line, asked), refused));
+    if (report >= 0 && !atomic_exchange(&is_reported, 1)) say(report, line, put_number(put_number(line, asked), refused));
 }
 
-/* A program that ends so runs no destructor. */
+/* A program that ends in this way runs no destructor. */
 __attribute__((noreturn)) void _exit(int status) {
     end();
     for (;;) syscall(SYS_exit_group, status);
@@ -154,7 +154,7 @@ int posix_memalign(void **block, size_t align, size_t bytes) {
     return 0;
 }
 
-/* What a program asks while it runs. */
+/* What a program sets while it runs. */
 
 static void count_anew(long one, long all) {
     nth = one;
@@ -238,7 +238,7 @@ static int opened(int folder, const char *name, int flags, mode_t mode) {
     return fd;
 }
 
-/* The mode that stands behind the flags. */
+/* The mode, an argument after the flags. */
 #define MODE(flags)                        \
     mode_t mode = 0;                       \
     if ((flags) & (O_CREAT | O_TMPFILE)) { \

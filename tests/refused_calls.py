@@ -1,11 +1,11 @@
 #!/usr/bin/env python3
-"""Refuses each request for memory of each call of a layer in turn, within one process, by the built program of such calls.
+"""Refuses in turn each request for memory that the calls of a layer make, within one process: the built program of calls.
 
-The program runs over an allocator that refuses what it is told to (refuse.c), and prints a line a call: how often it answered each fault,
-one time after another, and then its answer with memory. These lines have to be those of refused_calls.txt. A call that answers with memory
-what it should not, or wants memory where it should take none, is told in its line as WRONG, AGAIN-WRONG or OTHERWISE.
+The program runs over an allocator that refuses requests on demand (refuse.c), and prints a line per call: how many times in a row it answered
+each fault, and then its answer with memory. These lines have to match refused_calls.txt. A line says WRONG, AGAIN-WRONG or OTHERWISE if the
+call gave a wrong answer with memory, or requested memory when it should request none.
 
-usage: tests/refused_calls.py PROGRAM     PROGRAM is the built program of calls, or `plant` as the gate builds it: the other lies beside it
+usage: tests/refused_calls.py PROGRAM     PROGRAM is the built program of calls, or the `plant` of the gate, which builds the other too
 """
 import os
 import pathlib
@@ -16,9 +16,9 @@ import tempfile
 
 TESTS = pathlib.Path(__file__).resolve().parent
 SECONDS = 300
-# what a call's line is named where the first device step fails
+# the end of a call's name if the first device step fails
 FAILING = ", device fails"
-# of a thread's stack, in bytes: those of threads that have ended are kept for others only while they are small
+# the bytes of a thread's stack: the stacks of ended threads are kept for new ones only if they are small
 STACK = 8 << 20
 
 
@@ -27,7 +27,7 @@ def fail(text):
 
 
 def program():
-    """The program of calls; none where `plant` is not one of the gate, which builds no such program."""
+    """The program of calls; None if `plant` isn't from the gate, since only the gate builds that program."""
     given = pathlib.Path(sys.argv[1]).resolve()
     if not given.name.startswith("plant"):
         return given
@@ -41,7 +41,7 @@ def small_stacks():
     resource.setrlimit(resource.RLIMIT_STACK, (STACK, most))
 
 
-def told(words, **more):
+def lines_of(words, **more):
     ended = subprocess.run(
         words, capture_output=True, text=True, timeout=SECONDS, preexec_fn=small_stacks, env={"PATH": os.environ["PATH"], **more}
     )
@@ -51,28 +51,28 @@ def told(words, **more):
 
 
 def faults_of(lines):
-    """What each call answered while a request was refused, by the call's name."""
+    """The answers of each call while a request was refused, by the call's name."""
     named = [line.split(": ", 1) for line in lines if ": " in line]
     return {name: text.split("; ")[0] for name, text in named}
 
 
 def compare(lines, wanted):
     if len(lines) != len(wanted):
-        fail(f"{len(lines)} lines for {len(wanted)}")
-    differ = [f"\n  told   {line}\n  wanted {right}" for line, right in zip(lines, wanted) if line != right]
+        fail(f"{len(lines)} lines, not {len(wanted)}")
+    differ = [f"\n  printed  {line}\n  expected {right}" for line, right in zip(lines, wanted) if line != right]
     if differ:
-        fail(f"{len(differ)} lines are others:{''.join(differ)}")
+        fail(f"{len(differ)} lines differ:{''.join(differ)}")
 
 
 def compare_failing(lines):
-    """A call makes as many requests where its first device step fails as where it does not: it makes all of them before."""
+    """Checks that a call makes as many requests whether its first device step fails or not: it makes all of them before that step."""
     faults, pairs = faults_of(lines), 0
     for name, text in faults.items():
         if name.endswith(FAILING):
             pairs += 1
             working = faults[name.removesuffix(FAILING)]
             if text != working:
-                fail(f"{name}: {text} for {working}")
+                fail(f"{name}: {text}, not {working}")
     return pairs
 
 
@@ -90,12 +90,12 @@ def main():
         return
     if not calls.exists():
         fail(f"there is no {calls}")
-    if told([calls]) != ["no allocator refuses"]:
-        fail("without the allocator it tries calls")
+    if lines_of([calls]) != ["no allocator refuses"]:
+        fail("it tries calls without the allocator")
     with tempfile.TemporaryDirectory() as folder:
         allocator = f"{folder}/refuse.so"
         subprocess.run(["gcc", "-O2", "-fPIC", "-shared", "-o", allocator, TESTS / "refuse.c"], check=True)
-        lines = told([calls], LD_PRELOAD=allocator)
+        lines = lines_of([calls], LD_PRELOAD=allocator)
     compare(lines, (TESTS / "refused_calls.txt").read_text().splitlines())
     pairs = compare_failing(lines)
     print(

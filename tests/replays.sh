@@ -1,8 +1,8 @@
 #!/usr/bin/env bash
-# Runs two resources in threads over and over, and runs each trace again by one thread: in whatever order the threads have committed, the
-# replay tells the counts and the values of the run.
+# Runs two resources in threads over and over, and replays each trace in one thread: in whatever order the threads committed, the replay
+# reports the counts and the values of the run.
 #
-# usage: tests/replays.sh PLANT [RUNS]     PLANT is the built program; so many runs at each pace, 50 where no number is given
+# usage: tests/replays.sh PLANT [RUNS]     PLANT is the built program; RUNS is the number of runs at each pace, 50 by default
 set -euo pipefail
 
 plant=$(realpath "$1")
@@ -42,36 +42,36 @@ value() {
     awk -v name="$2" '$1 == name { print $NF }' "$1"
 }
 
-# again TRACE REPORT: runs a trace again
+# again TRACE REPORT: replays a trace
 again() {
     "$plant" replay pair.st --plant rows.csv --trace "$1" > "$2" 2> fault
 }
 
-# once PACE: a run with a trace, which tells the same when it is run again
+# once PACE: a run with a trace, whose replay reports the same
 once() {
     local entries
     rm -f store
-    "$plant" run pair.st --plant rows.csv --store store --start cold --pace "$1" --trace trace > told 2> fault || fail "pace $1: $(cat fault)"
-    [ "$(value told rows)" -eq $rows ] || fail "pace $1: $(value told rows) rows"
-    [ $(($(value told done) + $(value told overruns))) -eq $((2 * rows)) ] || fail "pace $1: $(cat told)"
-    [ "$(value told N)" -eq "$(value told done)" ] || fail "pace $1: $(cat told)"
-    again trace retold || fail "pace $1: the replay is refused: $(cat fault)"
-    diff <(sed '/^acked /d' told) retold > difference || fail "pace $1: the replay tells something else: $(cat difference)"
+    "$plant" run pair.st --plant rows.csv --store store --start cold --pace "$1" --trace trace > reported 2> fault || fail "pace $1: $(cat fault)"
+    [ "$(value reported rows)" -eq $rows ] || fail "pace $1: $(value reported rows) rows"
+    [ $(($(value reported done) + $(value reported overruns))) -eq $((2 * rows)) ] || fail "pace $1: $(cat reported)"
+    [ "$(value reported N)" -eq "$(value reported done)" ] || fail "pace $1: $(cat reported)"
+    again trace replayed || fail "pace $1: the replay is refused: $(cat fault)"
+    diff <(sed '/^acked /d' reported) replayed > difference || fail "pace $1: the replay reports something else: $(cat difference)"
     grep '^done ' trace | sha256sum >> orders
 
-    # A trace that is short of its last execution is none.
+    # A trace without its last execution isn't valid.
     entries=$(value trace end)
-    [ "$entries" -eq $((rows + $(value told done))) ] || fail "pace $1: the trace tells $entries entries"
+    [ "$entries" -eq $((rows + $(value reported done))) ] || fail "pace $1: the trace declares $entries entries"
     tac trace | awk '/^done / && !found { found = 1; next } { print }' | tac > short
-    [ "$(wc -l < short)" -eq $(($(wc -l < trace) - 1)) ] || fail "pace $1: no execution was taken out of the trace"
-    ! again short untold || fail "pace $1: a trace without its last execution is run again"
-    [ "$(cat fault)" = "fault V1" ] || fail "pace $1: a trace without its last execution is told as $(cat fault)"
+    [ "$(wc -l < short)" -eq $(($(wc -l < trace) - 1)) ] || fail "pace $1: no execution was removed from the trace"
+    ! again short short_report || fail "pace $1: a trace without its last execution is replayed"
+    [ "$(cat fault)" = "fault V1" ] || fail "pace $1: a trace without its last execution is refused with $(cat fault)"
 }
 
 for ((i = 1; i <= runs; i++)); do
     once settle
-    [ "$(value retold N)" -eq $((2 * rows)) ] || fail "pace settle: the replay tells N = $(value retold N)"
+    [ "$(value replayed N)" -eq $((2 * rows)) ] || fail "pace settle: the replay reports N = $(value replayed N)"
 done
 settled=$(sort -u orders | wc -l)
 for ((i = 1; i <= runs; i++)); do once free; done
-echo "replays.sh: $runs runs at each pace, with $settled orders of 200 executions at pace settle, each run again to the same values"
+echo "replays.sh: $runs runs at each pace, with $settled orders of 200 executions at pace settle, each replayed to the same values"

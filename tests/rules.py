@@ -1,9 +1,9 @@
 #!/usr/bin/env python3
-"""Asks the built program which rule a text breaks, and where, for each row of tests/rules/*.rows.
+"""Checks which rule a text breaks, and where, on the built program, for each row of tests/rules/*.rows.
 
 A line with the name of a scene is followed by its rows, `TEXT ==> CODE at PLACE`, or `TEXT ==> none` for a text that breaks no rule of its
 file: declared.rows has the rules on declarations, which come first, checked.rows all rules of the language, configured.rows those on
-configurations. A text `\\^N A|B|C|D|E` has its second and its fourth part N times, as `A B..B C D..D E`.
+configurations. A text `\\^N A|B|C|D|E` repeats its second and its fourth part N times, as `A B..B C D..D E`.
 
 usage: tests/rules.py PLANT     PLANT is the built program
 """
@@ -15,7 +15,7 @@ import sys
 import tempfile
 
 ROWS = pathlib.Path(__file__).resolve().parent / "rules"
-# the codes that a text without a broken rule of the file is not refused with: `L`, `P` and `C` are all codes that begin so
+# a text that breaks no rule of the file isn't refused with any of these codes; a letter alone means all codes that begin with it
 OTHERS = {
     "declared.rows": ("L", "P", "C2", "C6", "C8", "C11"),
     "checked.rows": ("L", "P", "C"),
@@ -46,18 +46,18 @@ def spelled(written):
 
 
 def is_of(code, codes):
-    """Whether a code is one of these, or begins with one that is a letter alone."""
+    """Whether a code is one of these, or begins with a letter that is one of them."""
     return any(code == it or len(it) == 1 and code.startswith(it) for it in codes)
 
 
 class Asked:
-    """The built program, asked for texts in a folder."""
+    """The built program, which checks texts in a folder."""
 
     def __init__(self, plant, folder):
         self.plant, self.folder = plant, folder
 
     def answer(self, number, text):
-        """The code of a text with its place, or none."""
+        """The code of a text with its place, or None."""
         path = os.path.join(self.folder, f"{number}.st")
         with open(path, "w", encoding="ascii") as file:
             file.write(text)
@@ -71,25 +71,25 @@ class Asked:
 
 
 def wrong(path, row, found):
-    """What is wrong with the answer to a row; none where it is right."""
+    """What is wrong with the answer to a row; None if it is right."""
     scene, text, wanted = row
     if wanted == "none" and (found is None or not is_of(found.split()[0], (*OTHERS[path.name], "status"))):
         return None
-    return None if found == wanted else f"{path.name}, {scene}: {text[:300]} ==> {found}, and not {wanted}"
+    return None if found == wanted else f"{path.name}, {scene}: {text[:300]} ==> {found}, not {wanted}"
 
 
 def main():
     plant = str(pathlib.Path(sys.argv[1]).resolve())
     rows = [(path, row) for path in sorted(ROWS.glob("*.rows")) for row in rows_of(path)]
     if {path.name for path, _ in rows} != set(OTHERS):
-        fail("other files of rows than it knows")
+        fail("tests/rules has other files than the script knows")
     with tempfile.TemporaryDirectory() as folder, concurrent.futures.ThreadPoolExecutor(os.cpu_count()) as pool:
         asked = Asked(plant, folder)
         answers = pool.map(lambda it: asked.answer(it[0], it[1][1][1]), enumerate(rows))
         odd = [it for it in (wrong(path, row, found) for (path, row), found in zip(rows, answers)) if it]
     if odd:
-        fail(f"{len(odd)} of {len(rows)} rows are answered otherwise:\n" + "\n".join(odd))
-    print(f"rules.py: {len(rows)} texts break just the rules that they should, at their places")
+        fail(f"{len(odd)} of {len(rows)} rows have another answer:\n" + "\n".join(odd))
+    print(f"rules.py: {len(rows)} texts break exactly the expected rules, at the expected places")
 
 
 main()

@@ -1,8 +1,8 @@
 #!/usr/bin/env bash
-# Runs all scripts over a program, side by side, since each works in a folder of its own, and prints what each has told.
+# Runs all scripts over a program in parallel, since each works in its own folder, and prints the output of each.
 #
-# usage: tests/scripts.sh PLANT [SECONDS]     PLANT is the program; SECONDS, for one that is hardly optimised, what hostile.py and layouts.py
-#                                            give a text, and refusals.py refuses few requests then; ends with 1 where a script fails
+# usage: tests/scripts.sh PLANT [SECONDS]     PLANT is the program. SECONDS, for a barely optimised program, is the CPU time that hostile.py and
+#                                            layouts.py allow per text; refusals.py then refuses few requests. Exits with 1 if a script fails
 set -euo pipefail
 plant=$(realpath "$1")
 shift
@@ -10,8 +10,8 @@ cd "$(dirname "$0")/.."
 
 scripts=(program.sh rules.py language.py edges.py examples.sh replays.sh broken.py codes.py explanations.py explain.py shows.py layouts.py plots.py
     pictures.py progress.py flat.py kill.sh two_runs.py hostile.py refusals.py refused_calls.py)
-told=$(mktemp -d)
-trap 'rm -rf "$told"' EXIT
+outputs=$(mktemp -d)
+trap 'rm -rf "$outputs"' EXIT
 failed=0 running=()
 for script in "${scripts[@]}"; do
     words=()
@@ -20,11 +20,11 @@ for script in "${scripts[@]}"; do
         flat.py) [ $# -eq 0 ] || words=(20) ;;
         refusals.py) [ $# -eq 0 ] || words=(--few) ;;
     esac
-    "tests/$script" "$plant" "${words[@]}" > "$told/$script" 2>&1 &
+    "tests/$script" "$plant" "${words[@]}" > "$outputs/$script" 2>&1 &
     running+=($!)
 done
 for at in "${!scripts[@]}"; do
     wait "${running[at]}" || failed=1
-    cat "$told/${scripts[at]}"
+    cat "$outputs/${scripts[at]}"
 done
 exit $failed

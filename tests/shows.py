@@ -1,5 +1,5 @@
 #!/usr/bin/env python3
-"""Tries `plant show` on retain files that are made byte by byte, as docs/RETAIN-FILE.md has them, alone and against texts.
+"""Tries `plant show` on retain files that are made byte by byte, as docs/RETAIN-FILE.md describes them, alone and against texts.
 
 usage: tests/shows.py PLANT     PLANT is the built program
 """
@@ -53,9 +53,9 @@ def area(generation, moment, variables, gate=0xA5):
 
 
 def record(generation, moment, lines):
-    """A record as it is shown."""
-    told = "none" if moment is None else f"{moment}ms"
-    return f"generation {generation}\nmoment {told}\n" + "".join(f"{line}\n" for line in lines)
+    """The output for a record."""
+    shown_moment = "none" if moment is None else f"{moment}ms"
+    return f"generation {generation}\nmoment {shown_moment}\n" + "".join(f"{line}\n" for line in lines)
 
 
 CLOSED = bytes(AREA)
@@ -69,7 +69,7 @@ ALL = [(f"MAIN/P.V{k}[{i}].X", kind, number(value, width), shown)
 
 
 def scenes():
-    """Each scene: what it is, the file, what is told with and without --both, or the code."""
+    """Each scene: its name, the file, and the output without and with --both, or the code."""
     one = area(3, 950, N1)
     two = area(4, None, N2)
     every = area(1, 0, [(path, kind, value) for path, kind, value, _ in ALL])
@@ -109,9 +109,9 @@ END_CONFIGURATION
 
 
 def against(head, lines, counts, saved):
-    """What a start would make of a file, as it is shown: how many are carried, new, retyped and dropped."""
-    told = "{} carried, {} new, {} retyped, {} dropped".format(*counts)
-    return head + "".join(f"{line}\n" for line in [*lines, told, saved])
+    """The output of --against: the lines, and how many variables are carried, new, retyped and dropped."""
+    counted = "{} carried, {} new, {} retyped, {} dropped".format(*counts)
+    return head + "".join(f"{line}\n" for line in [*lines, counted, saved])
 
 
 MODES = "TYPE Gate : (SHUT, OPEN); Mode : (STOPPED, RUNNING, FAULT); END_TYPE\n"
@@ -121,7 +121,7 @@ LAST = 2**64 - 1
 
 
 def migrations():
-    """Each scene: what it is, the variables of the record or none, its generation, the text, and what is told."""
+    """Each scene: its name, the variables of the record or None, its generation, the text, and the output."""
     dint = [(path, "DINT", number(value, 4)) for path, value in [("TOTAL_ML", 275), ("STROKES", 11), ("OLD_SUM", 4)]]
     mode = [("M", "(STOPPED,RUNNING,FAULT)", b"\2"), ("LIT", "BOOL", b"\1")]
     array = [(f"A[{i}]", "WORD", number(255 + i, 2)) for i in (1, 2)]
@@ -157,14 +157,14 @@ def migrations():
 
 
 def migrated(plant, folder):
-    """Looks at files against texts: each is left as it was."""
+    """Shows files against texts; each file stays unchanged."""
     path, source = folder / "old.retain", folder / "next.st"
     words = [str(path), "--against", str(source)]
-    for scene, variables, generation, next_text, told in migrations():
+    for scene, variables, generation, next_text, output in migrations():
         content = CLOSED + CLOSED if variables is None else area(generation, 1000, variables) + CLOSED
         path.write_bytes(content)
         source.write_text(next_text)
-        shown(plant, words, told, scene)
+        shown(plant, words, output, scene)
         if path.read_bytes() != content:
             fail(f"{scene}: the file was written")
     path.write_bytes(b"")
@@ -201,7 +201,7 @@ def shown(plant, words, code_or_text, scene):
             fail(f"{scene}: {done}")
         title = subprocess.run([plant, "explain", code_or_text], capture_output=True, text=True).stdout.split("\n")[0]
         if title not in done.stderr:
-            fail(f"{scene}: why it is refused isn't told: {done.stderr}")
+            fail(f"{scene}: the reason of the refusal is missing: {done.stderr}")
     elif (done.returncode, done.stdout, done.stderr) != (0, code_or_text, ""):
         fail(f"{scene}: {done}")
     COUNT += 1
@@ -231,7 +231,7 @@ def main():
             fcntl.flock(held, fcntl.LOCK_EX)
             shown(plant, [str(path)], SHOWN1, "a file that a run holds")
         migrated(plant, pathlib.Path(folder))
-    print(f"shows.py: {COUNT} looks as they should be")
+    print(f"shows.py: {COUNT} outputs as expected")
 
 
 main()

@@ -46,7 +46,7 @@ class Scene:
         return ended.returncode, ended.stdout, ended.stderr
 
     def begin(self):
-        """A cold run over all rows that has its retain file and is held still, or none if it was too quick."""
+        """A cold run over all rows, paused once it has its retain file; None if it was too quick."""
         if os.path.exists(self.store):
             os.remove(self.store)
         running = subprocess.Popen(self.words(self.rows, "cold"), stdout=subprocess.PIPE, stderr=subprocess.PIPE)
@@ -67,19 +67,19 @@ def refused(scene, start, who):
     before = content(scene.store)
     status, out, err = scene.run(start)
     if (status, out, err) != (4, "", "fault S3\n"):
-        fail(f"a {start} run beside {who}: status {status}, {out!r}, {err!r}")
+        fail(f"a {start} run during {who}: status {status}, {out!r}, {err!r}")
     if content(scene.store) != before:
-        fail(f"a {start} run beside {who} has changed the retain file")
+        fail(f"a {start} run during {who} changed the retain file")
 
 
-def beside_a_run(scene):
-    """While a run has the file, others are refused; once it was killed, the next one goes on."""
+def during_a_run(scene):
+    """While a run has the file, others are refused; once it is killed, the next one goes on."""
     for _ in range(TRIES):
         running = scene.begin()
         if running:
             break
     else:
-        fail("no run could be held still")
+        fail("no run could be paused")
     try:
         refused(scene, "warm", "a run")
         refused(scene, "cold", "a run")
@@ -91,7 +91,7 @@ def beside_a_run(scene):
         fail(f"after the killed run: status {status}, {err!r}")
 
 
-def beside_another_lock(scene):
+def during_another_lock(scene):
     """Another program that has locked the file counts as a run."""
     with open(scene.store, "rb") as f:
         fcntl.flock(f, fcntl.LOCK_EX)
@@ -101,7 +101,7 @@ def beside_another_lock(scene):
 
 
 def all_at_once(scene):
-    """Of many that start at once each ends well or is refused, and one ends well at least."""
+    """Of many runs that start at once, each succeeds or is refused, and at least one succeeds."""
     running = [
         subprocess.Popen(scene.words(scene.none, "cold"), stdout=subprocess.PIPE, stderr=subprocess.PIPE, text=True)
         for _ in range(16)
@@ -113,19 +113,19 @@ def all_at_once(scene):
         if (status, out, err) != (4, "", "fault S3\n"):
             fail(f"one of many: status {status}, {out!r}, {err!r}")
     if all(status for _, _, status in ended):
-        fail("of many none has run")
+        fail("none of many has run")
 
 
 def main():
     folder = tempfile.mkdtemp()
     try:
         scene = Scene(os.path.abspath(sys.argv[1]), folder)
-        beside_a_run(scene)
-        beside_another_lock(scene)
+        during_a_run(scene)
+        during_another_lock(scene)
         all_at_once(scene)
     finally:
         shutil.rmtree(folder)
-    print("two_runs.py: 3 scenes as they should be")
+    print("two_runs.py: 3 scenes as expected")
 
 
 main()

@@ -1,8 +1,8 @@
 #!/usr/bin/env bash
-# Proves what the program stands on, independent crates side by side, builds it, and leaves it as out/plant.
+# Proves all crates of the program, independent ones in parallel, builds it, and leaves it as out/plant.
 #
-# It is what the gate does of it, without edits, on a copy. What has passed is kept on this machine, so a second call, after a stop or a
-# change, goes on from there, and 'make test' does not prove it again.
+# It does the same as the gate, without edits and tests, on a copy. Finished proofs are kept on this machine, so a second call, after a stop
+# or a change, continues from there, and 'make test' doesn't repeat them.
 #
 # usage: tools/build.sh
 set -euo pipefail
@@ -21,8 +21,8 @@ trap 'rm -rf "$copy"' EXIT
 copy_parts "$names" "$copy" src specs proofs args stdout
 started=$SECONDS
 
-# told: how far it is, a line for each crate that is proved, or was before
-told() {
+# progress: prints a line for each crate that is proved, or was before
+progress() {
     local line done=0
     while IFS= read -r line; do
         case $line in
@@ -35,8 +35,8 @@ told() {
     done
 }
 
-echo "proving, with $(nproc) processors; out/build.log has all that the prover says"
+echo "proving, with $(nproc) processors; the prover's output is in out/build.log"
 cd "$copy"
-"$rt" ci 2>&1 | tee "$log" | told || { tail -n 40 "$log" >&2; exit 1; }
+"$rt" ci 2>&1 | tee "$log" | progress || { tail -n 40 "$log" >&2; exit 1; }
 cp crates/plant_main/out/plant_main "$plant"
 echo "out/plant is proved and built"

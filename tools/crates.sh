@@ -1,7 +1,7 @@
 # shellcheck shell=bash
-# What crates.txt says, for scripts that read this file.
+# Functions over crates.txt, for scripts that source this file.
 
-# below ROOT NAMES: these crates of the repository at ROOT, blanks between them, and all that they stand on, in the order of crates.txt
+# below ROOT NAMES: these crates of the repository at ROOT, separated by blanks, and all crates below them, in the order of crates.txt
 below() {
     awk -v names="$2" '
         /^[a-z]/ {
@@ -27,7 +27,7 @@ line_of() {
     grep -E "^$2( may_wait=[0-9]+)?:" "$1/crates.txt"
 }
 
-# copy_parts NAMES TO PARTS..: makes the folder TO a repository of these crates of the one here, with these parts of each
+# copy_parts NAMES TO PARTS..: makes the folder TO a repository of these crates of this repository, with these parts of each
 copy_parts() {
     local names=$1 to=$2 crate part
     shift 2
@@ -42,7 +42,7 @@ copy_parts() {
     cp HANDLES "$to"
 }
 
-# is_new PROGRAM PARTS..: the program stands, and neither crates.txt nor one of these parts of a crate is newer
+# is_new PROGRAM PARTS..: the program exists, and neither crates.txt nor one of these parts of a crate is newer
 is_new() {
     local program=$1 part parts=(crates.txt)
     shift

@@ -1,7 +1,8 @@
 #!/usr/bin/env bash
-# Runs each example on the built program: what it shows, its words, its report; ends with 1 where a report is another than the example has.
+# Runs each example on the built program, and prints its description, its words and its report. Exits with 1 if a report differs from the
+# example's.
 #
-# usage: tools/examples.sh [PLANT]     PLANT is the built program, out/plant where it isn't given
+# usage: tools/examples.sh [PLANT]     PLANT is the built program, out/plant by default
 set -euo pipefail
 
 top=$(dirname "$0")/..
@@ -26,11 +27,11 @@ for example in examples/*/; do
         echo
         echo "plant $(cat "$command")"
         read -ra words < "$command"
-        (cd "$work/$name" && "$plant" "${words[@]}") | tee "$work/told"
-        diff "$report" "$work/told" > "$work/difference" \
-            || { echo "examples.sh: another report than $report:" >&2; cat "$work/difference" >&2; exit 1; }
+        (cd "$work/$name" && "$plant" "${words[@]}") | tee "$work/printed"
+        diff "$report" "$work/printed" > "$work/difference" \
+            || { echo "examples.sh: the report differs from $report:" >&2; cat "$work/difference" >&2; exit 1; }
         count=$((count + 1))
     done
     echo
 done
-echo "examples.sh: $count reports as they should be"
+echo "examples.sh: $count reports as expected"

@@ -1,9 +1,9 @@
 #!/usr/bin/env python3
-"""The kit's rt as it is, which remembers within a run what stands below each crate.
+"""Runs the kit's rt, but caches the crates below each crate.
 
-Some kits ask for that once for each path through crates.txt. From the program down there are two million, so `rt ci` takes
-hours before its first proof; here it asks once for each crate. Nothing else of rt is changed, and where a kit has another
-rt, that is called.
+Some kits look these up once for each path through crates.txt. From the program down there are two million paths, so `rt ci`
+takes hours before its first proof; here it looks them up once for each crate. Nothing else of rt changes. If the kit has a
+different rt, that runs unchanged.
 
 usage: tools/rt.py WORDS     as rt
 """
@@ -17,8 +17,8 @@ import threading
 RT = pathlib.Path(shutil.which("rt") or sys.exit("rt.py: there is no rt on the path")).resolve()
 
 
-def remember_below(crate):
-    """What stands below a crate is the same for all of a run."""
+def cache_below(crate):
+    """The crates below a crate don't change during a run."""
     plain, known = crate.below, {}
 
     def below(self):
@@ -29,8 +29,8 @@ def remember_below(crate):
     crate.below = below
 
 
-def remember_stamps(crate):
-    """The sum of all that a crate is made from may change within a run, but not while it is asked for."""
+def cache_stamps(crate):
+    """The checksum of a crate's parts may change during a run, but not while one is computed."""
     plain, walk = crate.stamp, threading.local()
 
     def stamp(self):
@@ -53,8 +53,8 @@ def main():
     try:
         kit = runpy.run_path(str(RT))
         crate = kit["rtlib"].Crate
-        remember_below(crate)
-        remember_stamps(crate)
+        cache_below(crate)
+        cache_stamps(crate)
     except (SyntaxError, KeyError, AttributeError):
         os.execv(RT, [str(RT), *sys.argv[1:]])
     sys.exit(kit["main"](sys.argv[1:]))

@@ -1,9 +1,9 @@
 #!/usr/bin/env bash
-# The dosing pump over a real retain file: a cold start, and then a warm one, which goes on from what was kept.
+# Runs the dosing pump over a real retain file: a cold start, and then a warm one, which goes on from the kept values.
 #
-# The proved program runs where it stands and is newer than its sources. Else the sources are compiled as they are, without a proof, and
-# left as out/plant-unproved. Where a kit does not compile in this way, what `plant run` needs is compiled and run by `rt try`, and
-# nothing is left.
+# The proved program runs if it exists and is newer than its sources. Otherwise the script compiles the current sources without proofs, and
+# leaves out/plant-unproved. If the kit can't compile in this way, `rt try` compiles and runs the part that `plant run` needs, and leaves no
+# program.
 #
 # usage: tools/run.sh [--first]     --first takes the last of these three ways
 set -euo pipefail
@@ -12,13 +12,13 @@ cd "$(dirname "$0")/.."
 . tools/crates.sh
 
 work=$PWD/out/dosing
-# what tools/first_run stands on
+# the crates that tools/first_run uses directly
 libraries='source_run'
 rm -rf "$work"
 mkdir -p "$work/cases"
 cp examples/dosing/* "$work"
 
-# both PLANT: the two runs by this program
+# both PLANT: makes the two runs with this program
 both() {
     cd "$work"
     for start in cold warm; do
@@ -28,7 +28,7 @@ both() {
     done
 }
 
-# first_run: the two runs by one start of what `plant run` stands on, each word of the examples' files with its folder
+# first_run: makes the two runs with one `rt try` of the part that `plant run` needs; the words of the examples get the paths of their files
 first_run() {
     for start in cold warm; do
         : > "$work/cases/$start"
@@ -50,22 +50,22 @@ if [ "${1-}" = --first ]; then
 elif ! is_new $plant src specs proofs; then
     plant=out/plant-unproved
     if is_new out/unproved/plant src; then
-        echo "This run is not proved: $plant is compiled already, and no source is newer. 'make build' proves the program."
+        echo "This run is not proved: $plant is already compiled, and no source is newer. 'make build' proves the program."
     else
-        echo "This run is not proved: it compiles the sources as they are, in about two minutes. 'make build' proves the program."
+        echo "This run is not proved: it compiles the current sources, in about two minutes. 'make build' proves the program."
     fi
     tools/unproved.sh || status=$?
 fi
 if [ $status -eq 3 ]; then
     plant=
-    [ "${1-}" = --first ] || echo "This kit does not compile as tools/unproved.py does."
-    echo "This run is not proved, and leaves no program: it compiles what 'plant run' needs, by 'rt try'."
+    [ "${1-}" = --first ] || echo "This kit can't compile in the way of tools/unproved.py."
+    echo "This run is not proved, and leaves no program: 'rt try' compiles the part that 'plant run' needs."
 elif [ $status -ne 0 ]; then
     exit $status
 fi
 
-if [ -n "$plant" ]; then both "$PWD/$plant"; else first_run; fi | tee "$work/told"
-sed 's/^== .*//' "$work/told" | diff -B - <(cat "$work/cold.report" "$work/warm.report") > "$work/difference" \
-    || { echo "run.sh: the reports are others than examples/dosing has" >&2; exit 1; }
+if [ -n "$plant" ]; then both "$PWD/$plant"; else first_run; fi | tee "$work/printed"
+sed 's/^== .*//' "$work/printed" | diff -B - <(cat "$work/cold.report" "$work/warm.report") > "$work/difference" \
+    || { echo "run.sh: the reports differ from those of examples/dosing" >&2; exit 1; }
 echo "The retain file is out/dosing/dosing.retain."
 [ -z "$plant" ] || echo "The program is $plant, for your own texts as well."

@@ -1,9 +1,9 @@
 #!/usr/bin/env bash
-# Tries the edits of strength/ over a copy of the crates: the prover has to refuse each. The gate doesn't do that; whoever changes a crate does.
+# Tries the edits of strength/ over a copy of the crates: the prover has to refuse each. The gate doesn't run this; run it if you change a crate.
 #
-# What is proved on the way, and which edits were refused, is kept on this machine as that of the gate is.
+# As in the gate, finished proofs and refused edits are kept on this machine.
 #
-# usage: tools/strength.sh [CRATE..]     each crate with edits where none is named
+# usage: tools/strength.sh [CRATE..]     all crates with edits by default
 set -euo pipefail
 cd "$(dirname "$0")/.."
 # shellcheck source=tools/crates.sh

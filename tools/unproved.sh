@@ -1,7 +1,7 @@
 #!/usr/bin/env bash
-# Leaves out/plant-unproved: the sources as they are, compiled, with nothing proved. Where no source is newer, it is there already.
+# Compiles the current sources to out/plant-unproved, with nothing proved, unless it is newer than all of them.
 #
-# usage: tools/unproved.sh     ends with 1 where the sources are refused, with 3 where the kit does not compile in this way
+# usage: tools/unproved.sh     exits with 1 if the sources are refused, with 3 if the kit can't compile in this way
 set -euo pipefail
 cd "$(dirname "$0")/.."
 # shellcheck source=tools/crates.sh

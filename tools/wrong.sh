@@ -1,9 +1,10 @@
 #!/usr/bin/env bash
-# Tries the edits of tests/wrong: bodies that are proved, since contracts allow want of memory anywhere, and that tests/refusals.py has to tell.
+# Tries the edits of tests/wrong: bodies that can be proved, since contracts allow running out of memory anywhere, but that tests/refusals.py has
+# to catch.
 #
-# Each is compiled with nothing proved, which takes some minutes. The gate doesn't do that; whoever changes refusals.py does.
+# It compiles each edit with nothing proved, which takes some minutes. The gate doesn't run this; run it if you change refusals.py.
 #
-# usage: tools/wrong.sh [EDIT..]     each of tests/wrong where none is named; ends with 1 where one is not told
+# usage: tools/wrong.sh [EDIT..]     all of tests/wrong by default; exits with 1 if one isn't caught
 set -euo pipefail
 cd "$(dirname "$0")/.."
 
@@ -23,10 +24,10 @@ for edit; do
     tests/edits.py "$edit" "$copy"
     "$copy/tools/unproved.py" plant_main "$copy/plant" > "$copy/log" 2>&1 || { cat "$copy/log" >&2; exit 1; }
     if tests/refusals.py "$copy/plant" --few > "$copy/log" 2>&1; then
-        echo "$crate: $(basename "$edit" .edit): not told"
+        echo "$crate: $(basename "$edit" .edit): not caught"
         status=1
     else
-        echo "$crate: $(basename "$edit" .edit): told: $(head -n 1 "$copy/log")"
+        echo "$crate: $(basename "$edit" .edit): caught: $(head -n 1 "$copy/log")"
     fi
 done
 exit $status

@@ -1,4 +1,4 @@
--- What a replay accepts.
+-- The traces that a replay accepts.
 use Rattle.std.proofs.Common.{◌≡◌, ◌≢◌, ◌∙◌, ℕ, List, [], ◌++◌, Option, Some, None, refl, sym, ap, subst, inl, inr}
 use Rattle.std.specs.Prelude.{◌⊎◌, Result, Ok, Err, IfOk, IfErr, IfSome}
 use Rattle.st_types.specs.Rows.{Latch}
@@ -19,7 +19,7 @@ is_memory replays.NotWaiting not = absurd (not (λ e. absurd (cc)))
 is_memory replays.Outcome not = absurd (not (λ e. absurd (cc)))
 is_memory replays.Device not = absurd (not (λ e. absurd (cc)))
 
--- what is told of each life, and refused of none but for want of memory, is accepted
+-- if the findings apply to each life and only out of memory refuses one, the replay accepts each life
 pub accepted : (plan : Plan) (rows : List Latch) (text : List ℕ) (result : Result Replayed ReplayError)
     → IfOk result (λ r. (mode : StartMode) (start : Start) (log : Log) → IsTrace plan rows text mode start log
     → AreFindings plan start log r.rows r.done r.faults r.overruns r.values.items)
@@ -35,7 +35,7 @@ weaker : (plan : Plan) (rows : List Latch) (text : List ℕ) (result : Result Re
 weaker plan rows text (Ok r) accepts mode start log t = accepts mode start log t
 weaker plan rows text (Err e) accepts mode start log t = inl (accepts mode start log t)
 
--- what is accepted of a text is accepted of what a reader gave
+-- an accepted text is also accepted from the reader that gave it
 pub read_accepts : (plan : Plan) (rows : List Latch) (known : Option (List ℕ)) (before items text : List ℕ)
     (result : Result Replayed ReplayError) → before ≡ [] → IfSome known (λ xs. items ≡ before ++ xs) → text ≡ items
     → Accepts plan rows text (λ e. e ≡ replays.NoMemory) result
@@ -45,7 +45,7 @@ read_accepts plan rows (Some xs) before items text result empty read same accept
     subst (λ ys. Accepts plan rows ys (λ e. (e ≡ replays.NoMemory) ⊎ (e ≡ replays.Device)) result)
     (same ∙ read ∙ ap (λ ys. ys ++ xs) empty) (weaker plan rows text result accepts)
 
--- where the reader failed nothing else is told
+-- if the reader failed, the only errors are out of memory and the device's
 pub unread_accepts : (plan : Plan) (rows : List Latch) (known : Option (List ℕ)) (e : ReplayError)
     → (e ≡ replays.NoMemory) ⊎ (e ≡ replays.Device)
     → IfSome known (λ xs. Accepts plan rows xs (λ x. (x ≡ replays.NoMemory) ⊎ (x ≡ replays.Device)) (Err e))

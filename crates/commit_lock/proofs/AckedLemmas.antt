@@ -1,4 +1,4 @@
--- What is acknowledged after the calls of a life.
+-- The entries acknowledged after the calls of a life.
 use Rattle.std.proofs.Common.{◌≡◌, ◌∙◌, ◌≤◌, ℕ, List, [], ◌∷◌, ◌++◌, Option, Some, None, inl, inr, refl, sym, ap, arith}
 use Rattle.std.proofs.Common.{length, length-append, subst}
 use Rattle.std.specs.Prelude.{Result, Ok, Err, max}
@@ -18,7 +18,7 @@ use Rattle.commit_lock.specs.Driving.{Held, held_at, taken_of, reply_to, Commits
 use Rattle.durable_core.proofs.CallLemmas.{latches_longer, commits_longer, here_longer}
 use Rattle.commit_lock.specs.Lives.{flushed, most_flushed}
 
--- no more is acknowledged than the log has, and it is the greater of what was and what the reply says
+-- no more is acknowledged than the log has, and it is the greater of the number before and the one in the reply
 pub record Acknowledges {D : Type 0} (old new : CoreView D) (number : ℕ) : Type 0 where
   pub few : new.acked ≤ length new.state.log
   pub most : new.acked ≡ max old.acked number

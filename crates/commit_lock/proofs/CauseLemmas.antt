@@ -21,23 +21,21 @@ use Rattle.durable_core.specs.Flushing.{Flushes, CountsFlush}
 use Rattle.commit_lock.specs.Driving.{Held, held_at, reply_to, taken_of, acked_after, saved, saves, CommitsHeld, Step, Drives}
 use Rattle.commit_lock.specs.Driving.{IsWellAnswered}
 use Rattle.commit_lock.proofs.DriveLemmas.{step_acked}
+use Rattle.st_types.proofs.OptionLemmas.{none_or_some}
 
--- while the store works its generation is this, and where it has failed for want of generations this is the last one
+-- while the store works its generation is this, and if it has failed for lack of generations this is the last one
 pub record IsAt {D : Type 0} (generation : ℕ) (core : CoreView D) : Type 0 where
   pub works : core.failed ≡ None → core.store.generation ≡ generation
   pub used_up : core.failed ≡ Some stores.Generations → generation ≡ 2 ^ 64 - 1
 
--- a reply of K5 for want of generations comes where this is the last one
+-- a reply of K5 for lack of generations comes only if this is the last one
 abbrev pub IsUsedUpBy : ℕ → Reply → Type 0
 IsUsedUpBy generation reply = reply ≡ Refused (StoreFailed stores.Generations) → generation ≡ 2 ^ 64 - 1
 
--- after a reply the store is at so many generations more as the reply tells of records
+-- after a reply the generation of the store is higher by the number of records that the reply implies
 pub record Counts {D : Type 0} (generation acked : ℕ) (reply : Reply) (new : CoreView D) : Type 0 where
   pub at : IsAt (generation + saved acked reply) new
   pub used_up : IsUsedUpBy generation reply
-
-pub none_is_some : {X : Type 0} (o : Option X) (x : X) → o ≡ None → o ≡ Some x → ⊥
-none_is_some o x e f = absurd (let g = sym e ∙ f in cc)
 
 cause_is : (a b : StoreFault) → ◌≡◌ {A = Reply} (Refused (StoreFailed a)) (Refused (StoreFailed b)) → a ≡ b
 cause_is a b e = cc
@@ -48,7 +46,7 @@ some_is a b e = cc
 device_is_not_generations : stores.Device ≡ stores.Generations → ⊥
 device_is_not_generations e = absurd (cc)
 
--- whether a flush has saved is whether it acknowledges more
+-- a flush has saved exactly if it acknowledges more
 saved_by : (flag : Bool) (generation n acked before after : ℕ) → (n == acked) ≡ flag → (n ≡ acked → after ≡ before)
     → ((n ≡ acked → ⊥) → after ≡ before + 1) → before ≡ generation
     → after ≡ generation + cond flag 0 1
@@ -116,7 +114,7 @@ module _ {D : Type 0} where
       → old.failed ≡ None → CountsFlush (Err (StoreFailed cause)) before after old new → cause ≡ stores.Generations
       → generation ≡ 2 ^ 64 - 1
   fails_now generation before after old new cause at none (inl was) up =
-      absurd (none_is_some old.failed cause none was.0)
+      absurd (none_or_some old.failed cause none was.0)
   fails_now generation before after old new cause at none (inr (inl device)) up =
       absurd (device_is_not_generations (sym device.1 ∙ up))
   fails_now generation before after old new cause at none (inr (inr full)) up = sym (at.works none) ∙ full.3
@@ -127,7 +125,7 @@ module _ {D : Type 0} where
   flush_counts generation before after old new (Ok n) at f c = record {
     at = record {
       works = λ none. saved_now generation old new n at f;
-      used_up = λ up. absurd (none_is_some new.failed stores.Generations f.4 up);
+      used_up = λ up. absurd (none_or_some new.failed stores.Generations f.4 up);
     };
     used_up = λ e. absurd (cc);
   }
@@ -139,7 +137,7 @@ module _ {D : Type 0} where
       f.0 c in
       record {
         at = record {
-          works = λ none. absurd (none_is_some new.failed cause none f.4);
+          works = λ none. absurd (none_or_some new.failed cause none f.4);
           used_up = λ e. omega (arith, up (some_is cause stores.Generations (sym f.4 ∙ e)));
         };
         used_up = λ e. up (cause_is cause stores.Generations e);
@@ -183,7 +181,7 @@ module _ {D : Type 0} (failure_count : D → ℕ) where
 
 module _ {D : Type 0} (failure_count : D → ℕ) (tells : Type 0) (left_since : D → D → List ℕ → Type 0)
     (may_leave : D → List ℕ → Type 0) where
-  -- K5 for want of generations comes where this one, and one more for each record until then, is the last
+  -- K5 for lack of generations comes only if this one, and one more for each record until then, is the last
   pub drives_used_up : (generation : ℕ) (old new : CoreView D) (held kept : Held) (events : List Event)
       (replies front rest : List Reply) → IsAt generation old
       → Drives failure_count tells left_since may_leave old held events replies new kept

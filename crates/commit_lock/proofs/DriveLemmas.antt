@@ -55,7 +55,7 @@ module _ {D : Type 0} (failure_count : D → ℕ) where
   flush_acked old new (Err (StoreFailed cause)) reply (inr h) is = h.3 ∙ sym (ap (acked_after old.acked) is)
   flush_acked old new (Err (Serial refusal)) reply h is = absurd h
 
-  -- what is acknowledged after a call is what its reply says
+  -- the number acknowledged after a call is the one in its reply
   pub step_acked : (old new : CoreView D) (held kept : Held) (event : Event) (reply : Reply)
       → Step failure_count old held event reply new kept → new.acked ≡ acked_after old.acked reply
   step_acked old new held kept (Latch row) reply h = guards_acked old new h.0 _ Latched reply (λ a n. refl) h.1 h.2
@@ -67,7 +67,7 @@ module _ {D : Type 0} (failure_count : D → ℕ) where
 
 module _ {D : Type 0} (failure_count : D → ℕ) (tells : Type 0) (left_since : D → D → List ℕ → Type 0)
     (may_leave : D → List ℕ → Type 0) where
-  -- the calls so far, and one more, go on by those that are left
+  -- the calls so far, and one more, go on with the rest
   pub drives_step : (first old mid : CoreView D) (held between : Held) (all rest now : List Event) (event : Event)
       (replies pushed : List Reply) (reply : Reply)
       → ((more : List Reply) (new : CoreView D) (kept : Held)
@@ -87,7 +87,7 @@ module _ {D : Type 0} (failure_count : D → ℕ) (tells : Type 0) (left_since :
       (subst (λ es. Drives failure_count tells left_since may_leave old held es (reply ∷ more) new
       kept) (sym is) (mid, between, step, outlives, goes)))
 
-  -- the calls are done where none is left
+  -- the calls are done if none is left
   pub drives_end : (first old : CoreView D) (held : Held) (all now : List Event) (replies : List Reply)
       → ((more : List Reply) (new : CoreView D) (kept : Held)
       → Drives failure_count tells left_since may_leave old held now more new
@@ -98,7 +98,7 @@ module _ {D : Type 0} (failure_count : D → ℕ) (tells : Type 0) (left_since :
       (so_far [] old held (refl, refl))
   drives_end first old held all (event ∷ now) replies so_far none = absurd (omega (arith, none))
 
-  -- power fails at the call after as many as were answered
+  -- power fails at the call after as many calls as were answered
   pub endures : (old new : CoreView D) (held kept : Held) (front rest : List Event) (said answers : List Reply)
       (event : Event) (reply : Reply) → tells → length front ≡ length said
       → Drives failure_count tells left_since may_leave old held (front ++ event ∷ rest) (said ++ reply ∷ answers) new

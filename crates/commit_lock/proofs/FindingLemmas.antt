@@ -1,4 +1,4 @@
--- What is counted over a log.
+-- The counts over a log.
 use Rattle.std.proofs.Common.{◌≡◌, ◌∙◌, ap, arith, ℕ, ◌+◌, ◌<◌, min, sum, ◌++◌, Bool, true, false, List, [], ◌∷◌, length}
 use Rattle.std.proofs.Common.{take, get_or, count_by, option_map, slice_get, unwrap_or, inl, inr}
 use Rattle.std.proofs.lemmas.List.Sums.{count_by_more_no, count_by_more_yes, sum_by-append}
@@ -8,9 +8,9 @@ use Rattle.std.proofs.lemmas.Option.{slice_get_cases}
 use Rattle.st_meaning.specs.Due.{HasOverruns}
 use Rattle.st_meaning.specs.Plans.{schedules_of}
 use Rattle.plan.specs.PlanViews.{plan_view}
-use Rattle.serial_core.specs.Steps.{State, made}
+use Rattle.serial_core.specs.Steps.{State, past_in}
 
--- a list that passes at the next place has one more that passes, and one that does not has no more
+-- a list has one more that passes if the next one passes, and no more if it doesn't
 pub count_yes : {X : Type 0} (p : X → Bool) (xs : List X) (i : ℕ)
     → unwrap_or (option_map p (slice_get xs i)) false ≡ true → count_by p (take (i + 1) xs) ≡ count_by p (take i xs) + 1
 count_yes p xs i is = elim (slice_get_cases xs i).1 [
@@ -25,15 +25,15 @@ count_no p xs i small is = elim (slice_get_cases xs i).1 [
   | inr (past, none) ↦ absurd (omega arith)
 ]
 
--- the overruns of so many programs, one after another
+-- the overruns of the first `programs` programs, one after another
 pub record AreOverruns (life : State) (programs : ℕ) (each : List ℕ) : Type 0 where
   pub number : length each ≡ programs
-  pub overruns : (p : ℕ) → p < programs → HasOverruns (schedules_of (plan_view life.plan)) (made life).history p
+  pub overruns : (p : ℕ) → p < programs → HasOverruns (schedules_of (plan_view life.plan)) (past_in life).history p
       (get_or each p 0)
 
--- the overruns of one program more
+-- the overruns of one more program
 pub overruns_more : (life : State) (i n : ℕ) (each : List ℕ) → AreOverruns life i each
-    → HasOverruns (schedules_of (plan_view life.plan)) (made life).history i n
+    → HasOverruns (schedules_of (plan_view life.plan)) (past_in life).history i n
     → AreOverruns life (i + 1) (each ++ n ∷ [])
 overruns_more life i n each are has =
     let last : get_or (each ++ n ∷ []) i 0 ≡ n = get_or_push each n 0 i are.number in

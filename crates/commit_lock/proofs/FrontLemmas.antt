@@ -1,4 +1,4 @@
--- What a stop at any moment of a list of calls leaves.
+-- The file after a stop at any moment of a list of calls.
 use Rattle.std.proofs.Common.{◌≡◌, ◌∙◌, ℕ, List, [], ◌∷◌, ◌++◌, refl, sym, ap, subst}
 use Rattle.disk.specs.Runs.{LeavesOnly, started, joins, weakens}
 use Rattle.st_meaning.specs.Stores.{Store}
@@ -16,7 +16,7 @@ use Rattle.commit_lock.specs.LogsOfLives.{Takings, Logs}
 use Rattle.commit_lock.proofs.LogLemmas.{AreTaken, Continues, step_adds}
 use Rattle.commit_lock.proofs.DriveLemmas.{step_acked}
 
--- what survives for a life survives for the front without a call
+-- a file that survives for a life survives for the front without a call
 no_call : (life : State) (takings : Takings) (acked : ℕ) (events : List Event) (replies : List Reply)
     (file : Recovered) → Survives life.plan life.start life.before life.log acked file
     → SurvivesSomeFront life takings acked events replies file
@@ -32,7 +32,7 @@ no_call life takings acked events replies file s = record {
   survives = s;
 }
 
--- what survives for some front after a call survives for some front of the list that begins with it
+-- a file that survives for some front after a call survives for some front of the list that begins with it
 one_call_more : (old new : State) (takings : Takings) (acked now : ℕ) (event : Event) (reply : Reply) (kept : Held)
     (events : List Event) (replies : List Reply) (file : Recovered)
     (c : Continues old new takings event reply kept) → now ≡ acked_after acked reply

@@ -1,4 +1,4 @@
--- What is said of each life.
+-- The properties of each life.
 use Rattle.std.proofs.Common.{◌≡◌, ◌+◌, ◌-◌, ◌^◌, ℕ, List, [], ◌∷◌, ◌++◌, length, append_assoc, append-nil, arith, sym, ap, ◌∙◌, subst}
 use Rattle.std.proofs.Common.{Option, None, map, refl}
 use Rattle.std.specs.Prelude.{Result, Ok, Err, IfOk, IsOk, OnOk, bytes_eq, Bool, true, false, if◌then◌else◌}
@@ -36,7 +36,7 @@ use Rattle.commit_lock.specs.Lives.{generation_begun, most_flushed}
 use Rattle.commit_lock.proofs.LogLemmas.{drives_log}
 use Rattle.commit_lock.proofs.AckedLemmas.{drives_most}
 
--- what follows of it
+-- a weaker property
 pub each_weaker : (P Q : List ℕ → Life → LifeEnd → Type 0)
     → ((file : List ℕ) (life : Life) (end : LifeEnd) → P file life end → Q file life end) → (file : List ℕ)
     (lives : List Life) (ends : List LifeEnd) → EachLife P file lives ends → EachLife Q file lives ends
@@ -47,7 +47,7 @@ each_weaker P Q weaker file (life ∷ lives) (end ∷ ends) h =
     (weaker file life end h.0, each_weaker P Q weaker end.file.items lives ends h.1)
 
 module _ (P : List ℕ → Life → LifeEnd → Type 0) where
-  -- the lives so far, and one more, go on by those that are left
+  -- the lives so far, and one more, go on with the rest
   pub each_step : (first file next : List ℕ) (all rest now : List Life) (life : Life) (ends pushed : List LifeEnd)
       (end : LifeEnd)
       → ((more : List LifeEnd) → EachLife P file now more → EachLife P first all (ends ++ more))
@@ -58,20 +58,20 @@ module _ (P : List ℕ → Life → LifeEnd → Type 0) where
       (so_far (end ∷ more) (subst (λ ls. EachLife P file ls (end ∷ more)) (sym is)
       (lived, subst (λ (f : List ℕ). EachLife P f rest more) left goes)))
 
-  -- they are done where none is left
+  -- they are done if none is left
   pub each_end : (first file : List ℕ) (all now : List Life) (ends : List LifeEnd)
       → ((more : List LifeEnd) → EachLife P file now more → EachLife P first all (ends ++ more)) → length now ≡ 0
       → EachLife P first all ends
   each_end first file all [] ends so_far none = subst (λ es. EachLife P first all es) (append-nil ends) (so_far [] tt)
   each_end first file all (life ∷ now) ends so_far none = absurd (omega (arith, none))
 
--- what holds of one plan, variables and moment holds of the same
+-- a property of one plan, variables and moment is one of equal ones
 along : (P : Plan → Store → Option ℕ → Type 0) (p q : Plan) (s t : Store) (a b : Option ℕ) → p ≡ q → s ≡ t → a ≡ b
     → P p s a → P q t b
 along P p q s t a b e f g h =
     subst (λ (x : Option ℕ). P q t x) g (subst (λ (x : Store). P q x a) f (subst (λ (x : Plan). P x s a) e h))
 
--- a core that has lived these events, and what is left of it
+-- a core that has lived these events, and the file that it leaves
 pub lived_is : (first last : CoreView SimView) (held : Held) (events : List Event) (course : Course) (file : List ℕ)
     → first.acked ≡ 0 → first.failed ≡ None → first.state.log ≡ []
     → course.values.items ≡ map (λ e. e.1) first.state.start
@@ -168,7 +168,7 @@ answered_well : (front rest : List Reply) (cause : StoreFault)
 answered_well [] rest cause well = well.0 cause refl
 answered_well (reply ∷ front) rest cause well = answered_well front rest cause well.1
 
--- replies are well where each is, and generations are counted
+-- all replies are good if each is, and generations are counted
 pub all_well : (generation : ℕ) (replies : List Reply) → AllByRecursion IsWellAnswered replies
     → ((front rest : List Reply) → replies ≡ front ++ Refused (StoreFailed stores.Generations) ∷ rest
     → generation + saves 0 front ≡ 2 ^ 64 - 1) → (front rest : List Reply) (cause : StoreFault)

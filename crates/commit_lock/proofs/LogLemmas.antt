@@ -1,4 +1,4 @@
--- What the calls of a life make of its log.
+-- The log that the calls of a life make.
 use Rattle.std.proofs.Common.{◌≡◌, ◌∙◌, ℕ, zero, suc, true, List, [], ◌∷◌, ◌++◌, Option, Some, None, inl, inr, refl, sym}
 use Rattle.std.proofs.Common.{ap, subst, slice_get}
 use Rattle.std.specs.Prelude.{Result, Ok, Err, slice_set}
@@ -25,9 +25,10 @@ use Rattle.commit_lock.specs.declared.event.Reply.TheVariants.{Latched, Taken, A
 use Rattle.durable_core.specs.Cores.{CoreView, Guards}
 use Rattle.durable_core.specs.Flushing.{Flushes}
 use Rattle.commit_lock.specs.Driving.{Held, held_at, held_of, reply_to, taken_of, CommitsHeld, Step, Drives}
-use Rattle.commit_lock.specs.LogsOfLives.{Takings, Adds, Logs}
+use Rattle.commit_lock.specs.LogsOfLives.{Takings, AddsEntry, Logs}
+use Rattle.std.proofs.lemmas.Option.{same_Some}
 
--- ---- what is held is of what was taken
+-- ---- the snapshots held are those of the takings
 
 abbrev pub IsTakenAs : Option Snapshot → Option Activation → Type 0
 IsTakenAs None taken = Unit {0}
@@ -54,9 +55,6 @@ taken_used (x ∷ held) [] i are = absurd are
 taken_used (x ∷ held) (y ∷ takings) zero are = (tt, are.1)
 taken_used (x ∷ held) (y ∷ takings) (suc i) are = (are.0, taken_used held takings i are.1)
 
-some_same : {X : Type 0} (a b : X) → ◌≡◌ {A = Option X} (Some a) (Some b) → a ≡ b
-some_same a b e = cc
-
 none_some : {X : Type 0} (b : X) → ◌≡◌ {A = Option X} None (Some b) → ⊥
 none_some b e = cc
 
@@ -68,24 +66,24 @@ taken_at [] (x ∷ takings) i s are at = absurd are
 taken_at (x ∷ held) [] i s are at = absurd are
 taken_at (None ∷ held) (y ∷ takings) zero s are at = absurd (none_some s at)
 taken_at (Some x ∷ held) (y ∷ takings) zero s are at =
-    ap (λ a. Some a) (are.0 ∙ ap (λ (z : Snapshot). Some z.activation) (some_same x s at))
+    ap (λ a. Some a) (are.0 ∙ ap (λ (z : Snapshot). Some z.activation) (same_Some x s at))
 taken_at (x ∷ held) (y ∷ takings) (suc i) s are at = taken_at held takings i s are.1 at
 
 -- ---- one event
 
--- the life goes on, and its log has what the event adds
+-- the life goes on, and its log has the entry that the event adds
 pub record Continues (old new : State) (takings : Takings) (event : Event) (reply : Reply) (kept : Held) : Type 0 where
   pub plan_is : new.plan ≡ old.plan
   pub start_is : new.start ≡ old.start
   pub before_is : new.before ≡ old.before
   pub taken : Takings
-  pub adds : Adds (plan_view old.plan) old.start old.log takings event reply new.log taken
+  pub adds : AddsEntry (plan_view old.plan) old.start old.log takings event reply new.log taken
   pub are : AreTaken kept taken
 
 -- nothing is added
 still : (old new : State) (takings : Takings) (event : Event) (reply : Reply) (kept : Held) → new ≡ old
     → AreTaken kept takings
-    → ((log : Log) → log ≡ old.log → Adds (plan_view old.plan) old.start old.log takings event reply log takings)
+    → ((log : Log) → log ≡ old.log → AddsEntry (plan_view old.plan) old.start old.log takings event reply log takings)
     → Continues old new takings event reply kept
 still old new takings event reply kept same are adds = record {
   plan_is = ap (λ (s : State). s.plan) same;

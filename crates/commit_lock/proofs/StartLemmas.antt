@@ -1,9 +1,7 @@
--- Starts that a trace tells.
+-- Starts that a trace gives.
 use Rattle.std.proofs.Common.{◌≡◌, ◌∙◌, ap, sym, refl, subst, ℕ, suc, arith, Bool, true, false, List, [], ◌∷◌, ◌++◌, map, length, ◌&&◌}
 use Rattle.std.proofs.Common.{if◌then◌else◌, Option, Some, None, IfSome, option_map, append_assoc}
-use Rattle.std.specs.Prelude.{bytes_eq}
 use Rattle.std.specs.List.{All, AllByRecursion, find}
-use Rattle.std.proofs.lemmas.Bool.{and_parts}
 use Rattle.std.proofs.lemmas.List.{length-map}
 use Rattle.st_types.specs.declared.limits.TheConstants.{MAX_LOG_ROOM}
 use Rattle.st_types.specs.Kinds.{holds}
@@ -12,24 +10,27 @@ use Rattle.st_types.specs.Values.{Datum, IsHeld}
 use Rattle.st_meaning.specs.declared.plan.PlanVariable.{PlanVariable}
 use Rattle.st_meaning.specs.declared.plan.PlanInput.{PlanInput}
 use Rattle.st_meaning.specs.Stores.{Store}
-use Rattle.st_meaning.specs.Slots.{variables_in}
-use Rattle.st_meaning.specs.Layouts.{Enumerations, layout_of, path_text, type_text}
-use Rattle.st_meaning.specs.Restarts.{Kept, KeptLine, Start, cold_start, is_line_of, kept, restarted, value_in, warm_start}
+use Rattle.st_meaning.specs.Slots.{variables_with}
+use Rattle.st_meaning.specs.Layouts.{Enumerations, layout_of}
+use Rattle.st_meaning.specs.Restarts.{Kept, KeptLine, Start, cold_start, is_line_of, kept, restarted, restored_value, warm_start}
+use Rattle.st_meaning.proofs.RestartLemmas.{restarted_held, restarted_typed}
 use Rattle.plan.specs.declared.plan.Plan.{Plan}
 use Rattle.plan.specs.PlanViews.{plan_view}
 use Rattle.serial_core.specs.Steps.{State, store_in}
 use Rattle.core_values.specs.Restored.{restored}
-use Rattle.serial_core.specs.Retained.{paired, retained_kinds, retained_paths, retained_values, told_by}
+use Rattle.serial_core.specs.Retained.{paired, retained_kinds, retained_paths, retained_values, kept_from}
 use Rattle.serial_core.proofs.PlanSlots.{no_variables}
 use Rattle.serial_core.proofs.RetainedLemmas.{goes_by_itself, kept_paired, kinds_kept, restart_is, restored_back, restored_typed}
 use Rattle.durable_core.specs.Starting.{started}
 use Rattle.durable_core.specs.declared.starting.StartMode.{StartMode}
 use Rattle.durable_core.specs.declared.starting.StartMode.TheVariants.{Warm, Cold}
-use Rattle.trace.specs.Reads.{Begins, Follows}
-use Rattle.trace.specs.Heads.{AreKept, IsEarly, MayBegin, begin_of, kept_lines}
-use Rattle.commit_lock.specs.Starts.{IsBegun, IsBegunAt, IsBegunSo, head_of, kept_of}
+use Rattle.trace.specs.Reads.{BeginsWith, IsRestAfter}
+use Rattle.trace.specs.Heads.{AreKept, MayBegin, begin_of, kept_lines}
+use Rattle.commit_lock.specs.Starts.{IsBegun, IsBegunAt, IsBegunBy, head_of, kept_of}
 use Rattle.trace.specs.Texts.{begin_text, keep_text}
-use Rattle.trace.proofs.ReadLemmas.{both_are, none_some}
+use Rattle.trace.proofs.ReadLemmas.{none_some}
+use Rattle.std.proofs.lemmas.Option.{some_pair_parts}
+use Rattle.retain_records.specs.RecordLaws.{IsMoment}
 
 -- ---- a cold start
 
@@ -43,8 +44,8 @@ begun_is : (plan : Plan) (start : Start) (life : State) → life ≡ started pla
 begun_is plan start life is same = is ∙ ap (life_of plan) same
 
 pub cold_begins : (plan : Plan) (life : State) (text words : List ℕ) (o : Option (List ℕ))
-    → life ≡ life_of plan (cold_start (plan_view plan)) → words ≡ kept_of life → Follows text words o
-    → Begins (IsBegunAt plan Cold None) kept_of text (option_map {T = List ℕ} {U = State × List ℕ} (λ rest. (life, rest)) o)
+    → life ≡ life_of plan (cold_start (plan_view plan)) → words ≡ kept_of life → IsRestAfter text words o
+    → BeginsWith (IsBegunAt plan Cold None) kept_of text (option_map {T = List ℕ} {U = State × List ℕ} (λ rest. (life, rest)) o)
 cold_begins plan life text words o is spelled follows = (there o follows.0, only)
   where
     begun : IsBegunAt plan Cold None life
@@ -67,7 +68,7 @@ cold_begins plan life text words o is spelled follows = (there o follows.0, only
 
 -- a cold start has no moment
 pub cold_without_moment : (plan : Plan) (moment : ℕ) (text : List ℕ)
-    → Begins (IsBegunAt plan Cold (Some moment)) kept_of text None
+    → BeginsWith (IsBegunAt plan Cold (Some moment)) kept_of text None
 cold_without_moment plan moment text = (tt, only)
   where
     only : (s : State) (more : List ℕ) → IsBegunAt plan Cold (Some moment) s → text ≡ kept_of s ++ more
@@ -77,35 +78,6 @@ cold_without_moment plan moment text = (tt, only)
         let bad : Some moment ≡ None = sym may.1 ∙ none in absurd (cc)
 
 -- ---- a warm start
-
--- a variable's value after a restart is one of its type
-held_at : (types : Enumerations) (v : PlanVariable) (l : KeptLine) (found : Option KeptLine) (b : Bool) → is_line_of types v l ≡ b
-    → holds v.initial.kind (value_in v found).number ≡ true
-    → holds v.initial.kind (value_in v (if b then Some l else found)).number ≡ true
-held_at types v l found true is rest =
-    (and_parts (bytes_eq (path_text v.path) l.path && bytes_eq (type_text types v.initial.kind) l.spelling)
-    (holds v.initial.kind l.number) is).1
-held_at types v l found false is rest = rest
-
-held_in : (types : Enumerations) (v : PlanVariable) (lines : List KeptLine) → holds v.initial.kind v.initial.number ≡ true
-    → holds v.initial.kind (value_in v (find (is_line_of types v) lines)).number ≡ true
-held_in types v [] held = held
-held_in types v (l ∷ lines) held =
-    held_at types v l (find (is_line_of types v) lines) (is_line_of types v l) refl (held_in types v lines held)
-
-value_typed : (v : PlanVariable) (found : Option KeptLine) → (value_in v found).kind ≡ v.initial.kind
-value_typed v None = refl
-value_typed v (Some l) = refl
-
-restarted_typed : (types : Enumerations) (v : PlanVariable) (lines : List KeptLine) (r : Bool)
-    → (if r then value_in v (find (is_line_of types v) lines) else v.initial).kind ≡ v.initial.kind
-restarted_typed types v lines true = value_typed v (find (is_line_of types v) lines)
-restarted_typed types v lines false = refl
-
-restarted_held : (types : Enumerations) (v : PlanVariable) (lines : List KeptLine) (r : Bool) → holds v.initial.kind v.initial.number ≡ true
-    → holds v.initial.kind (if r then value_in v (find (is_line_of types v) lines) else v.initial).number ≡ true
-restarted_held types v lines true held = held_in types v lines held
-restarted_held types v lines false held = held
 
 abbrev pub AreHeld : List PlanVariable → Type 0
 AreHeld vs = AllByRecursion (λ v. IsHeld v.initial) vs
@@ -139,11 +111,11 @@ held_of types lines (v ∷ vs) held =
     subst (λ k. holds k (restarted types lines v).number ≡ true) (sym kind) (restarted_held types v lines v.retained held.0) in
     held_if (restarted types lines v) (retained_values vs (values_of types lines vs)) v.retained one (held_of types lines vs held.1)
 
--- what is not retained has its initial value
+-- a variable that is not retained has its initial value
 restored_if : (types : Enumerations) (v : PlanVariable) (vs : List PlanVariable) (lines : List KeptLine) (r : Bool) → v.retained ≡ r
     → values_of types lines vs ≡ restored vs (retained_values vs (values_of types lines vs))
     → values_of types lines (v ∷ vs) ≡ restored (v ∷ vs) (retained_values (v ∷ vs) (values_of types lines (v ∷ vs)))
-restored_if types v vs lines true is rest = rw is (ap (λ ds. value_in v (find (is_line_of types v) lines) ∷ ds) rest)
+restored_if types v vs lines true is rest = rw is (ap (λ ds. restored_value v (find (is_line_of types v) lines) ∷ ds) rest)
 restored_if types v vs lines false is rest = rw is (ap (λ ds. v.initial ∷ ds) rest)
 
 restored_of : (types : Enumerations) (lines : List KeptLine) (vs : List PlanVariable)
@@ -153,11 +125,11 @@ restored_of types lines (v ∷ vs) = restored_if types v vs lines v.retained ref
 
 -- a restart's variables, by their slots
 stored : (types : Enumerations) (lines : List KeptLine) (vs : List PlanVariable) (ins : List PlanInput)
-    → map (λ v. (v.path, restarted types lines v)) vs ≡ variables_in (layout_of vs ins) (values_of types lines vs)
+    → map (λ v. (v.path, restarted types lines v)) vs ≡ variables_with (layout_of vs ins) (values_of types lines vs)
 stored types lines [] ins = sym (no_variables ins [])
 stored types lines (v ∷ vs) ins = ap (λ t. (v.path, restarted types lines v) ∷ t) (stored types lines vs ins)
 
--- the lines of what some values of the retained variables make
+-- the lines of some values of the retained variables
 lines_are : (plan : Plan) (ws : List Datum) → map (λ d. d.kind) ws ≡ retained_kinds plan.variables.items
     → keep_text (plan_view plan).enumerations (kept (plan_view plan) (store_in plan (restored plan.variables.items ws)))
     ≡ kept_lines (plan_view plan).enumerations plan.variables.items ws
@@ -169,14 +141,14 @@ lines_are plan ws kinds =
     ap (keep_text (plan_view plan).enumerations) (kept_paired _ vs plan.inputs.items (restored vs ws) long (goes_by_itself vs plan.sound.different)
     ∙ ap (paired (retained_paths vs)) (restored_back vs ws kinds))
 
--- the same of what a record of them tells
+-- the same for a record of them
 pub told_is : (plan : Plan) (ws : List Datum) (moment : Option ℕ) → AreKept plan.variables.items ws
-    → (warm_start (plan_view plan) (Some (told_by plan ws moment))).store
+    → (warm_start (plan_view plan) (Some (kept_from plan ws moment))).store
     ≡ store_in plan (restored plan.variables.items ws)
 told_is plan ws moment are =
     restart_is (plan_view plan).enumerations plan.variables.items plan.inputs.items ws plan.sound.different are.0 are.1
 
--- a warm start is made of what it keeps
+-- a warm start is made of the values kept
 pub record IsOfKept (plan : Plan) (start : Start) : Type 0 where
   pub values : List Datum
   pub are : AreKept plan.variables.items values
@@ -196,7 +168,7 @@ of_lines plan lines moment held =
       store = stored types lines vs plan.inputs.items ∙ ap (store_in plan) (restored_of types lines vs);
     }
 
--- without a record the initial values are kept, as if no line of one were any variable's
+-- without a record the initial values are kept, as if none of its lines were for a variable
 initial_if : (v : PlanVariable) (r : Bool) → (if r then v.initial else v.initial) ≡ v.initial
 initial_if v true = refl
 initial_if v false = refl
@@ -220,7 +192,7 @@ of_kept plan (Some r) held = of_lines plan r.lines r.moment held
 -- the life that goes on from these values
 abbrev pub warm_life : Plan → Option ℕ → List Datum → State
 warm_life plan moment ws = life_of plan record {
-  store = (warm_start (plan_view plan) (Some (told_by plan ws moment))).store;
+  store = (warm_start (plan_view plan) (Some (kept_from plan ws moment))).store;
   moment = moment;
 }
 
@@ -229,9 +201,9 @@ with_life plan moment o = option_map {T = List Datum × List ℕ} {U = State × 
     (λ p. (warm_life plan moment p.0, p.1)) o
 
 pub warm_begins : (plan : Plan) (moment : Option ℕ) (text : List ℕ) (o : Option (List Datum × List ℕ))
-    → IsEarly moment → AreHeld plan.variables.items
-    → Begins (AreKept plan.variables.items) (kept_lines (plan_view plan).enumerations plan.variables.items) text o
-    → Begins (IsBegunAt plan Warm moment) kept_of text (with_life plan moment o)
+    → IsMoment moment → AreHeld plan.variables.items
+    → BeginsWith (AreKept plan.variables.items) (kept_lines (plan_view plan).enumerations plan.variables.items) text o
+    → BeginsWith (IsBegunAt plan Warm moment) kept_of text (with_life plan moment o)
 warm_begins plan moment text o early held begins = (there o begins.0, only)
   where
     lines_of : (ws : List Datum) → AreKept plan.variables.items ws
@@ -244,7 +216,7 @@ warm_begins plan moment text o early held begins = (there o begins.0, only)
         → IfSome (with_life plan moment u) (λ p. IsBegunAt plan Warm moment p.0 × (text ≡ kept_of p.0 ++ p.1))
     there None h = tt
     there (Some (ws, rest)) h = (
-      ((refl, (Some (told_by plan ws moment), refl), early), refl),
+      ((refl, (Some (kept_from plan ws moment), refl), early), refl),
       h.1 ∙ ap (λ w. w ++ rest) (sym (lines_of ws h.0)),
     )
 
@@ -275,13 +247,13 @@ pair_parts : {A B : Type 0} (a x : A) (b y : B) → ◌≡◌ {A = A × B} (a, b
 pair_parts {A} {B} a x b y e = (ap (λ (p : A × B). p.0) e, ap (λ (p : A × B). p.1) e)
 
 pub start_begins : (plan : Plan) (text lines : List ℕ) (mode : StartMode) (moment : Option ℕ)
-    (o : Option (State × List ℕ)) → Begins MayBegin (begin_of plan.budget) text (Some ((mode, moment), lines))
-    → Begins (IsBegunAt plan mode moment) kept_of lines o → Begins (IsBegunSo plan) head_of text (with_mode mode o)
+    (o : Option (State × List ℕ)) → BeginsWith MayBegin (begin_of plan.budget) text (Some ((mode, moment), lines))
+    → BeginsWith (IsBegunAt plan mode moment) kept_of lines o → BeginsWith (IsBegunBy plan) head_of text (with_mode mode o)
 start_begins plan text lines mode moment o begin rest = (there o rest.0, only)
   where
     there : (u : Option (State × List ℕ))
         → IfSome u (λ p. IsBegunAt plan mode moment p.0 × (lines ≡ kept_of p.0 ++ p.1))
-        → IfSome (with_mode mode u) (λ p. IsBegunSo plan p.0 × (text ≡ head_of p.0 ++ p.1))
+        → IfSome (with_mode mode u) (λ p. IsBegunBy plan p.0 × (text ≡ head_of p.0 ++ p.1))
     there None h = tt
     there (Some (life, more)) h =
         let plan_is : life.plan ≡ plan = ap (λ (x : State). x.plan) h.0.0.0 in
@@ -294,26 +266,26 @@ start_begins plan text lines mode moment o begin rest = (there o rest.0, only)
               ∙ sym (append_assoc (begin_text life.plan.budget mode life.before) (kept_of life) more),
         )
 
-    only : (told : StartMode × State) (more : List ℕ) → IsBegunSo plan told → text ≡ head_of told ++ more
+    only : (told : StartMode × State) (more : List ℕ) → IsBegunBy plan told → text ≡ head_of told ++ more
         → with_mode mode o ≡ Some (told, more)
     only (m, s) more may e =
         let plan_is : s.plan ≡ plan = ap (λ (x : State). x.plan) may.0 in
         let split : text ≡ begin_text plan.budget m s.before ++ (kept_of s ++ more) =
         e ∙ append_assoc (begin_text s.plan.budget m s.before) (kept_of s) more
         ∙ ap (λ (p : Plan). begin_text p.budget m s.before ++ (kept_of s ++ more)) plan_is in
-        let first = both_are (mode, moment) (m, s.before) lines (kept_of s ++ more)
+        let first = some_pair_parts (mode, moment) (m, s.before) lines (kept_of s ++ more)
         (begin.1 (m, s.before) (kept_of s ++ more) may.2 split) in
         let parts = pair_parts mode m moment s.before first.0 in
         let begun : IsBegunAt plan mode moment s =
         (subst (λ (x : StartMode). IsBegun plan x s) (sym parts.0) may, sym parts.1) in
         ap (with_mode mode) (rest.1 s more begun first.1) ∙ ap (λ (x : StartMode). Some ((x, s), more)) parts.0
 
--- where the first lines are none
-pub start_not : (plan : Plan) (text : List ℕ) → Begins MayBegin (begin_of plan.budget) text None
-    → Begins (IsBegunSo plan) head_of text None
+-- if the first lines are none
+pub start_not : (plan : Plan) (text : List ℕ) → BeginsWith MayBegin (begin_of plan.budget) text None
+    → BeginsWith (IsBegunBy plan) head_of text None
 start_not plan text begin = (tt, only)
   where
-    only : (told : StartMode × State) (more : List ℕ) → IsBegunSo plan told → text ≡ head_of told ++ more
+    only : (told : StartMode × State) (more : List ℕ) → IsBegunBy plan told → text ≡ head_of told ++ more
         → ◌≡◌ {A = Option ((StartMode × State) × List ℕ)} None (Some (told, more))
     only (m, s) more may e =
         let plan_is : s.plan ≡ plan = ap (λ (x : State). x.plan) may.0 in
@@ -325,7 +297,7 @@ start_not plan text begin = (tt, only)
 abbrev given : List Datum → Option ℕ → State → State
 given values moment core = record {
   plan = core.plan;
-  start = (warm_start (plan_view core.plan) (Some (told_by core.plan values moment))).store;
+  start = (warm_start (plan_view core.plan) (Some (kept_from core.plan values moment))).store;
   before = moment;
   log = [];
   room = core.room;
@@ -335,7 +307,7 @@ given values moment core = record {
 pub resumed_life : (plan : Plan) (core new : State) (values items : List Datum) (moment : Option ℕ)
     → core ≡ life_of plan (cold_start (plan_view plan)) → values ≡ items → new ≡ record {
       plan = core.plan;
-      start = (warm_start (plan_view core.plan) (Some (told_by core.plan values moment))).store;
+      start = (warm_start (plan_view core.plan) (Some (kept_from core.plan values moment))).store;
       before = moment;
       log = [];
       room = core.room;

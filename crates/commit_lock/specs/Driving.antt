@@ -25,14 +25,14 @@ use Rattle.durable_core.specs.Flushing.{Flushes, CountsFlush}
 use Rattle.durable_core.specs.Restart.{Survives}
 use Rattle.commit_lock.specs.LogsOfLives.{Takings, Logs}
 
--- what each take gave so far: none where nothing waited or the take was refused, and none once it was used
+-- the result of each take so far: none if nothing waited or the take was refused, and none once it was used
 abbrev pub Held : Type 0
 Held = List (Option Snapshot)
 
 abbrev pub held_at : Held → ℕ → Option Snapshot
 held_at held i = option_and_then (λ o. o) (slice_get held i)
 
--- what an answer is as a reply
+-- an answer as a reply
 abbrev pub reply_to : {A : Type 0} → (A → Reply) → Result A Refusal → Reply
 reply_to said (Ok a) = said a
 reply_to said (Err refusal) = Refused refusal
@@ -42,12 +42,12 @@ abbrev pub taken_of : Option Snapshot → Reply
 taken_of None = Taken false
 taken_of (Some snapshot) = Taken true
 
--- what is held of what a take gives
+-- the snapshot held from the result of a take
 abbrev pub held_of : Result (Option Snapshot) Refusal → Option Snapshot
 held_of (Ok taken) = taken
 held_of (Err refusal) = None
 
--- how many entries are acknowledged after a reply: what a flush says, else as many as before
+-- how many entries are acknowledged after a reply: the number a flush gives, else as many as before
 abbrev pub acked_after : ℕ → Reply → ℕ
 acked_after acked (Latched n) = acked
 acked_after acked (Taken t) = acked
@@ -60,27 +60,27 @@ abbrev pub acked_by : ℕ → List Reply → ℕ
 acked_by acked [] = acked
 acked_by acked (reply ∷ replies) = acked_by (acked_after acked reply) replies
 
--- how many records a reply tells of: one where a flush acknowledges more than was
+-- how many records a reply implies: one if a flush acknowledges more than before
 abbrev pub saved : ℕ → Reply → ℕ
 saved acked (Flushed n) = cond (n == acked) 0 1
 saved acked reply = 0
 
--- how many records these replies tell of
+-- how many records these replies imply
 abbrev pub saves : ℕ → List Reply → ℕ
 saves acked [] = 0
 saves acked (reply ∷ replies) = saved acked reply + saves (acked_after acked reply) replies
 
--- the disk serves a whole file, and where the store has failed its generations are used up
+-- the disk serves a whole file, and if the store has failed its generations are used up
 abbrev pub IsWell : {D : Type 0} → (D → ℕ → Type 0) → CoreView D → Type 0
 IsWell serves core = serves core.store.disk FILE_BYTES
     × ((cause : StoreFault) → core.failed ≡ Some cause → cause ≡ stores.Generations)
 
--- where the reply is K5, the generations are used up
+-- if the reply is K5, the generations are used up
 abbrev pub IsWellAnswered : Reply → Type 0
 IsWellAnswered reply = (cause : StoreFault) → reply ≡ Refused (StoreFailed cause) → cause ≡ stores.Generations
 
 module _ {D : Type 0} (failure_count : D → ℕ) where
-  -- what was held is run and committed, unless there is nothing, or no memory to run it
+  -- the snapshot held is run and committed, unless there is none, or no memory to run it
   abbrev pub CommitsHeld : CoreView D → Option Snapshot → Reply → CoreView D → Type 0
   CommitsHeld old None reply new = (reply ≡ Refused (Serial NotWaiting)) × (new ≡ old)
   CommitsHeld old (Some snapshot) reply new =
@@ -88,7 +88,7 @@ module _ {D : Type 0} (failure_count : D → ℕ) where
       ((effect : Effect) × (result : Result Answer Refusal) × IsEffectOf snapshot effect
       × Guards old result new (λ r. Commits old.state effect r new.state) × (reply ≡ reply_to Answered result))
 
-  -- one event, its reply, and what is there and held after it
+  -- one event, its reply, and the core and the snapshots held after it
   abbrev pub Step : CoreView D → Held → Event → Reply → CoreView D → Held → Type 0
   Step old held (Latch row) reply new kept =
       (result : Result ℕ Refusal) × Guards old result new (λ r. Latches old.state row r new.state)
@@ -105,8 +105,8 @@ module _ {D : Type 0} (failure_count : D → ℕ) where
       × CountsFlush result (failure_count old.store.disk) (failure_count new.store.disk) old new
       × (reply ≡ reply_to Flushed result) × (kept ≡ held)
 
--- The file survives for what some front of these calls, answered so, leaves of a life that has come so far: for the log that
--- they tell, with all that they have acknowledged.
+-- The file survives for the life so far and some front of these calls with their answers: for the log that they make, with
+-- all that they have acknowledged.
 pub record SurvivesSomeFront (life : State) (takings : Takings) (acked : ℕ) (events : List Event) (replies : List Reply)
     (file : Recovered) : Type 0 where
   pub front : List Event
@@ -119,7 +119,7 @@ pub record SurvivesSomeFront (life : State) (takings : Takings) (acked : ℕ) (e
   pub logged : Logs (plan_view life.plan) life.start life.log takings front said log
   pub survives : Survives life.plan life.start life.before log (acked_by acked said) file
 
--- The events one after another, with their replies; each survives a stop, on a disk that tells its facts.
+-- The events one after another, with their replies; each survives a stop, on a disk that reports its facts.
 module _ {D : Type 0} (failure_count : D → ℕ) (tells : Type 0) (left_since : D → D → List ℕ → Type 0)
     (may_leave : D → List ℕ → Type 0) where
   abbrev pub Drives : CoreView D → Held → List Event → List Reply → CoreView D → Held → Type 0
@@ -130,10 +130,10 @@ module _ {D : Type 0} (failure_count : D → ℕ) (tells : Type 0) (left_since :
   Drives old held [] (reply ∷ replies) new kept = ⊥
   Drives old held (event ∷ events) [] new kept = ⊥
 
-  -- Power fails at one call of a list. The calls before it, answered so, have led to one core; that call, answered so,
-  -- leads to another; and the calls after it go on from there to the last. A stop within the call leaves a file from
-  -- which a warm restart gives what a prefix of the log before it leaves, and a stop after it one that gives what a
-  -- prefix of the log then leaves. The prefix holds all that the answers until then have acknowledged.
+  -- Power fails at one call of a list. The calls before it, with these answers, have led to one core; that call, with its
+  -- answer, leads to another; and the calls after it go on from there to the last. A stop within the call leaves a file from
+  -- which a warm restart gives the values after a prefix of the log before it, and a stop after it one that gives the values
+  -- after a prefix of the log then. The prefix holds all that the answers until then have acknowledged.
   pub record Endures (old : CoreView D) (held : Held) (acked : ℕ) (front : List Event) (said : List Reply)
       (event : Event) (reply : Reply) (rest : List Event) (answers : List Reply) (last : CoreView D) : Type 0 where
     pub before : CoreView D

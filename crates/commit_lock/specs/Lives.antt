@@ -31,8 +31,7 @@ use Rattle.commit_lock.specs.declared.life.Course.{Course}
 use Rattle.commit_lock.specs.declared.life.LifeEnd.{LifeEnd}
 use Rattle.commit_lock.specs.LogsOfLives.{IsLogOf}
 
--- what holds of each life, the file over which it begins, and its end; a life begins over the file that the one before
--- it left
+-- a property of each life, the file over which it begins, and its end; each life begins over the file of the one before
 abbrev pub EachLife : (List ℕ → Life → LifeEnd → Type 0) → List ℕ → List Life → List LifeEnd → Type 0
 EachLife P file [] [] = Unit {0}
 EachLife P file (life ∷ lives) (end ∷ ends) = P file life end × EachLife P end.file.items lives ends
@@ -47,8 +46,8 @@ beginning plan file life = started plan life.log_room (start_of life.mode plan (
 abbrev pub disk_of : List ℕ → Life → SimView
 disk_of file life = record (fresh file) { failing = life.fails; stop = life.stop }
 
--- The store after a start: it has the record of what the life starts with, of the next generation, where the start saves
--- it, else what the file was recovered to.
+-- The store after a start: it has the record of the values with which the life starts, of the next generation, if the start
+-- saves it, else the values to which the file was recovered.
 pub record IsStoreBegun {D : Type 0} (mode : StartMode) (plan : Plan) (file : Recovered) (store : StoreView D) : Type 0
   where
     pub saved : Saves mode plan file → store.last ≡ Found (next_generation file) (start_record mode plan file)
@@ -62,8 +61,8 @@ generation_begun Warm plan (Found generation content) =
     if bytes_eq content.layout (layout_text_of plan) then generation else generation + 1
 generation_begun Warm plan other = 0
 
--- A core as a life has it after its start, over a disk with this file. What a stop might have left so far is what the
--- file was, or, where the start saves it, the record of what the life starts with.
+-- The core of a life after its start, over a disk with this file. A stop so far may have left the file as it was or, if the
+-- start saves it, the record of the values with which the life starts.
 pub record IsFirst (plan : Plan) (file : List ℕ) (life : Life) (core : CoreView SimView) : Type 0 where
   pub mode : core.mode ≡ life.mode
   pub state : core.state ≡ beginning plan file life
@@ -79,7 +78,7 @@ pub record IsFirst (plan : Plan) (file : List ℕ) (life : Life) (core : CoreVie
 abbrev pub Calls : CoreView SimView → Held → List Event → List Reply → CoreView SimView → Held → Type 0
 Calls = Drives (λ disk. disk.failures) (Unit {0}) (λ old disk. MayLeave disk.medium) (λ disk. MayLeave disk.medium)
 
--- the number that a flush was answered, else 0
+-- the number that a flush answered, else 0
 abbrev pub flushed : Reply → ℕ
 flushed (Flushed n) = n
 flushed reply = 0
@@ -89,7 +88,7 @@ abbrev pub most_flushed : List Reply → ℕ
 most_flushed [] = 0
 most_flushed (reply ∷ replies) = max (flushed reply) (most_flushed replies)
 
--- These replies are those of this core, to these events one after another, with so much acknowledged after them.
+-- These replies are those of this core, to these events one after another, with this number acknowledged after them.
 pub record IsAnsweredBy (first : CoreView SimView) (events : List Event) (replies : List Reply) (acked : ℕ) : Type 0
   where
     pub last : CoreView SimView
@@ -103,7 +102,7 @@ pub record IsCourse (plan : Plan) (file : List ℕ) (life : Life) (replies : Lis
   pub begins : IsFirst plan file life first
   pub answers : IsAnsweredBy first life.events.items replies acked
 
--- The file survives for the log that the events and replies tell, which is legal and of this length, and for what is
+-- The file survives for the log that the events and replies make, which is legal and of this length, and for the entries
 -- acknowledged.
 pub record IsLeft (begin : State) (events : List Event) (replies : List Reply) (len acked : ℕ) (file : List ℕ) : Type 0
   where
@@ -113,7 +112,7 @@ pub record IsLeft (begin : State) (events : List Event) (replies : List Reply) (
     pub legal : IsLegal (plan_view begin.plan) begin.start begin.before log
     pub survives : Survives begin.plan begin.start begin.before log acked (recovered file)
 
--- K5 comes only where the generations are used up: this one, and one more for each record until then.
+-- K5 comes only if the generations are used up: this one, and one more for each record until then.
 abbrev pub IsAllWell : ℕ → Course → Type 0
 IsAllWell generation course = (front rest : List Reply) (cause : StoreFault)
     → course.replies.items ≡ front ++ Refused (StoreFailed cause) ∷ rest
@@ -126,10 +125,10 @@ pub record IsLived (first : CoreView SimView) (events : List Event) (course : Co
   pub acked : course.acked ≡ most_flushed course.replies.items
   pub left : IsLeft first.state events course.replies.items course.len course.acked file
 
--- what holds of a life over a file, and its end
+-- the properties of a life over a file, and its end
 
-abbrev pub BeginsSo : Plan → List ℕ → Life → LifeEnd → Type 0
-BeginsSo plan file life end = MatchResult end.course
+abbrev pub BeginsFrom : Plan → List ℕ → Life → LifeEnd → Type 0
+BeginsFrom plan file life end = MatchResult end.course
     (λ course. CanStart life.mode plan (recovered file)
     × (course.values.items ≡ map (λ e. e.1) (beginning plan file life).start))
     (λ fault. RefusesStart life.mode plan (recovered file) fault)
@@ -154,9 +153,9 @@ HasCause plan file life end = life.stop ≡ None → life.fails ≡ None → Mat
     (IsAllWell (generation_begun life.mode plan (recovered file)))
     (λ fault. fault ≢ faults.Store stores.Device)
 
--- all of it
+-- all of them
 pub record IsLife (plan : Plan) (file : List ℕ) (life : Life) (end : LifeEnd) : Type 0 where
-  pub begins : BeginsSo plan file life end
+  pub begins : BeginsFrom plan file life end
   pub answered : IsAnswered plan file life end
   pub acked : IsAcked file life end
   pub survives : LeavesLog plan file life end

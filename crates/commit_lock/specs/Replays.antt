@@ -1,4 +1,4 @@
--- What a trace tells, and what is told of its replay.
+-- The contents of a trace, and the findings of its replay.
 use Rattle.std.specs.Prelude.{◌≡◌, ◌<◌, ◌≤◌, ◌-◌, ◌^◌, ℕ, min, List, ◌++◌, Bool, true, false, length, map, sum}
 use Rattle.std.specs.Prelude.{count_by, slice_index, Option, Some, None, IfSome, Result, MatchResult}
 use Rattle.st_types.specs.declared.limits.TheConstants.{MAX_LOG_ROOM, MOMENT_LIMIT}
@@ -19,8 +19,7 @@ use Rattle.trace.specs.Texts.{trace_text}
 use Rattle.trace.specs.Rests.{rows_in}
 use Rattle.commit_lock.specs.declared.findings.Replayed.{Replayed}
 
--- The text is the trace of a legal log, which a core has room for. The life was started so, and its rows are the first
--- of these.
+-- The text is the trace of a legal log, for which a core has room. The life has this start, and the first of these rows.
 pub record IsTrace (plan : Plan) (rows : List Latch) (text : List ℕ) (mode : StartMode) (start : Start) (log : Log)
     : Type 0 where
   pub started : IsStart plan mode start
@@ -44,8 +43,8 @@ pub record HasOverrunsInAll (plan : Plan) (start : Start) (log : Log) (n : ℕ) 
       (past_of (plan_view plan) start.store log).history p (slice_index each p)
   pub total : n ≡ min (sum each) (2 ^ 64 - 1)
 
--- what is told of a life with this start and this log: how many rows, executions, faults and overruns, and the values of
--- the variables after it
+-- the findings on a life with this start and this log: how many rows, executions, faults and overruns, and the values of the
+-- variables after it
 pub record AreFindings (plan : Plan) (start : Start) (log : Log) (rows done faults overruns : ℕ) (values : List Datum)
     : Type 0 where
   pub rows_are : rows ≡ row_count log
@@ -54,8 +53,8 @@ pub record AreFindings (plan : Plan) (start : Start) (log : Log) (rows done faul
   pub overruns_are : HasOverrunsInAll plan start log overruns
   pub values_are : values ≡ map (λ e. e.1) (after (plan_view plan) start.store log)
 
--- A replay accepts each life whose trace the text is: it tells the counts and values of that life, unless it may be
--- refused so.
+-- A replay accepts each life whose trace the text is: it gives the counts and values of that life, unless it may be refused
+-- with this error.
 abbrev pub Accepts : Plan → List Latch → List ℕ → (ReplayError → Type 0) → Result Replayed ReplayError → Type 0
 Accepts plan rows text May result = (mode : StartMode) (start : Start) (log : Log)
     → IsTrace plan rows text mode start log → MatchResult result

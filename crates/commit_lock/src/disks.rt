@@ -9,7 +9,7 @@ ghost use Rattle.retain_store.specs.declared.shape.TheConstants.{FILE_BYTES};
 use disk::{SimDisk, Stop};
 use std::alloc::{AllocError, Global};
 
-/// A disk with this file, all of it synced, that fails and stops so.
+/// A disk with this file, all of it synced, that fails and stops at these steps.
 pub(crate) fn disk_of(
     alloc: Global,
     file: Vec<u8>,

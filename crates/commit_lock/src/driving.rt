@@ -20,7 +20,7 @@ use durable_core::{Core, Refusal};
 use slot_run::{Snapshot, run};
 use std::alloc::{AllocError, Global};
 
-/// The snapshot that is held under a number, which holds none from then on.
+/// Takes out the snapshot that is held under a number, which holds none from then on.
 fn take_held(held: &mut Vec<Option<Snapshot>>, i: usize) -> Option<Snapshot>
     ensures value { result ≡ held_at held.old.items i }
     ensures rest { held.new.items ≡ slice_set held.old.items i None }
@@ -29,7 +29,7 @@ fn take_held(held: &mut Vec<Option<Snapshot>>, i: usize) -> Option<Snapshot>
     if i < held.len() { held[i].take() } else { None }
 }
 
-/// Runs what was held, and commits it.
+/// Runs and commits the snapshot that was held.
 fn commit_held<D: Disk>(core: &mut Core<D>, alloc: Global, held: Option<Snapshot>) -> Reply
     ensures commits { CommitsHeld D.failure_count core.old held result core.new }
     ensures outlives { D.tells → Outlives D.left_since D.may_leave core.old core.new }
@@ -48,7 +48,7 @@ fn commit_held<D: Disk>(core: &mut Core<D>, alloc: Global, held: Option<Snapshot
     }
 }
 
-/// Takes for a resource, and holds what it gives.
+/// Takes for a resource, and holds the snapshot taken.
 fn take_to_hold<D: Disk>(
     core: &Core<D>,
     alloc: Global,
@@ -75,7 +75,7 @@ fn take_to_hold<D: Disk>(
     }
 }
 
-/// Answers one event, and appends what it takes to what is held.
+/// Answers one event, and appends the snapshot that it takes to those held.
 fn step<D: Disk>(
     core: &mut Core<D>,
     alloc: Global,
@@ -111,11 +111,11 @@ fn step<D: Disk>(
     }
 }
 
-/// The events one after another, with what each is answered. An error, which is out of memory for the list of replies,
-/// leaves the core as it was.
+/// Makes the calls one after another, and gives the answer to each. An error, which is out of memory for the list of
+/// replies, leaves the core as it was.
 ///
-/// A stop at any moment leaves a file from which a warm restart gives the initial values, with what is kept after a
-/// prefix of the log written over them; this prefix holds all that was acknowledged before the event in which the stop
+/// A stop at any moment leaves a file from which a warm restart gives the initial values, with the values kept after
+/// a prefix of the log written over them; this prefix holds all that was acknowledged before the event in which the stop
 /// fell.
 pub fn drive<D: Disk>(
     core: &mut Core<D>,
@@ -126,16 +126,16 @@ pub fn drive<D: Disk>(
         × Drives D.failure_count D.tells D.left_since D.may_leave core.old [] events.items replies.items core.new
         held) }
 
-    // The whole promise: whatever the calls are, and wherever power fails within one of them or after it, a warm
-    // restart gives what a prefix of the log leaves, and this prefix holds all that the answers have acknowledged.
+    // The whole promise: whatever the calls are, and wherever power fails within one of them or after it, a warm restart
+    // gives the values after a prefix of the log, and this prefix holds all that the answers have acknowledged.
     ensures survives { D.tells → IfOk result (λ replies. (front rest : List Event) (said answers : List Reply)
         (event : Event) (reply : Reply) → events.items ≡ front ++ event ∷ rest
         → replies.items ≡ said ++ reply ∷ answers → length front ≡ length said
         → Endures D.failure_count D.tells D.left_since D.may_leave core.old [] core.old.acked front said event reply
         rest answers core.new) }
 
-    // The same of the list as a whole, and of the disk that the core had and the one that it has: a stop at any moment
-    // since the first call leaves a file that survives for some front of the calls and their answers.
+    // The same for the list as a whole, and for the disk before it and the disk after it: a stop at any moment since the
+    // first call leaves a file that survives for some front of the calls and their answers.
     ensures any_moment { D.tells → IfOk result (λ replies. LeavesOnly D.left_since D.may_leave
         core.old.store.disk core.new.store.disk (λ file. SurvivesSomeFront core.old.state [] core.old.acked events.items
         replies.items (recovered file))) }

@@ -1,4 +1,4 @@
-//! Calls of a core as data, and what they are answered.
+//! Calls of a core as data, and their answers.
 
 use durable_core::Refusal;
 use serial_core::Answer;
@@ -11,24 +11,24 @@ pub enum Event {
     Latch(Row),
     /// Takes the best activation that waits on a resource, and holds it.
     Take(usize),
-    /// Runs and commits what the take of this number gave. The takes of a list are counted from 0.
+    /// Runs and commits the snapshot of the take of this number. The takes of a list are counted from 0.
     Commit(usize),
     /// Takes, runs and commits the best activation that waits on a resource, in one step.
     CommitHere(usize),
-    /// Acknowledges what is in the log.
+    /// Acknowledges the entries of the log.
     Flush,
 }
 
-/// What an event is answered.
+/// The answer to an event.
 #[derive(Clone, Copy, Debug, PartialEq, Eq)]
 pub enum Reply {
     /// The number of the row that was latched, from 0.
     Latched(usize),
     /// Whether something was taken.
     Taken(bool),
-    /// What became of an execution.
+    /// How an execution was answered.
     Answered(Answer),
-    /// The log's length after a commit in one step; none where nothing waited.
+    /// The log's length after a commit in one step; none if nothing waited.
     Here(Option<usize>),
     /// How many entries are acknowledged.
     Flushed(usize),

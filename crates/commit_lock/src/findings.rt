@@ -1,4 +1,4 @@
-//! What is told of a life that was run again.
+//! The findings on a life that was run again.
 
 ghost use Rattle.std.specs.Prelude.{◌≡◌, IfOk, length, map, count_by, option_map, slice_get, unwrap_or, false};
 ghost use Rattle.st_meaning.specs.Logs.{after, outcomes_of};
@@ -10,7 +10,7 @@ use st_meaning::Outcome;
 use st_types::Value;
 use std::alloc::{AllocError, Global};
 
-/// What is told of the life that a trace tells.
+/// The findings on the life of a trace.
 pub struct Replayed {
     /// How many rows were latched.
     pub rows: u64,

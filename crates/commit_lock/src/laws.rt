@@ -1,4 +1,4 @@
-//! The law of the traces of cores. The function only tells what a core's type keeps: its contract is the law.
+//! The law of the traces of cores. The function only states the invariant of a core's type: its contract is the law.
 
 ghost use Rattle.std.specs.Prelude.{◌≡◌, ◌++◌, List};
 ghost use Rattle.st_types.specs.Rows.{Latch};
@@ -10,8 +10,8 @@ ghost use Rattle.commit_lock.specs.Replays.{IsTrace};
 use disk::Disk;
 use durable_core::Core;
 
-/// The trace of a core, whatever came to it so far, is one of its plan: of its own start and log, over the rows of this
-/// log and any that come behind them. So a replay of it accepts it.
+/// The trace of a core, whatever came to it so far, is one of its plan: of its own start and log, over the rows of this log
+/// and any that come after them. So a replay of it accepts it.
 pub fn each_core_has_a_trace<D: Disk>(core: &Core<D>)
     ensures { (behind : List Latch) → IsTrace core.now.state.plan (rows_in core.now.state.log ++ behind)
         (trace_of core.now) core.now.mode (start_in core.now.state) core.now.state.log }

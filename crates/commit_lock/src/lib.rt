@@ -1,5 +1,5 @@
-//! Lists of calls of a core, several lives over one simulated disk, and the replay of a trace: the public calls around
-//! the core, which stand here by its own names and by re-exports.
+//! Lists of calls of a core, several lives over one simulated disk, and the replay of a trace: the public calls around the
+//! core, here under its own names and as re-exports.
 //!
 //! Each life starts from the file that the one before it left, wherever that was stopped.
 #![tactic(auto)]

@@ -6,7 +6,7 @@ ghost use Rattle.st_types.specs.declared.limits.TheConstants.{MAX_LOG_ROOM};
 ghost use Rattle.retain_store.specs.declared.shape.TheConstants.{FILE_BYTES};
 ghost use Rattle.disk.specs.Simulated.{IsReliable};
 ghost use Rattle.durable_core.specs.Starting.{IsNew};
-ghost use Rattle.commit_lock.specs.Lives.{EachLife, IsLife, IsLived, BeginsSo, IsAnswered, IsAcked, LeavesLog, IsRefused};
+ghost use Rattle.commit_lock.specs.Lives.{EachLife, IsLife, IsLived, BeginsFrom, IsAnswered, IsAcked, LeavesLog, IsRefused};
 ghost use Rattle.commit_lock.specs.Lives.{HasCause, IsAllWell};
 
 use crate::disks::disk_of;
@@ -19,7 +19,7 @@ use plan::Plan;
 use std::alloc::{AllocError, Global};
 use std::sync::Arc;
 
-/// Makes the calls of a life that was started, and lets power go.
+/// Makes the calls of a life that was started, and lets power fail.
 fn live_on(alloc: Global, core: Core<SimDisk>, events: Vec<Event>) -> Result<LifeEnd, AllocError>
     requires fresh { core.acked ≡ 0 }
     requires unfailed { core.failed ≡ None }
@@ -66,8 +66,8 @@ fn live(alloc: Global, plan: &Arc<Plan>, file: Vec<u8>, life: Life) -> Result<Li
     }
 }
 
-/// Lives these lives one after another, the first over this file, and each other over the file that the one before it
-/// left. The only error is out of memory, and gives no life's end.
+/// Lives these lives one after another, the first over this file, and each other over the file that the one before it left.
+/// The only error is out of memory, and gives no life's end.
 pub fn lives(
     alloc: Global,
     plan: &Arc<Plan>,
@@ -76,24 +76,24 @@ pub fn lives(
 ) -> Result<Vec<LifeEnd>, AllocError>
     requires room { AllByRecursion (λ life. life.log_room ≤ MAX_LOG_ROOM) lives.items }
 
-    // A life that was started begins with the values of its start; one that was not was refused for what is so.
-    ensures begins { IfOk result (λ ends. EachLife (BeginsSo plan.now.value) file.items lives.items ends.items) }
+    // A life that was started begins with the values of its start; one that was not was refused for a cause that applies.
+    ensures begins { IfOk result (λ ends. EachLife (BeginsFrom plan.now.value) file.items lives.items ends.items) }
 
-    // What it was answered is serial history: the calls of one core, one after another.
+    // Its answers are serial history: the calls of one core, one after another.
     ensures answered { IfOk result (λ ends. EachLife (IsAnswered plan.now.value) file.items lives.items ends.items) }
 
-    // Acknowledged is the greatest number that a flush was answered.
+    // The number acknowledged is the greatest that a flush answered.
     ensures acked { IfOk result (λ ends. EachLife IsAcked file.items lives.items ends.items) }
 
-    // The file that it leaves survives for the log that its events and replies tell.
+    // The file that it leaves survives for the log that its events and replies make.
     ensures survives { IfOk result (λ ends. EachLife (LeavesLog plan.now.value) file.items lives.items ends.items) }
 
-    // A life that was refused leaves a file that is recovered to what the file before was, or, where its start saves it,
-    // to the record of what it would have started with.
+    // A life that was refused leaves a file that is recovered to the same as the file before or, if its start saves it, to
+    // the record of the values with which it would have started.
     ensures refused { IfOk result (λ ends. EachLife (IsRefused plan.now.value) file.items lives.items ends.items) }
 
-    // S3 comes only in a life with a stop or a failing step, and so does K5, but where the generations are used up, from
-    // that of the file on.
+    // S3 comes only in a life with a stop or a failing step, and so does K5, unless the generations are used up, from that
+    // of the file on.
     ensures cause { IfOk result (λ ends. EachLife (HasCause plan.now.value) file.items lives.items ends.items) }
 {
     let mut ends = Vec::with_capacity(alloc, lives.len())?;

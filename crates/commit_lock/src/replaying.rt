@@ -19,12 +19,11 @@ use std::io::Read;
 use std::sync::Arc;
 use trace::{ReplayError, Watcher, replay_log};
 
-/// Runs a trace again, line by line, over the first of these rows, and tells what it found. The watcher sees the core as
-/// the life was begun, and then after each entry.
+/// Runs a trace again, line by line, over the first of these rows, and gives its findings. The watcher sees the core as the
+/// life was begun, and then after each entry.
 ///
-/// V2 where a row is not the plant's next one, or not later than the one before; V3 where an execution was not waiting;
-/// V4 where it ends in another way; V1 where the text is no trace of the plan for another cause; V5 out of memory, the
-/// watcher's too.
+/// V2 if a row is not the plant's next one, or not later than the one before; V3 if an execution was not waiting; V4 if it
+/// ends in another way; V1 if the text isn't a trace of the plan for another reason; V5 out of memory, the watcher's too.
 pub fn replay_watched<W: Watcher>(
     alloc: Global,
     plan: Arc<Plan>,
@@ -35,7 +34,7 @@ pub fn replay_watched<W: Watcher>(
     ensures told { IfOk result (λ r. (mode : StartMode) × (start : Start) × (log : Log)
         × IsTrace plan.value rows.now text.now mode start log
         × AreFindings plan.value start log r.rows r.done r.faults r.overruns r.values.items) }
-    // The text is the trace of no other life: what is told is told of each life whose trace it is.
+    // The text is the trace of no other life: the findings apply to each life whose trace it is.
     ensures only { IfOk result (λ r. (mode : StartMode) (start : Start)
         (log : Log) → IsTrace plan.value rows.now text.now mode start log
         → AreFindings plan.value start log r.rows r.done r.faults r.overruns r.values.items) }
@@ -63,10 +62,10 @@ pub fn replay_watched<W: Watcher>(
     }
 }
 
-/// Runs a trace again, line by line, over the first of these rows, and tells what it found.
+/// Runs a trace again, line by line, over the first of these rows, and gives its findings.
 ///
-/// V2 where a row is not the plant's next one, or not later than the one before; V3 where an execution was not waiting;
-/// V4 where it ends in another way; V1 where the text is no trace of the plan for another cause; V5 out of memory.
+/// V2 if a row is not the plant's next one, or not later than the one before; V3 if an execution was not waiting; V4 if it
+/// ends in another way; V1 if the text isn't a trace of the plan for another reason; V5 out of memory.
 pub fn replay_text(
     alloc: Global,
     plan: Arc<Plan>,
@@ -76,13 +75,13 @@ pub fn replay_text(
     ensures told { IfOk result (λ r. (mode : StartMode) × (start : Start) × (log : Log)
         × IsTrace plan.value rows.now text.now mode start log
         × AreFindings plan.value start log r.rows r.done r.faults r.overruns r.values.items) }
-    // The text is the trace of no other life: what is told is told of each life whose trace it is.
+    // The text is the trace of no other life: the findings apply to each life whose trace it is.
     ensures only { IfOk result (λ r. (mode : StartMode) (start : Start)
         (log : Log) → IsTrace plan.value rows.now text.now mode start log
         → AreFindings plan.value start log r.rows r.done r.faults r.overruns r.values.items) }
     ensures refused { IfErr result (λ e. e ≢ ReplayError.NoMemory
         → (mode : StartMode) (start : Start) (log : Log) → IsTrace plan.value rows.now text.now mode start log → ⊥) }
-    // Each life whose trace the text is comes out of it, unless memory is wanted.
+    // Each life whose trace the text is gets accepted, unless memory runs out.
     ensures accepts { Accepts plan.value rows.now text.now (λ e. e ≡ ReplayError.NoMemory) result }
 {
     replay_watched(alloc, plan, rows, text, &mut Nobody)
@@ -98,7 +97,7 @@ fn unread(error: &io::Error) -> ReplayError
     ReplayError::Device
 }
 
-/// Runs a trace again that a reader gives, as `replay_text` does; V6 where the reader fails.
+/// Runs a trace from a reader again, as `replay_text` does; V6 if the reader fails.
 pub fn replay<R: Read + Drop>(
     alloc: Global,
     plan: Arc<Plan>,
@@ -114,7 +113,7 @@ pub fn replay<R: Read + Drop>(
     ensures refused { IfErr result (λ e. e ≢ ReplayError.NoMemory
         → e ≢ ReplayError.Device → IfSome (R.remaining reader) (λ text. (mode : StartMode) (start : Start) (log : Log)
         → IsTrace plan.value rows.now text mode start log → ⊥)) }
-    // Each life whose trace was read comes out of it, unless memory is wanted or the reader fails.
+    // Each life whose trace was read gets accepted, unless memory runs out or the reader fails.
     ensures accepts { IfSome (R.remaining reader) (λ text. Accepts plan.value rows.now text
         (λ e. (e ≡ ReplayError.NoMemory) ⊎ (e ≡ ReplayError.Device)) result) }
 {

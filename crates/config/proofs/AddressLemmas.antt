@@ -9,6 +9,7 @@ use Rattle.std.proofs.Common.{ap₂}
 use Rattle.std.specs.Prelude.{is_some, ◌==◌, option_map, slice_get, slice_set}
 use Rattle.std.specs.List.{flat_map, list_any, list_all}
 use Rattle.std.proofs.lemmas.List.Folds.{list_all-append}
+use Rattle.std.proofs.lemmas.Bool.{and_parts}
 use Rattle.st_types.specs.declared.kind.Kind.TheVariants.{Bool as Boolean}
 use Rattle.st_types.specs.declared.configuration.Address.{Address}
 use Rattle.st_types.specs.declared.configuration.AddressWidth.{AddressWidth}
@@ -51,7 +52,7 @@ boolean_of_declared ts (types.Simple (Elementary k at)) = refl
 boolean_of_declared ts (types.Simple (Named x)) = no_boolean (enumeration_named (enumerations_of ts) x.name)
 boolean_of_declared ts (types.Array a) = refl
 
--- one address has one number
+-- the same address has the same number
 pub same_number : (a b : Address) → is_in_range a.width a.number ≡ true → is_in_range b.width b.number ≡ true
     → same_address a b ≡ (number_of_address a == number_of_address b)
 same_number a b ra rb = by_cases a.direction a.width b.direction b.width ra rb
@@ -77,7 +78,7 @@ same_number a b ra rb = by_cases a.direction a.width b.direction b.width ra rb
     by_cases directions.Output widths.Word directions.Output widths.Bit ra rb = grind arith
     by_cases directions.Output widths.Word directions.Output widths.Word ra rb = grind arith
 
--- what stands twice behind a place stands twice
+-- an address that occurs twice after a place occurs twice in the list
 pub twice_behind : (n : ℕ) (xs : List Address) → are_single (drop n xs) ≡ false → are_single xs ≡ false
 twice_behind zero xs h = h
 twice_behind (suc n) [] h = h
@@ -144,7 +145,7 @@ marked_more marked b rest sized rb marks a ra =
         ∙ marks a ra
         ∙ ap (λ t. Some (t || list_any (same_address a) rest)) (sym (same_number a b ra rb ∙ e))
 
--- an address behind which the rest stands, by whether it is marked
+-- an address and the rest of the list after it, by whether it is marked
 pub single_here : (marked : List Bool) (b : Address) (rest : List Address) (m : Bool) → length marked ≡ 4096
     → is_in_range b.width b.number ≡ true → Marks marked rest → m ≡ get_or marked (number_of_address b) m
     → list_any (same_address b) rest ≡ m
@@ -160,13 +161,13 @@ single_here marked b rest m sized rb marks is =
         or_else (Some z) = z
         or_else None = false
 
--- an item does not hang on what stands for one that is not there
+-- an item does not depend on the default for a missing one
 pub each_at : {X : Type 0} (xs : List X) (i : ℕ) (d : X) → i < length xs → get_or xs i d ≡ get_or xs i (get_or xs i d)
 each_at [] i d lt = absurd (omega arith)
 each_at (x ∷ xs) zero d lt = refl
 each_at (x ∷ xs) (suc i) d lt = each_at xs i d (omega arith)
 
--- what all are is each
+-- a property of all is a property of each
 pub each_passes : {X : Type 0} (p : X → Bool) (xs : List X) (i : ℕ) (d : X) → list_all p xs ≡ true → i < length xs
     → p (get_or xs i d) ≡ true
 each_passes p [] i d h lt = absurd (omega arith)
@@ -181,7 +182,7 @@ each_passes p (x ∷ xs) (suc i) d h lt = each_passes p xs i d (second (p x) (li
     second true b h = h
     second false b h = absurd (cc)
 
--- one that stands again behind it, and one that does not
+-- one that occurs again after it, and one that does not
 pub stands_again : (xs : List Address) (i : ℕ) (x : Address) (rest : List Address) → drop i xs ≡ x ∷ rest
     → list_any (same_address x) rest ≡ true → false ≡ are_single xs
 stands_again xs i x rest is again = sym (twice_behind i xs
@@ -191,10 +192,6 @@ pub stands_once : (xs : List Address) (i : ℕ) (x : Address) (rest : List Addre
     → list_any (same_address x) rest ≡ false → are_single rest ≡ true → are_single (drop i xs) ≡ true
 stands_once xs i x rest is once single =
     ap are_single is ∙ ap (λ b. not b && are_single rest) once ∙ single
-
-both : (a b : Bool) → (a && b) ≡ true → (a ≡ true) × (b ≡ true)
-both true b h = (refl, h)
-both false b h = absurd (cc)
 
 -- sound addresses are in their ranges
 ranged_names : (text : Declared) (q : Option GlobalQualifier) (d : GlobalDeclaration) (names : GlobalNames)
@@ -216,7 +213,7 @@ ranged_declarations : (text : Declared) (q : Option GlobalQualifier) (ds : List 
     → list_all (λ a. is_in_range a.width a.number) (flat_map (λ d. address_in d.names) ds) ≡ true
 ranged_declarations text q [] h = refl
 ranged_declarations text q (d ∷ ds) h =
-    let b = both (is_sound_address text q d d.names) (list_all (λ d. is_sound_address text q d d.names) ds) h in
+    let b = and_parts (is_sound_address text q d d.names) (list_all (λ d. is_sound_address text q d d.names) ds) h in
     list_all-append (λ a. is_in_range a.width a.number) (address_in d.names) (flat_map (λ d. address_in d.names) ds)
     ∙ ap₂ (λ a b. a && b) (ranged_names text q d d.names b.0) (ranged_declarations text q ds b.1)
 
@@ -225,7 +222,7 @@ pub ranged_blocks : (text : Declared) (bs : List GlobalBlock)
     → list_all (λ a. is_in_range a.width a.number) (addresses_in bs) ≡ true
 ranged_blocks text [] h = refl
 ranged_blocks text (b ∷ bs) h =
-    let t = both (list_all (λ d. is_sound_address text b.qualifier d d.names) b.declarations)
+    let t = and_parts (list_all (λ d. is_sound_address text b.qualifier d d.names) b.declarations)
     (list_all (λ b. list_all (λ d. is_sound_address text b.qualifier d d.names) b.declarations) bs) h in
     list_all-append (λ a. is_in_range a.width a.number) (flat_map (λ d. address_in d.names) b.declarations)
     (addresses_in bs)

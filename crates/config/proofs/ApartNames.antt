@@ -15,34 +15,15 @@ use Rattle.st_rules.specs.Rules.{IsWellTyped}
 use Rattle.st_link.proofs.WellTypedTexts.{parts_right}
 use Rattle.layout.specs.TextLayouts.{enumerations_of_text}
 use Rattle.config.proofs.ResolvedNames.{names_taken}
-use Rattle.plan.specs.Sound.{are_different}
 use Rattle.layout.specs.TypeNames.{names_of_type, names_of_types, names_in_text}
 use Rattle.config.proofs.EnumerationLemmas.{names_are}
-use Rattle.config.proofs.ListLemmas.{both_are, all_append}
+use Rattle.st_types.proofs.ListLemmas.{append_parts, flat_parts, all_append}
+use Rattle.st_link.proofs.DifferentNames.{none_passes}
+use Rattle.std.proofs.lemmas.Bool.{not_from_false, and_from}
+use Rattle.layout.specs.Names.{are_different}
 
 abbrev names_of : List Identifier → List Name
 names_of xs = map (λ x. x.name) xs
-
-empty_parts : {A : Type 0} (xs ys : List A) → xs ++ ys ≡ [] → (xs ≡ []) × (ys ≡ [])
-empty_parts [] ys h = (refl, h)
-empty_parts (x ∷ xs) ys h = absurd (cc)
-
-flat_parts : {A B : Type 0} (f : A → List B) (xs ys : List A) → flat_map f (xs ++ ys) ≡ []
-    → (flat_map f xs ≡ []) × (flat_map f ys ≡ [])
-flat_parts f [] ys h = (refl, h)
-flat_parts f (x ∷ xs) ys h =
-    let e = empty_parts (f x) (flat_map f (xs ++ ys)) h in
-    let i = flat_parts f xs ys e.1 in
-    (ap₂ (λ cs ds. cs ++ ds) e.0 i.0, i.1)
-
-none_passes : (p : Identifier → Bool) (x : Identifier) (xs : List Identifier) → places_where p (x ∷ xs) ≡ []
-    → (p x ≡ false) × (places_where p xs ≡ [])
-none_passes p x xs h = by_test (p x) h
-  where
-    by_test : (b : Bool) → map (λ x. x.place) (if b then x ∷ filter p xs else filter p xs) ≡ []
-        → (b ≡ false) × (places_where p xs ≡ [])
-    by_test true g = absurd (cc)
-    by_test false g = (refl, g)
 
 not_again : (x : Name) (xs : List Identifier) → places_where (is_named x) xs ≡ []
     → contains_name (names_of xs) x ≡ false
@@ -51,24 +32,20 @@ not_again x (y ∷ ys) h =
     let n = none_passes (is_named x) y ys h in
     ap₂ (λ a b. a || b) n.0 (not_again x ys n.1)
 
-turned : (b : Bool) → b ≡ false → not b ≡ true
-turned false h = refl
-turned true h = absurd (cc)
-
--- names that don't stand again are different
+-- names that don't occur again are different
 differ : (xs : List Identifier) → repeats xs ≡ [] → are_different (names_of xs) ≡ true
 differ [] h = refl
 differ (x ∷ xs) h =
-    let e = empty_parts (places_where (is_named x.name) xs) (repeats xs) h in
-    both_are (not (contains_name (names_of xs) x.name)) (are_different (names_of xs))
-    (turned (contains_name (names_of xs) x.name) (not_again x.name xs e.0)) (differ xs e.1)
+    let e = append_parts (places_where (is_named x.name) xs) (repeats xs) h in
+    and_from (not (contains_name (names_of xs) x.name)) (are_different (names_of xs))
+    (not_from_false (contains_name (names_of xs) x.name) (not_again x.name xs e.0)) (differ xs e.1)
 
 of_definition : (d : TypeDefinition) → flat_map repeats (scopes_of_type d) ≡ []
     → list_all are_different (names_of_type d) ≡ true
 of_definition (array a) h = refl
 of_definition (structure fields) h = refl
 of_definition (enumeration names) h =
-    both_are (are_different (names_of names)) true (differ names (empty_parts (repeats names) [] h).0) refl
+    and_from (are_different (names_of names)) true (differ names (append_parts (repeats names) [] h).0) refl
 
 of_types : (ts : List TypeDeclaration) → flat_map repeats (flat_map (λ t. scopes_of_type t.definition) ts) ≡ []
     → list_all are_different (names_of_types ts) ≡ true

@@ -58,13 +58,11 @@ use Rattle.layout.specs.LayoutVariables.{variables_of_resources}
 use Rattle.layout.specs.Shapes.{Shape}
 use Rattle.layout.specs.Types as made
 use Rattle.layout.specs.Types.{BlockType, Composition, NamedSite, block_type_named, block_type_of, composed_shape}
-use Rattle.layout.specs.Types.{composition_of, count_of, defined_composition, element_of, instance_of, instance_parts}
+use Rattle.layout.specs.Types.{composition_of, defined_composition, element_of, instance_of, instance_parts}
 use Rattle.layout.specs.Types.{lower_of, of_elements, of_kind, of_parts, own_block_type, parts_of, retention_of}
 use Rattle.layout.specs.Types.{shape_of_type, shape_within, site_of_declaration, site_of_field, site_of_member}
 use Rattle.layout.specs.Types.{sites_of_blocks, sites_of_declarations, with_site}
-use Rattle.layout.proofs.ListLemmas.{neither, some_is}
 use Rattle.layout.proofs.ResolvedLemmas.{IsTaken, key, same_shape, taken_text, taking_key}
-use Rattle.st_link.proofs.Alikes.{front_empty, back_empty}
 use Rattle.st_link.proofs.Among.{Among, here, later, in_flat, in_front, in_map, none_of}
 use Rattle.st_link.proofs.CallLaw.{places_none}
 use Rattle.st_link.proofs.FoundNames.{type_found, type_in_source, unit_found, unit_in}
@@ -79,39 +77,18 @@ use Rattle.slot_trees.specs.TextNumbers.{members_of_block}
 use Rattle.config.specs.Bounded.{HasBoundedArrays}
 use Rattle.config.specs.Spelled.{AreSpelledArrays, HaveFewNames, IsKeyword, IsSpelled}
 use Rattle.config.proofs.LiteralLemmas.{held_there, kind_keyword, kind_number}
-
--- bounds that are not reversed
-some_elements : (z : ℤ) → nat_lt 0 (natural z) ≡ false → int_lt z (pos 1) ≡ true
-some_elements (pos n) h = grind (arith, ints, nat_tests)
-some_elements (negsuc n) h = grind (arith, ints)
-
-has_elements : (u l : ℤ) → int_lt u l ≡ false → nat_lt 0 (natural ((u -ℤ l) +ℤ pos 1)) ≡ true
-has_elements u l h = by_test (nat_lt 0 (natural ((u -ℤ l) +ℤ pos 1))) refl
-  where
-    by_test : (b : Bool) → nat_lt 0 (natural ((u -ℤ l) +ℤ pos 1)) ≡ b → b ≡ true
-    by_test true e = refl
-    by_test false e =
-        let few = some_elements ((u -ℤ l) +ℤ pos 1) e in absurd (grind (arith, ints))
-
-above_zero : (n : ℕ) → nat_lt 0 n ≡ true → 0 < n
-above_zero n h = grind (arith, nat_tests)
-
-no_case : (b : Bool) (at : ℕ) → in_case b at ≡ [] → b ≡ false
-no_case true at h = absurd (cc)
-no_case false at h = refl
+use Rattle.st_link.proofs.BoundedArrays.{some_elements, has_elements, no_case}
+use Rattle.st_types.proofs.TestLemmas.{above_zero}
+use Rattle.st_types.proofs.ListLemmas.{none_from, append_first, append_second}
+use Rattle.std.proofs.lemmas.Bool.{or_parts}
+use Rattle.st_types.proofs.OptionLemmas.{some_is}
 
 array_spelled : (rows : List ArrayType) {a : ArrayType} → AreSpelledArrays rows → Among a rows → IsKeyword a.lower.written
 array_spelled _ h (here) = h.0
 array_spelled _ h (later k) = array_spelled _ h.1 k
 
--- a list without an element of a number
-none_behind : {A : Type 0} (xs : List A) (k : ℕ) → slice_get xs k ≡ None → length xs ≤ k
-none_behind [] k h = omega arith
-none_behind (x ∷ xs) zero h = absurd (cc)
-none_behind (x ∷ xs) (suc k) h = let rest = none_behind xs k h in omega (arith, rest)
-
 no_surplus : (xs : List Identifier) → surplus_name xs ≡ [] → length xs ≤ MAX_NAMES
-no_surplus xs h = none_behind xs MAX_NAMES (by_one (slice_get xs MAX_NAMES) h)
+no_surplus xs h = none_from xs MAX_NAMES (by_one (slice_get xs MAX_NAMES) h)
   where
     by_one : (o : Option Identifier) → place_of_one o ≡ [] → o ≡ None
     by_one None g = refl
@@ -133,15 +110,15 @@ module _ (source : Source) (h : IsWellTyped source) (spelled : IsSpelled source)
       let b = wrong_types source in
       let c = wrong_starts source in
       let d = wrong_bodies source in
-      let declarations = front_empty a b (front_empty (a ++ b) c (front_empty ((a ++ b) ++ c) d h)) in
+      let declarations = append_first a b (append_first (a ++ b) c (append_first ((a ++ b) ++ c) d h)) in
       let twice = breaking DeclaredTwice (twice_declared source) in
       let deep = breaking TooDeep (too_deep source) in
       let bounds = breaking WrongBounds (flat_map wrong_bounds (arrays_in source)) in
       let long = breaking WrongBounds (flat_map (too_long (declared_in source)) (starts_in source)) in
       let addresses = breaking RetainedAddress (flat_map retained_addresses_of source) in
-      let front = front_empty ((twice ++ deep) ++ bounds) long
-      (front_empty (((twice ++ deep) ++ bounds) ++ long) addresses declarations) in
-      places_none WrongBounds (flat_map wrong_bounds (arrays_in source)) (back_empty (twice ++ deep) bounds front)
+      let front = append_first ((twice ++ deep) ++ bounds) long
+      (append_first (((twice ++ deep) ++ bounds) ++ long) addresses declarations) in
+      places_none WrongBounds (flat_map wrong_bounds (arrays_in source)) (append_second (twice ++ deep) bounds front)
 
   types_right : wrong_types source ≡ []
   types_right =
@@ -149,7 +126,7 @@ module _ (source : Source) (h : IsWellTyped source) (spelled : IsSpelled source)
       let b = wrong_types source in
       let c = wrong_starts source in
       let d = wrong_bodies source in
-      back_empty a b (front_empty (a ++ b) c (front_empty ((a ++ b) ++ c) d h))
+      append_second a b (append_first (a ++ b) c (append_first ((a ++ b) ++ c) d h))
 
   record NumbersRight : Type 0 where
     names : flat_map surplus_name (enumerations_in source) ≡ []
@@ -163,14 +140,14 @@ module _ (source : Source) (h : IsWellTyped source) (spelled : IsSpelled source)
       let results = flat_map (wrong_result (declared_in source)) (results_in source) in
       let bounds = flat_map wrong_bound_numbers (arrays_in source) in
       let priorities = breaking OutOfRange (flat_map wrong_priorities_of source) in
-      let to_bounds = front_empty ((((names ++ declarings) ++ elements) ++ results) ++ bounds) priorities types_right in
-      let to_results = front_empty (((names ++ declarings) ++ elements) ++ results) bounds to_bounds in
-      let to_elements = front_empty ((names ++ declarings) ++ elements) results to_results in
-      let to_declarings = front_empty (names ++ declarings) elements to_elements in
+      let to_bounds = append_first ((((names ++ declarings) ++ elements) ++ results) ++ bounds) priorities types_right in
+      let to_results = append_first (((names ++ declarings) ++ elements) ++ results) bounds to_bounds in
+      let to_elements = append_first ((names ++ declarings) ++ elements) results to_results in
+      let to_declarings = append_first (names ++ declarings) elements to_elements in
       record {
         names = places_none TooManyNames (flat_map surplus_name (enumerations_in source))
-            (front_empty names declarings to_declarings);
-        bounds = back_empty (((names ++ declarings) ++ elements) ++ results) bounds to_bounds;
+            (append_first names declarings to_declarings);
+        bounds = append_second (((names ++ declarings) ++ elements) ++ results) bounds to_bounds;
       }
 
   -- enumerated types
@@ -208,16 +185,16 @@ module _ (source : Source) (h : IsWellTyped source) (spelled : IsSpelled source)
   few_names = few_from 0 (types_in source) (λ t a. a)
 
   -- arrays of the text
-  array_counted : (a : ArrayType) → Among a (arrays_in source) → 0 < count_of a
+  array_counted : (a : ArrayType) → Among a (arrays_in source) → 0 < elements_of_array a
   array_counted a among =
       let wrong = no_case (has_wrong_bounds a) a.lower.place (none_of wrong_bounds among bounds_right) in
-      above_zero (count_of a) (has_elements (number_of a.upper) (number_of a.lower)
-      (neither (int_lt (number_of a.upper) (number_of a.lower)) (nat_lt MAX_ELEMENTS (elements_of_array a)) wrong).0)
+      above_zero (elements_of_array a) (has_elements (number_of a.upper) (number_of a.lower)
+      (or_parts (int_lt (number_of a.upper) (number_of a.lower)) (nat_lt MAX_ELEMENTS (elements_of_array a)) wrong).0)
 
   array_number : (a : ArrayType) → Among a (arrays_in source) → IsNumber (lower_of a)
   array_number a among =
       let wrong = none_of wrong_bound_numbers among numbers_right.bounds in
-      let lower = front_empty (wrong_number None a.lower) (wrong_number None a.upper) wrong in
+      let lower = append_first (wrong_number None a.lower) (wrong_number None a.upper) wrong in
       kind_number (kind_or_taken None a.lower.written) (number_of a.lower)
       (kind_keyword None a.lower.written (array_spelled (arrays_in source) spelled.arrays among))
       (held_there (holds (kind_or_taken None a.lower.written) (number_of a.lower)) a.lower.place lower)
@@ -293,7 +270,7 @@ module _ (source : Source) (h : IsWellTyped source) (spelled : IsSpelled source)
     sites_listed : AreListed (sites_of_blocks u.blocks)
     sites_listed = blocks_listed u.blocks (λ b a. a)
 
-  -- what a type is made of
+  -- the parts of a type
   abbrev AreListedIn : Composition → Type 0
   AreListedIn (of_kind k) = Unit {0}
   AreListedIn (of_elements a) = Among a (arrays_in source)

@@ -1,4 +1,4 @@
--- The functions whose calls stand in the code of a body, and how long that code is at least.
+-- The functions whose calls are in the code of a body, and how long that code is at least.
 use Rattle.std.proofs.Common.{◌≡◌, refl, sym, ap, arith, ℕ, zero, suc, ◌+◌, ◌*◌, ◌≤◌, List, [], ◌∷◌, ◌++◌, map}
 use Rattle.std.proofs.Common.{length, Option, Some, None, option_map, ◌∙◌, subst}
 use Rattle.std.specs.Prelude.{slice_get}
@@ -82,7 +82,7 @@ module _ (units : UnitCalls) where
     case_calls no_case_arms = []
     case_calls (case_arm_then labels body arms) = stmts_calls body ++ case_calls arms
 
--- a function's call stands before those of its body
+-- a function's call comes before those of its body
 abbrev pub function_calls : UnitCalls → ℕ → Option SlotFunction → List ℕ
 function_calls units i None = []
 function_calls units i (Some f) = i ∷ stmts_calls units f.body
@@ -103,7 +103,7 @@ units_calls library (suc n) = record {
   blocks = λ b. block_calls library (units_calls library n) b;
 }
 
--- with how many values a call of the function of a number begins
+-- the number of values with which a call of this function begins
 abbrev pub values_of_function : Option SlotFunction → ℕ
 values_of_function None = 0
 values_of_function (Some f) = length f.fresh
@@ -278,7 +278,7 @@ module _ (whole : SlotLibrary) where
     blocks = λ b. block_contained n (units_contained n) b;
   }
 
-  -- Code of a program has two instructions at least for each value that the calls in it begin with.
+  -- Code of a program has two instructions at least for each value with which the calls in it begin.
   pub code_holds_calls : (base size : ℕ) (body : SlotStmts) (n : ℕ)
       → 2 * sum_of (values_at whole) (stmts_calls (units_calls whole n) body)
       ≤ length (program_code whole base size body n)

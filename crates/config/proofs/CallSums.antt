@@ -44,7 +44,7 @@ sum_whole w first (x ∷ xs) =
     let rest = sum_whole w first xs in
     omega (arith, one, rest)
 
--- a number that is among them counts beside all that are greater
+-- a number that is among them counts along with all that are greater
 pub sum_beside : (w : ℕ → ℕ) (x : ℕ) (xs : List ℕ) → Among x xs → w x + sum_from w (suc x) xs ≤ sum_from w x xs
 sum_beside w x xs (here {rest = rest}) =
     let one = one_itself w x in
@@ -61,7 +61,7 @@ pub record HasMore {A : Type 0} (w : A → ℕ) (bound : ℕ) (xs : List A) : Ty
   pub among : Among element xs
   pub more : bound < w element
 
--- where all have together more than the bound for each, one has more
+-- if all have together more than the bound for each, one has more
 pub one_has_more : {A : Type 0} (w : A → ℕ) (bound : ℕ) (xs : List A) → length xs * bound < sum_of w xs
     → HasMore w bound xs
 one_has_more w bound [] h = absurd (omega (arith, h))

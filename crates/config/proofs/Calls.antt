@@ -1,4 +1,4 @@
--- What is so of each function that a body calls is so of its calls.
+-- A property of each function that a body calls is a property of its calls.
 use Rattle.std.proofs.Common.{sym, subst, List, [], ◌∷◌, ◌++◌, Option, Some, None}
 use Rattle.std.specs.List.{flat_map}
 use Rattle.std.proofs.lemmas.List.Concat.{flat_map-append}

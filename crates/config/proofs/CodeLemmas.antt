@@ -64,10 +64,6 @@ code_at library kinds (b ∷ bodies) (c ∷ codes) (suc n) body are is =
     let rest = code_at library kinds bodies codes n body are.1 is in
     record { code = rest.code; is = rest.is; over = rest.over }
 
-pub ok_weaker : {C E : Type 0} (r : Result C E) (P Q : C → Type 0) → ((x : C) → P x → Q x) → IfOk r P → IfOk r Q
-ok_weaker (Ok x) P Q weaker h = weaker x h
-ok_weaker (Err e) P Q weaker h = tt
-
 -- the code of the linked body over the layout of its text
 code_of_text : (text : Source) (linked : LinkedText) (body : SlotStmts) (kinds : List Kind) (code : CodeView)
     → kinds ≡ map (λ l. l.kind) (slots_of_text text) → IsCodeOver linked.library kinds body code
@@ -80,7 +76,7 @@ code_of_text text linked body kinds code are over =
       fits = subst (λ n. ProgramFits (n + code.extra) linked.library 0 n body 64) long over.fits;
     }
 
-linked_same : (a b : LinkedText) (o : Option LinkedText) → o ≡ Some a → o ≡ Some b → a ≡ b
+pub linked_same : (a b : LinkedText) (o : Option LinkedText) → o ≡ Some a → o ≡ Some b → a ≡ b
 linked_same a b o x y = cc
 
 -- Codes over the linked form of a text mean its programs, and read what they ask for.
@@ -124,7 +120,7 @@ pub kinds_shown : (ss : List LayoutSlot)
 kinds_shown [] = refl
 kinds_shown (s ∷ ss) = ap (λ ks. s.initial.kind ∷ ks) (kinds_shown ss)
 
--- of programs that are compiled, those in front are, and the last one
+-- if programs are compiled, those in front are, and the last one is
 compiled_front : {A : Type 0} (f : A → SlotStmts) (library : KeptLibrary) (size n : ℕ) (xs : List A)
     → AreCompiled library size (map f xs) → AreCompiled library size (map f (take n xs))
 compiled_front f library size zero xs h = tt

@@ -1,4 +1,4 @@
--- The code of a tree takes a slot's value nowhere as it is, where its calls of blocks and its loops stand elsewhere.
+-- The code of a tree takes a slot's value nowhere as it is, if its calls of blocks and its loops use other slots.
 use Rattle.std.proofs.Common.{◌≡◌, refl, ℕ, suc, ◌+◌, List, [], ◌∷◌, Option, Some, None}
 use Rattle.std.specs.Prelude.{Result, Ok, Err, false}
 use Rattle.st_types.specs.Values.{Datum}
@@ -14,9 +14,9 @@ use Rattle.slot_trees.specs.SlotTrees.{SlotArgument, given, copied, SlotStmt, em
 use Rattle.slot_trees.specs.SlotTrees.{WHILE, REPEAT, EXIT, RETURN, SlotStmts, no_stmts, stmt_then, SlotArms, no_arms}
 use Rattle.slot_trees.specs.SlotTrees.{arm_then, SlotCaseArms, no_case_arms, case_arm_then}
 use Rattle.slot_trees.specs.SlotEvaluation.{slot_at}
-use Rattle.machine_code.specs.declared.ways.Ways.{Ways}
+use Rattle.machine_code.specs.declared.jump_targets.JumpTargets.{JumpTargets}
 use Rattle.machine_code.specs.Growing.{Code}
-use Rattle.machine_code.specs.Sites.{Site, slot_in, end_of, site_at}
+use Rattle.machine_code.specs.UnitFrames.{UnitFrame, slot_in, end_of, instance_frame}
 use Rattle.machine_code.specs.Codes.{CodeUnits, literal_code, label_code, labels_code, stores_code, expr_code, exprs_code}
 use Rattle.machine_code.specs.Codes.{place_code, led_code, subscripts_code, step_code, inputs_code, outputs_code}
 use Rattle.machine_code.specs.Codes.{invoke_code, stmt_code, stmts_code, arms_code, case_code, given_members}
@@ -45,15 +45,15 @@ module _ (k : ℕ) where
   resets_keep first [] c = same_code k c
   resets_keep first (v ∷ vs) c = put_on k _ refl (put_on k _ refl (resets_keep (suc first) vs c))
 
-  module _ (units : CodeUnits) (s : Site) where
-    -- What is asked of a tree: calls of blocks keep code clean, and what they copy and control variables stand elsewhere.
+  module _ (units : CodeUnits) (s : UnitFrame) where
+    -- Requirements on a tree: calls of blocks keep code clean, and copied outputs and control variables are elsewhere.
     abbrev pub CopiesAvoid : ℕ → List SlotArgument → Type 0
     CopiesAvoid at [] = Unit {0}
     CopiesAvoid at (given o e ∷ rest) = CopiesAvoid at rest
     CopiesAvoid at (copied o p ∷ rest) = (s.start + (at + o) ≡ k → ⊥) × CopiesAvoid at rest
 
     abbrev pub BlockKeeps : BlockCode → ℕ → Type 0
-    BlockKeeps b at = (c : Code) → Keeps k c (units.blocks b (site_at s at) c)
+    BlockKeeps b at = (c : Code) → Keeps k c (units.blocks b (instance_frame s at) c)
 
     abbrev mutual
       pub StmtAvoids : SlotStmt → Type 0
@@ -80,7 +80,7 @@ module _ (k : ℕ) where
       CaseArmsAvoid no_case_arms = Unit {0}
       CaseArmsAvoid (case_arm_then labels body arms) = StmtsAvoid body × CaseArmsAvoid arms
 
-  module _ (units : CodeUnits) (s : Site)
+  module _ (units : CodeUnits) (s : UnitFrame)
       (functions : (f : ℕ) (c : Code) → Keeps k c (units.functions f (end_of s) c)) where
     mutual
       expr_keeps : (e : SlotExpr) (c : Code) → Keeps k c (expr_code units s e c)
@@ -137,7 +137,7 @@ module _ (k : ℕ) where
         (keeps_on k (put_on k _ refl (stores_keep _ (given_members xs) _)) (inputs_keep xs _)))
 
     mutual
-      stmt_keeps : (x : SlotStmt) (w : Ways) (c : Code) → StmtAvoids units s x → Keeps k c (stmt_code units s x w c)
+      stmt_keeps : (x : SlotStmt) (w : JumpTargets) (c : Code) → StmtAvoids units s x → Keeps k c (stmt_code units s x w c)
       stmt_keeps empty w c h = put k c _ refl
       stmt_keeps (assign p e) w c h =
           put_on k _ refl (keeps_on k (place_keeps p _ _ c (λ j. refl) refl) (expr_keeps e _))
@@ -162,18 +162,18 @@ module _ (k : ℕ) where
       stmt_keeps EXIT w c h = put_on k _ refl (put k c _ refl)
       stmt_keeps RETURN w c h = put_on k _ refl (put_on k _ refl (put k c _ refl))
 
-      pub stmts_keep : (xs : SlotStmts) (w : Ways) (c : Code) → StmtsAvoid units s xs → Keeps k c (stmts_code units s xs w c)
+      pub stmts_keep : (xs : SlotStmts) (w : JumpTargets) (c : Code) → StmtsAvoid units s xs → Keeps k c (stmts_code units s xs w c)
       stmts_keep no_stmts w c h = same_code k c
       stmts_keep (stmt_then x xs) w c h = keeps_on k (stmts_keep xs w c h.1) (stmt_keeps x w _ h.0)
 
-      arms_keep : (arms : SlotArms) (w : Ways) (to : ℕ) (c : Code) → ArmsAvoid units s arms
+      arms_keep : (arms : SlotArms) (w : JumpTargets) (to : ℕ) (c : Code) → ArmsAvoid units s arms
           → Keeps k c (arms_code units s arms w to c)
       arms_keep no_arms w to c h = same_code k c
       arms_keep (arm_then e body arms) w to c h =
           keeps_on k (put_on k _ refl (keeps_on k (put_on k _ refl (arms_keep arms w to c h.1))
           (stmts_keep body w _ h.0))) (expr_keeps e _)
 
-      case_keeps : (arms : SlotCaseArms) (w : Ways) (to : ℕ) (c : Code) → CaseArmsAvoid units s arms
+      case_keeps : (arms : SlotCaseArms) (w : JumpTargets) (to : ℕ) (c : Code) → CaseArmsAvoid units s arms
           → Keeps k c (case_code units s arms w to c)
       case_keeps no_case_arms w to c h = same_code k c
       case_keeps (case_arm_then labels body arms) w to c h =

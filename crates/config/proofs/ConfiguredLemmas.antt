@@ -1,4 +1,4 @@
--- What a sound configuration gives: its resources, their programs and tasks.
+-- The consequences of a sound configuration: its resources, their programs and tasks.
 use Rattle.std.proofs.Common.{◌≡◌, refl, sym, ap, ◌∙◌, subst, Bool, true, false, ◌||◌, List, [], ◌∷◌, map, length}
 use Rattle.std.proofs.Common.{Some, option_map}
 use Rattle.std.specs.Prelude.{nat_lt, is_some}
@@ -19,12 +19,8 @@ use Rattle.layout.specs.Libraries.{programs_of_configuration, programs_of_text, 
 use Rattle.layout.proofs.ResolvedLemmas.{configuration_taken, taken_configuration}
 use Rattle.config.specs.Configured.{IsConfigured}
 use Rattle.config.specs.TextPlans.{resources_in, resources_of}
-use Rattle.config.proofs.ListLemmas.{both, both_are}
 use Rattle.config.proofs.PlaceLemmas.{owners_in, owners_of_programs}
-
-neither : (a b : Bool) → (a || b) ≡ false → (a ≡ false) × (b ≡ false)
-neither true b h = absurd (cc)
-neither false b h = (refl, h)
+use Rattle.std.proofs.lemmas.Bool.{or_parts, and_parts, and_from}
 
 -- ---- the only configuration
 
@@ -37,17 +33,17 @@ same_configurations (sources.types ts ∷ rest) = same_configurations rest
 same_configurations (sources.unit u ∷ rest) = same_configurations rest
 same_configurations (sources.configuration c ∷ rest) = ap (λ cs. c ∷ cs) (same_configurations rest)
 
--- ---- what is known of resources
+-- ---- known resources
 
 instances_known : (text : Declared) (blocks : List GlobalBlock) (rs : List Resource)
     → list_all (is_known_resource text blocks) rs ≡ true
     → list_all (λ r. list_all (is_known_instance text r.tasks) r.instances) rs ≡ true
 instances_known text blocks [] h = refl
 instances_known text blocks (r ∷ rs) h =
-    let b = both (is_known_resource text blocks r) (list_all (is_known_resource text blocks) rs) h in
-    let k = both (list_all (is_known_instance text r.tasks) r.instances)
+    let b = and_parts (is_known_resource text blocks r) (list_all (is_known_resource text blocks) rs) h in
+    let k = and_parts (list_all (is_known_instance text r.tasks) r.instances)
     (list_all (λ t. is_known_single text blocks t.single) r.tasks) b.0 in
-    both_are (list_all (is_known_instance text r.tasks) r.instances)
+    and_from (list_all (is_known_instance text r.tasks) r.instances)
     (list_all (λ q. list_all (is_known_instance text q.tasks) q.instances) rs) k.0 (instances_known text blocks rs b.1)
 
 tasks_known_on : (text : Declared) (tasks : List declared_task.Task) (is : List Instance)
@@ -55,10 +51,10 @@ tasks_known_on : (text : Declared) (tasks : List declared_task.Task) (is : List 
     → list_all (λ (i : Instance). is_known_task tasks i.task) is ≡ true
 tasks_known_on text tasks [] h = refl
 tasks_known_on text tasks (i ∷ is) h =
-    let b = both (is_known_instance text tasks i) (list_all (is_known_instance text tasks) is) h in
-    let k = both (is_known_task tasks i.task)
+    let b = and_parts (is_known_instance text tasks i) (list_all (is_known_instance text tasks) is) h in
+    let k = and_parts (is_known_task tasks i.task)
     (is_program_unit (unit_named text.units i.program.name)) b.0 in
-    both_are (is_known_task tasks i.task) (list_all (λ (j : Instance). is_known_task tasks j.task) is) k.0
+    and_from (is_known_task tasks i.task) (list_all (λ (j : Instance). is_known_task tasks j.task) is) k.0
     (tasks_known_on text tasks is b.1)
 
 pub tasks_known : (text : Declared) (rs : List Resource)
@@ -66,9 +62,9 @@ pub tasks_known : (text : Declared) (rs : List Resource)
     → list_all (λ r. list_all (λ (i : Instance). is_known_task r.tasks i.task) r.instances) rs ≡ true
 tasks_known text [] h = refl
 tasks_known text (r ∷ rs) h =
-    let b = both (list_all (is_known_instance text r.tasks) r.instances)
+    let b = and_parts (list_all (is_known_instance text r.tasks) r.instances)
     (list_all (λ q. list_all (is_known_instance text q.tasks) q.instances) rs) h in
-    both_are (list_all (λ (i : Instance). is_known_task r.tasks i.task) r.instances)
+    and_from (list_all (λ (i : Instance). is_known_task r.tasks i.task) r.instances)
     (list_all (λ q. list_all (λ (i : Instance). is_known_task q.tasks i.task) q.instances) rs)
     (tasks_known_on text r.tasks r.instances b.0) (tasks_known text rs b.1)
 
@@ -94,7 +90,7 @@ module _ (source : Source) (sound : IsConfigured source) where
   resources = ap resources_in configured
 
   pub known : list_all (is_known_resource text c.globals) c.resources ≡ true
-  known = (both (list_all (has_known_externals text c.globals) text.units)
+  known = (and_parts (list_all (has_known_externals text c.globals) text.units)
       (list_all (is_known_resource text c.globals) c.resources) sound.kept.known).1
 
   pub instances : list_all (λ r. list_all (is_known_instance text r.tasks) r.instances) rs ≡ true
@@ -115,9 +111,9 @@ module _ (source : Source) (sound : IsConfigured source) where
       || list_any (λ r. nat_lt MAX_TASKS (length r.tasks)) xs
       || nat_lt MAX_PROGRAMS (length (flat_map (λ r. r.instances) xs))) ≡ false) (sym resources)
       sound.kept.few in
-      let a = neither (nat_lt MAX_RESOURCES (length rs) || list_any (λ r. nat_lt MAX_TASKS (length r.tasks)) rs)
+      let a = or_parts (nat_lt MAX_RESOURCES (length rs) || list_any (λ r. nat_lt MAX_TASKS (length r.tasks)) rs)
       (nat_lt MAX_PROGRAMS (length (flat_map (λ r. r.instances) rs))) e in
-      let b = neither (nat_lt MAX_RESOURCES (length rs)) (list_any (λ r. nat_lt MAX_TASKS (length r.tasks)) rs) a.0 in
+      let b = or_parts (nat_lt MAX_RESOURCES (length rs)) (list_any (λ r. nat_lt MAX_TASKS (length r.tasks)) rs) a.0 in
       (b.0, b.1, a.1)
 
   -- the programs of the instances

@@ -14,17 +14,16 @@ use Rattle.st_meaning.specs.Scopes.{Name}
 use Rattle.layout.specs.LayoutVariables.{Owned, configuration_of, declared_of, layout_variables, owner_in}
 use Rattle.layout.specs.Libraries.{program_by_sort, program_if_there, programs_of_configuration}
 use Rattle.layout.specs.Libraries.{programs_of_instances, programs_of_resources, programs_of_text}
-use Rattle.layout.proofs.ListLemmas.{map_some}
 use Rattle.slot_trees.specs.SlotTrees.{SlotLibrary, SlotStmts}
 use Rattle.slot_trees.specs.TextLinks.{LinkedText, linked_instances, linked_library, linked_program}
 use Rattle.slot_trees.specs.TextLinks.{linked_program_by_sort, linked_program_then, linked_programs, linked_resources}
 use Rattle.slot_trees.specs.TextLinks.{linked_source, text_with}
 use Rattle.slot_trees.proofs.LibraryLinks.{linked_list}
-use Rattle.slot_trees.proofs.OptionLemmas.{then_some}
 use Rattle.slot_code.specs.Codes.{CodeView}
 use Rattle.config.specs.Codes.{AreCodesOver}
+use Rattle.st_types.proofs.OptionLemmas.{map_some, then_some}
 
--- a list that is there has so many elements
+-- a list that exists has this number of elements
 abbrev Counts : Option (List SlotStmts) → ℕ → Type 0
 Counts o n = (bodies : List SlotStmts) → o ≡ Some bodies → length bodies ≡ n
 

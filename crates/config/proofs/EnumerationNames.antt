@@ -4,7 +4,7 @@ use Rattle.std.proofs.Common.{if◌then◌else◌, List, [], ◌∷◌, ◌++◌
 use Rattle.std.proofs.Common.{option_map, arith}
 use Rattle.std.specs.Prelude.{bytes_eq, nat_le, nat_lt}
 use Rattle.std.specs.List.{list_all, flat_map}
-use Rattle.std.proofs.lemmas.Bool.{ltb-true}
+use Rattle.std.proofs.lemmas.Bool.{ltb-true, and_parts, and_from}
 use Rattle.std.proofs.lemmas.Bool.Decides.{nat_tests}
 use Rattle.std.proofs.lemmas.Grind.{flat_map-append}
 use Rattle.std.proofs.lemmas.List.Folds.{list_all-append, list_all-map}
@@ -22,12 +22,14 @@ use Rattle.st_rules.specs.declared.limits.TheConstants.{MAX_NAMES}
 use Rattle.st_rules.specs.DeclaredTypes.{names_of_definition, enumerations_in}
 use Rattle.st_rules.specs.TypeRules.{place_of_one, surplus_name}
 use Rattle.layout.specs.TextLayouts.{enumeration_names}
-use Rattle.layout.proofs.ListLemmas.{both, both_are, some_is, get_map, length_map}
 use Rattle.config.specs.PlainDeclarations.{is_word, is_plain_definition, is_plain_type_declaration, is_plain_unit}
 use Rattle.config.specs.PlainDeclarations.{is_plain_configuration, is_plain_element}
 use Rattle.plan.specs.Sound.{has_names, has_spelling}
+use Rattle.st_types.proofs.ListLemmas.{append_parts, length_map}
+use Rattle.st_types.proofs.OptionLemmas.{some_is}
+use Rattle.std.proofs.lemmas.Option.{slice_get-map}
 
--- so many names, all words
+-- not too many names, all words
 abbrev is_sound_list : List Identifier → Bool
 is_sound_list names = nat_lt 0 (length names) && nat_le (length names) MAX_NAMES && list_all is_word names
 
@@ -41,12 +43,12 @@ has_sound_names t = is_sound_definition (enumerated_names t.definition)
 abbrev is_sound_enumeration : Enumeration → Bool
 is_sound_enumeration e = is_sound_list e.names
 
--- the enumerated types of sound declarations, each where its number says
+-- the enumerated types of sound declarations, each at its number
 sound_from : (n : ℕ) (ts : List TypeDeclaration) → list_all has_sound_names ts ≡ true
     → list_all is_sound_enumeration (enumerations_from n ts) ≡ true
 sound_from n [] h = refl
 sound_from n (t ∷ ts) h =
-    let b = both (has_sound_names t)
+    let b = and_parts (has_sound_names t)
     (list_all has_sound_names ts) h in
     by_names (enumerated_names t.definition) b.0 (sound_from (n + 1) ts b.1) (sound_from n ts b.1)
   where
@@ -57,7 +59,7 @@ sound_from n (t ∷ ts) h =
           | Some names ↦ record { number = n; name = t.name.name; names = names } ∷ enumerations_from (n + 1) ts
           | None ↦ enumerations_from n ts
         ]) ≡ true
-    by_names (Some names) here more rest = both_are (is_sound_list names)
+    by_names (Some names) here more rest = and_from (is_sound_list names)
         (list_all is_sound_enumeration (enumerations_from (n + 1) ts)) here more
     by_names None here more rest = rest
 
@@ -79,7 +81,7 @@ numbered_from n (t ∷ ts) = by_names (enumerated_names t.definition) (numbered_
     by_names (Some names) more rest = (refl, more)
     by_names None more rest = rest
 
--- one that is found by its name stands at its number
+-- a type that is found by its name is at its number
 record IsAt (n : ℕ) (es : List Enumeration) (e : Enumeration) : Type 0 where
   from : ℕ
   number : e.number ≡ n + from
@@ -90,7 +92,7 @@ found_at : (n : ℕ) (es : List Enumeration) (x : Name) (e : Enumeration) → ar
     → list_all is_sound_enumeration es ≡ true → enumeration_named es x ≡ Some e → IsAt n es e
 found_at n [] x e numbered sound h = absurd (cc)
 found_at n (f ∷ fs) x e numbered sound h =
-    let b = both (is_sound_enumeration f) (list_all is_sound_enumeration fs) sound in
+    let b = and_parts (is_sound_enumeration f) (list_all is_sound_enumeration fs) sound in
     by_test (bytes_eq x f.name) h numbered.0 b.0 (λ g. found_at (n + 1) fs x e numbered.1 b.1 g)
   where
     by_test : (t : Bool) → (if t then Some f else enumeration_named fs x) ≡ Some e → f.number ≡ n
@@ -112,14 +114,14 @@ found_at n (f ∷ fs) x e numbered sound h =
 names_spelled : (names : List Identifier) → is_sound_list names ≡ true
     → has_names (Some (map (λ x. x.name) names)) (length names) ≡ true
 names_spelled names h =
-    let b = both (nat_lt 0 (length names) && nat_le (length names) MAX_NAMES) (list_all is_word names) h in
-    let c = both (nat_lt 0 (length names)) (nat_le (length names) MAX_NAMES) b.0 in
+    let b = and_parts (nat_lt 0 (length names) && nat_le (length names) MAX_NAMES) (list_all is_word names) h in
+    let c = and_parts (nat_lt 0 (length names)) (nat_le (length names) MAX_NAMES) b.0 in
     let some : 0 < length names = ltb-true 0 (length names) c.0 in
     let words = map (λ x. x.name) names in
-    both_are ((length words == length names && nat_le 1 (length names)) && nat_le (length names) MAX_NAMES)
+    and_from ((length words == length names && nat_le 1 (length names)) && nat_le (length names) MAX_NAMES)
     (list_all is_upper_name words)
-    (both_are (length words == length names && nat_le 1 (length names)) (nat_le (length names) MAX_NAMES)
-    (both_are (length words == length names) (nat_le 1 (length names))
+    (and_from (length words == length names && nat_le 1 (length names)) (nat_le (length names) MAX_NAMES)
+    (and_from (length words == length names) (nat_le 1 (length names))
     (same_length (length words) (length names) (length_map (λ x. x.name) names))
     (at_least_one (length names) some)) c.1)
     (list_all-map is_upper_name (λ x. x.name) names ∙ b.1)
@@ -139,7 +141,7 @@ enumeration_spelled ts h x e is =
     let n = f.number in
     let m : e.number ≡ f.from = omega arith in
     let names : slice_get (enumeration_names ts) e.number ≡ Some (map (λ x. x.name) e.names) =
-    ap (slice_get (enumeration_names ts)) m ∙ get_map (λ e. map (λ x. x.name) e.names) (enumerations_of ts) f.from
+    ap (slice_get (enumeration_names ts)) m ∙ slice_get-map (λ e. map (λ x. x.name) e.names) (enumerations_of ts) f.from
     ∙ ap (λ o. option_map (λ e. map (λ x. x.name) e.names) o) f.there in
     ap (λ o. has_names o (length e.names)) names ∙ names_spelled e.names f.sound
 
@@ -155,13 +157,9 @@ few_names names h = at_most (length names) MAX_NAMES (short_list MAX_NAMES names
     at_most : (m n : ℕ) → m ≤ n → nat_le m n ≡ true
     at_most m n h = grind (arith, nat_tests)
 
-pub nothing_joined : {A : Type 0} (xs ys : List A) → xs ++ ys ≡ [] → (xs ≡ []) × (ys ≡ [])
-nothing_joined [] ys h = (refl, h)
-nothing_joined (x ∷ xs) ys h = absurd (cc)
-
 nothing_surplus : (xs ys : List (List Identifier)) → flat_map surplus_name (xs ++ ys) ≡ []
     → (flat_map surplus_name xs ≡ []) × (flat_map surplus_name ys ≡ [])
-nothing_surplus xs ys h = nothing_joined (flat_map surplus_name xs) (flat_map surplus_name ys)
+nothing_surplus xs ys h = append_parts (flat_map surplus_name xs) (flat_map surplus_name ys)
     (sym (flat_map-append surplus_name xs ys) ∙ h)
 
 sound_definition : (d : TypeDefinition) → flat_map surplus_name (names_of_definition d) ≡ []
@@ -169,10 +167,10 @@ sound_definition : (d : TypeDefinition) → flat_map surplus_name (names_of_defi
 sound_definition (declarations.array a) h g = refl
 sound_definition (declarations.structure fields) h g = refl
 sound_definition (declarations.enumeration names) h g =
-    let b = both (nat_lt 0 (length names)) (list_all is_word names) g in
-    let few = few_names names (nothing_joined (surplus_name names) [] h).0 in
-    both_are (nat_lt 0 (length names) && nat_le (length names) MAX_NAMES) (list_all is_word names)
-    (both_are (nat_lt 0 (length names)) (nat_le (length names) MAX_NAMES) b.0 few) b.1
+    let b = and_parts (nat_lt 0 (length names)) (list_all is_word names) g in
+    let few = few_names names (append_parts (surplus_name names) [] h).0 in
+    and_from (nat_lt 0 (length names) && nat_le (length names) MAX_NAMES) (list_all is_word names)
+    (and_from (nat_lt 0 (length names)) (nat_le (length names) MAX_NAMES) b.0 few) b.1
 
 abbrev lists_of : List TypeDeclaration → List (List Identifier)
 lists_of ts = flat_map (λ t. names_of_definition t.definition) ts
@@ -182,9 +180,9 @@ sound_types : (ts : List TypeDeclaration) → flat_map surplus_name (lists_of ts
 sound_types [] h g = refl
 sound_types (t ∷ ts) h g =
     let e = nothing_surplus (names_of_definition t.definition) (lists_of ts) h in
-    let b = both (is_plain_type_declaration t) (list_all is_plain_type_declaration ts) g in
-    both_are (has_sound_names t) (list_all has_sound_names ts)
-    (sound_definition t.definition e.0 (both (is_word t.name) (is_plain_definition t.definition) b.0).1)
+    let b = and_parts (is_plain_type_declaration t) (list_all is_plain_type_declaration ts) g in
+    and_from (has_sound_names t) (list_all has_sound_names ts)
+    (sound_definition t.definition e.0 (and_parts (is_word t.name) (is_plain_definition t.definition) b.0).1)
     (sound_types ts e.1 b.1)
 
 pub sound_names : (source : Source) → flat_map surplus_name (enumerations_in source) ≡ []
@@ -192,11 +190,11 @@ pub sound_names : (source : Source) → flat_map surplus_name (enumerations_in s
 sound_names [] h g = refl
 sound_names (sources.types ts ∷ rest) h g =
     let e = nothing_surplus (lists_of ts) (enumerations_in rest) h in
-    let b = both (list_all is_plain_type_declaration ts) (list_all is_plain_element rest) g in
+    let b = and_parts (list_all is_plain_type_declaration ts) (list_all is_plain_element rest) g in
     list_all-append has_sound_names ts (types_in rest)
-    ∙ both_are (list_all has_sound_names ts) (list_all has_sound_names (types_in rest)) (sound_types ts e.0 b.0)
+    ∙ and_from (list_all has_sound_names ts) (list_all has_sound_names (types_in rest)) (sound_types ts e.0 b.0)
     (sound_names rest e.1 b.1)
 sound_names (sources.unit u ∷ rest) h g =
-    sound_names rest h (both (is_plain_unit u) (list_all is_plain_element rest) g).1
+    sound_names rest h (and_parts (is_plain_unit u) (list_all is_plain_element rest) g).1
 sound_names (sources.configuration c ∷ rest) h g =
-    sound_names rest h (both (is_plain_configuration c) (list_all is_plain_element rest) g).1
+    sound_names rest h (and_parts (is_plain_configuration c) (list_all is_plain_element rest) g).1

@@ -33,25 +33,23 @@ use Rattle.st_rules.specs.Nodes.{nodes_of, nodes_of_all, nodes_of_selectors, off
 use Rattle.st_rules.specs.ExpressionRules.{count_of, wrong_call, wrong_part, wrong_node, wrong_within}
 use Rattle.st_rules.specs.ExpressionRules.{wrong_expression}
 use Rattle.st_rules.proofs.TypingLaws.{all_kinds_told}
-use Rattle.st_link.proofs.Alikes.{front_empty, back_empty}
 use Rattle.st_link.proofs.KnownLemmas.{below_binary, own_part}
 use Rattle.st_link.proofs.ValueLaw.{inside, offers, standard_expected, inputs_expected, count_right, too_many}
 use Rattle.st_link.proofs.ValueLaw.{one_less, callee_by, own_callee, alone_expr}
 use Rattle.slot_trees.specs.Tables.{Table}
 use Rattle.machine_code.specs.Fitting.{UnitCall, of_function}
-use Rattle.machine_code.specs.Sites.{Site, end_of}
+use Rattle.machine_code.specs.UnitFrames.{UnitFrame, end_of}
 use Rattle.config.specs.Sound.{number_of_exprs, CallSound, ExprSound, ExprsSound, SelectorsSound}
 use Rattle.config.specs.Callable.{IsCallable}
 use Rattle.config.specs.Spelled.{ExprOf, ExprsOf, SelectorsOf}
 use Rattle.config.proofs.LiteralLemmas.{literal_value, named_held, member_value}
-
-same_number : (m n : ℕ) → (m == n) ≡ true → m ≡ n
-same_number m n h = grind (arith, nat_tests)
+use Rattle.st_types.proofs.TestLemmas.{equal_numbers}
+use Rattle.st_types.proofs.ListLemmas.{append_first, append_second}
 
 one_counted : (m n : ℕ) → m ≡ n → suc m ≡ 1 + n
 one_counted m n h = omega (arith, h)
 
--- no standard function asks for many arguments
+-- no standard function takes many arguments
 few_demands : (std : Standard) (k : Option Kind) → length (demands_of_standard std k) < 65536
 few_demands ABS k = omega arith
 few_demands MIN k = omega arith
@@ -64,7 +62,7 @@ few_demands ROL k = omega arith
 few_demands ROR k = omega arith
 few_demands (CONVERT a b) k = omega arith
 
-module _ (C : UnitCall → Type 0) (s : Site) (env : Environment) (t : Table) where
+module _ (C : UnitCall → Type 0) (s : UnitFrame) (env : Environment) (t : Table) where
   abbrev Callable : Name → Type 0
   Callable = IsCallable C s env t
 
@@ -111,7 +109,7 @@ module _ (C : UnitCall → Type 0) (s : Site) (env : Environment) (t : Table) wh
       ap (λ q. resolved_exprs env.text env.unit (expected_kinds std q) es) (all_kinds_told env es)
       ∙ standard_expected env.text env.unit std ks es in
       let number : number_of_exprs (resolved_exprs env.text env.unit (map expected_of ds) es) ≡ length ds =
-      all_counted (map expected_of ds) es ∙ same_number (count_of es) (length ds) n in
+      all_counted (map expected_of ds) es ∙ equal_numbers (count_of es) (length ds) n in
       let few : number_of_exprs (resolved_exprs env.text env.unit (map expected_of ds) es) < 65536 =
       subst (λ k. k < 65536) (sym number) (few_demands std (common_kind std ks)) in
       subst (λ (q : Exprs). CallIs f (Some std) q) (sym same) (all ds n h, few)
@@ -124,7 +122,7 @@ module _ (C : UnitCall → Type 0) (s : Site) (env : Environment) (t : Table) wh
   own_sound f inputs result es is callable all n h =
       let ds = map (λ i. asked i any) inputs in
       let count : length inputs ≡ number_of_exprs (resolved_exprs env.text env.unit inputs es) =
-      sym (length-map inputs (λ i. asked i any)) ∙ sym (same_number (count_of es) (length ds) n)
+      sym (length-map inputs (λ i. asked i any)) ∙ sym (equal_numbers (count_of es) (length ds) n)
       ∙ sym (all_counted inputs es) in (
         subst (λ (q : List (Option Kind)). ExprsSound C s t (resolved_exprs env.text env.unit q es))
             (inputs_expected inputs) (all ds n h),
@@ -169,21 +167,21 @@ module _ (C : UnitCall → Type 0) (s : Site) (env : Environment) (t : Table) wh
     expr_sound k (read (variable x no_selectors)) h of = alone_sound x (type_of_name env x.name)
     expr_sound k (read (variable x (selector_then y ys))) h of =
         selectors_sound (selector_then y ys)
-        (back_empty (wrong_part env k (read (variable x (selector_then y ys))))
+        (append_second (wrong_part env k (read (variable x (selector_then y ys))))
         (flat_map (wrong_node env) (nodes_of_selectors env (selector_then y ys))) h) of
     expr_sound k (named.call f es) h of =
         call_sound f.place f.name es (standard_of f.name) refl of.0 (λ ds n g. exprs_sound es ds n g of.1)
         (own_part env k (named.call f es) h)
-        (back_empty (wrong_part env k (named.call f es))
+        (append_second (wrong_part env k (named.call f es))
         (flat_map (wrong_node env) (nodes_of_all env (demands_of env (callee_of env f.name) es) es)) h)
     expr_sound k (parenthesis at e) h of = expr_sound k e h of
     expr_sound k (named.unary op at e) h of =
-        expr_sound k e (back_empty (wrong_part env k (named.unary op at e)) (wrong_within env k e) h) of
+        expr_sound k e (append_second (wrong_part env k (named.unary op at e)) (wrong_within env k e) h) of
     expr_sound k (named.binary op x y) h of =
         let o = offered k op (typing_of env x) (typing_of env y) in
         let below = below_binary env k op x y h in
-        let first = expr_sound o x (front_empty (wrong_within env o x) (wrong_within env o y) below) of.0 in
-        let second = expr_sound o y (back_empty (wrong_within env o x) (wrong_within env o y) below) of.1 in
+        let first = expr_sound o x (append_first (wrong_within env o x) (wrong_within env o y) below) of.0 in
+        let second = expr_sound o y (append_second (wrong_within env o x) (wrong_within env o y) below) of.1 in
         subst (λ (q : Option Kind). ExprSound C s t (resolved_expr env.text env.unit q x)
         × ExprSound C s t (resolved_expr env.text env.unit q y)) (sym (offers env k op x y)) (first, second)
 
@@ -195,8 +193,8 @@ module _ (C : UnitCall → Type 0) (s : Site) (env : Environment) (t : Table) wh
     exprs_sound (expr_then e es) (d ∷ ds) n h of =
         let split : wrong_expression env d e ++ flat_map (wrong_node env) (nodes_of_all env ds es) ≡ [] =
         sym (flat_map-append (wrong_node env) (nodes_of env d e) (nodes_of_all env ds es)) ∙ h in
-        let here = front_empty (wrong_expression env d e) (flat_map (wrong_node env) (nodes_of_all env ds es)) split in
-        let rest = back_empty (wrong_expression env d e) (flat_map (wrong_node env) (nodes_of_all env ds es)) split in (
+        let here = append_first (wrong_expression env d e) (flat_map (wrong_node env) (nodes_of_all env ds es)) split in
+        let rest = append_second (wrong_expression env d e) (flat_map (wrong_node env) (nodes_of_all env ds es)) split in (
           expr_sound (expected_of d) e (inside env d e here) of.0,
           exprs_sound es ds (one_less (count_of es) (length ds) n) rest of.1,
         )
@@ -210,7 +208,7 @@ module _ (C : UnitCall → Type 0) (s : Site) (env : Environment) (t : Table) wh
         let split : wrong_expression env d e ++ flat_map (wrong_node env) (nodes_of_selectors env xs) ≡ [] =
         sym (flat_map-append (wrong_node env) (nodes_of env d e) (nodes_of_selectors env xs)) ∙ h in
         let here =
-        front_empty (wrong_expression env d e) (flat_map (wrong_node env) (nodes_of_selectors env xs)) split in
+        append_first (wrong_expression env d e) (flat_map (wrong_node env) (nodes_of_selectors env xs)) split in
         let others =
-        back_empty (wrong_expression env d e) (flat_map (wrong_node env) (nodes_of_selectors env xs)) split in
+        append_second (wrong_expression env d e) (flat_map (wrong_node env) (nodes_of_selectors env xs)) split in
         (expr_sound None e (inside env d e here) of.0, selectors_sound xs others of.1)

@@ -32,10 +32,10 @@ use Rattle.layout.specs.Libraries.{program_of_unit}
 use Rattle.layout.specs.Names.{are_different, are_types_and_units_different, has_different_fields}
 use Rattle.layout.specs.Names.{has_different_variables, variable_names}
 use Rattle.layout.specs.Shapes.{Parts, size as size_of, sizes}
-use Rattle.layout.specs.Standing.{are_declared_once}
+use Rattle.layout.specs.VariableSlots.{are_declared_once}
 use Rattle.layout.specs.TextLayouts.{slots_of}
 use Rattle.layout.specs.Types.{NamedSite, sites_of_blocks}
-use Rattle.layout.proofs.ListLemmas.{both, map_some, neither, same_name, some_is, turned}
+use Rattle.layout.proofs.ListLemmas.{same_name}
 use Rattle.layout.proofs.NameLemmas.{variables_once}
 use Rattle.layout.proofs.ResolvedLemmas.{taken_text, same_unit_named}
 use Rattle.st_link.proofs.Among.{Among, here, later, in_map, none_of}
@@ -64,11 +64,10 @@ use Rattle.slot_trees.proofs.FunctionLinks.{function_link}
 use Rattle.slot_trees.proofs.FunctionLayouts.{fresh_layout}
 use Rattle.slot_trees.proofs.InstanceLemmas.{own_members_named}
 use Rattle.slot_trees.proofs.NamedLemmas.{named_behind, named_first, named_mapped, standard_code, standard_member}
-use Rattle.slot_trees.proofs.OptionLemmas.{then_some}
 use Rattle.slot_trees.specs.LibraryViews.{KeptLibrary}
 use Rattle.machine_code.specs.Fitting.{of_block, of_function, AllBelow}
-use Rattle.machine_code.specs.Programs.{program_site}
-use Rattle.machine_code.specs.Sites.{Site, end_of, site_at, site_from}
+use Rattle.machine_code.specs.Programs.{program_frame}
+use Rattle.machine_code.specs.UnitFrames.{UnitFrame, end_of, instance_frame, call_frame}
 use Rattle.st_compile.specs.Linked.{CallLinkedWithin, FunctionLinked, IfBodyLinked, IfFunctionLinked, InstanceLinked}
 use Rattle.st_compile.specs.Linked.{ProgramLinked, StmtsLinked}
 use Rattle.st_link.proofs.FunctionServes.{unit_in_order}
@@ -80,7 +79,6 @@ use Rattle.config.proofs.Selected.{symbol_within}
 use Rattle.config.proofs.LinkedStatements.{stmts_linked}
 use Rattle.st_link.specs.KeptTexts.{block_fits, function_fits, is_linked, kept_block, kept_blocks, kept_function, kept_functions}
 use Rattle.st_link.specs.KeptTexts.{kept_if}
-use Rattle.st_link.proofs.FirstSlotLemmas.{both_hold}
 use Rattle.config.specs.Bounded.{HasBoundedArrays}
 use Rattle.config.specs.Callable.{IsCallable, AreInvocable}
 use Rattle.config.specs.Spelled.{AreSpelled, HaveFewNames, IsAny, StmtsOf}
@@ -91,44 +89,44 @@ use Rattle.config.proofs.Kept.{function_of}
 use Rattle.config.proofs.Shallow.{IsShallow, program_shallow, unit_shallow}
 use Rattle.config.proofs.Signatures.{fresh_long, inputs_below, inputs_counted, layout_long, slot_below}
 use Rattle.config.proofs.Statements.{stmts_sound}
+use Rattle.std.proofs.lemmas.Bool.{or_parts, and_parts}
+use Rattle.st_types.proofs.TestLemmas.{without_zero, false_from_not}
+use Rattle.st_types.proofs.OptionLemmas.{some_is, map_some, then_some}
 
 spelled_at : (us : List OrganisationUnit) (u : OrganisationUnit) → Among u us → AreSpelled us
     → StmtsOf IsAny (stmts_of u.body)
 spelled_at us u (here) h = h.0
 spelled_at us u (later k) h = spelled_at _ u k h.1
 
--- what is kept is there
+-- a unit that is kept exists
 kept_some : {A : Type 0} (b : Bool) (o : Option A) (a : A) → kept_if b o ≡ Some (Some a)
     → (b ≡ true) × (o ≡ Some a)
 kept_some true (Some c) a h = let e : Some c ≡ Some a = some_is h in (refl, e)
 kept_some true None a h = absurd (cc)
 kept_some false o a h = let e : None ≡ Some a = some_is h in absurd (cc)
 
-members_long : (ms : List BlockMember) → sizes (parts_of_members ms) ≡ length ms
+pub members_long : (ms : List BlockMember) → sizes (parts_of_members ms) ≡ length ms
 members_long [] = refl
 members_long (m ∷ ms) = let rest = members_long ms in omega (arith, rest)
-
-no_base : (i j : ℕ) → i ≡ 0 + j → j ≡ i
-no_base i j h = omega (arith, h)
 
 small_layout : (n : ℕ) → nat_lt MAX_PATHS n ≡ false → n < 65536
 small_layout n h = grind (arith, nat_tests)
 
 -- a function with instances is not linked
-body_linked : (o : List (Name × Name)) (text : Declared) (symbols : List Symbol) (statements : Stmts)
+pub body_linked : (o : List (Name × Name)) (text : Declared) (symbols : List Symbol) (statements : Stmts)
     (body : SlotStmts) → linked_function_body text symbols o statements ≡ Some body
     → linked_stmts (table_of (numbers_of text) symbols []) statements ≡ Some body
 body_linked [] text symbols statements body h = h
 body_linked (i ∷ is) text symbols statements body h = absurd (cc)
 
--- code is made of units at which no chain of so many parts begins, called at most so many deep
+-- code is made of units at which no chain of `n + 1` parts begins, called at most `n` deep
 pub record UnitsCompiled (source : Source) (kept : KeptLibrary) (size n : ℕ) : Type 0 where
   pub functions : (f : Name) (u : OrganisationUnit) (r : SimpleType) (i start : ℕ)
       → unit_named (declared_in source).units f ≡ Some u → u.sort ≡ sorts.Function r
       → has_chain (declared_in source) (suc n) (named f) ≡ false
       → named_in (numbers_of (taken_text (declared_in source))).functions f ≡ Some i
       → CallLinkedWithin kept n (of_function i start (length (input_kinds (declared_in source) u.blocks)))
-  pub blocks : (b : Identifier) (code : BlockCode) (ps : Parts) (s : Site)
+  pub blocks : (b : Identifier) (code : BlockCode) (ps : Parts) (s : UnitFrame)
       → is_block (declared_in source) b.name ≡ true → has_chain (declared_in source) (suc n) (named b.name) ≡ false
       → named_in (numbers_of (taken_text (declared_in source))).blocks b.name ≡ Some code
       → named_in (numbers_of (taken_text (declared_in source))).members b.name ≡ Some ps
@@ -155,19 +153,19 @@ module _ (source : Source) (called : Name → Bool) (h : IsWellTyped source) (vs
   names_differ : are_types_and_units_different whole ≡ true
   names_differ =
       taken_differ text
-      (both (are_different (map (λ t. t.name.name) text.types)) (are_types_and_units_different text)
+      (and_parts (are_different (map (λ t. t.name.name) text.types)) (are_types_and_units_different text)
       (differ source h)).1
 
   variables_differ : (u : OrganisationUnit) → Among u (units_in source)
       → has_different_variables (resolved text u) ≡ true
   variables_differ u among =
       all_at has_different_variables (in_map (resolved text) among)
-      (both (list_all (λ t. has_different_fields t.definition) whole.types)
+      (and_parts (list_all (λ t. has_different_fields t.definition) whole.types)
       (list_all has_different_variables whole.units) names_differ).1
 
-  -- a body, where what it calls is compiled
+  -- a body, if the units that it calls are compiled
   module _ (m : ℕ) (units : UnitsCompiled source kept size m) (u : OrganisationUnit)
-      (among : Among u (units_in source)) (shallow : IsShallow source u m) (s : Site) where
+      (among : Among u (units_in source)) (shallow : IsShallow source u m) (s : UnitFrame) where
     abbrev env : Environment
     env = environment (declared_in source) u
 
@@ -209,8 +207,8 @@ module _ (source : Source) (called : Name → Bool) (h : IsWellTyped source) (vs
         let w = symbol_within s symbols x y.0 y.1 within in
         let there : slot_at s.base y.0.anchor + sizes e.members ≤ s.size =
         subst (λ sh. slot_at s.base y.0.anchor + size_of sh ≤ s.size) e.shape w.within in
-        subst (λ a. CallLinkedWithin kept m (of_block code (site_at s (slot_at s.base a)))) anchor
-        (units.blocks b code e.members (site_at s (slot_at s.base y.0.anchor)) block
+        subst (λ a. CallLinkedWithin kept m (of_block code (instance_frame s (slot_at s.base a)))) anchor
+        (units.blocks b code e.members (instance_frame s (slot_at s.base y.0.anchor)) block
         (shallow.instances x b is block) coded e.known same there)
 
     body_compiled : (symbols : List Symbol) (is : List (Name × Name)) (x : SlotStmts) → SymbolsWithin s symbols
@@ -252,7 +250,7 @@ module _ (source : Source) (called : Name → Bool) (h : IsWellTyped source) (vs
         variables_once whole names_differ sites
         (ap (λ t. are_different (variable_names t taken)) (sym sort) ∙ variables_differ u among)
 
-    no_invocation : (s : Site) (is : List (Name × Name))
+    no_invocation : (s : UnitFrame) (is : List (Name × Name))
         → AreInvocable (CallLinkedWithin kept m) s (environment text u) (table_of (numbers_of whole) symbols is)
     no_invocation s is x b named_so block =
         let none = (text_right source h).functions u.name.name u r (named_once source h u among) sort x in
@@ -261,8 +259,8 @@ module _ (source : Source) (called : Name → Bool) (h : IsWellTyped source) (vs
 
     few_values : function_fits whole r taken ≡ true → length (slots_of whole (map (owned_variable None) sites)) < 65536
     few_values fits =
-        let n = neither (nat_lt MAX_PATHS (layout_size whole (map (owned_variable None) sites))) _
-        (turned (is_too_large whole (map (owned_variable None) sites)) fits) in
+        let n = or_parts (nat_lt MAX_PATHS (layout_size whole (map (owned_variable None) sites))) _
+        (false_from_not (is_too_large whole (map (owned_variable None) sites)) fits) in
         subst (λ k. k < 65536) (sym (layout_long whole (map (owned_variable None) sites)))
         (small_layout (layout_size whole (map (owned_variable None) sites)) n.0)
 
@@ -289,7 +287,7 @@ module _ (source : Source) (called : Name → Bool) (h : IsWellTyped source) (vs
         let result = slot_below (layout_of_fresh (fresh_values whole sites)) taken.name.name g.result link.result in
         let count : length (input_kinds text u.blocks) ≡ length g.inputs =
         inputs_counted text u.blocks ∙ ap length (sym (inputs_taken text u.blocks)) ∙ inputs.0 in
-        let s = site_from start (length g.fresh) in
+        let s = call_frame start (length g.fresh) in
         let few_slots : s.size < 65536 = subst (λ k. k < 65536) (sym values) (few_values fits) in
         let unit = as_among (in_map (resolved text) among) in
         let within : SymbolsWithin s symbols =
@@ -310,7 +308,7 @@ module _ (source : Source) (called : Name → Bool) (h : IsWellTyped source) (vs
     function_if None start is = tt
     function_if (Some g) start is =
         let k = kept_some (is_linked called whole r taken) (linked_function whole r taken) g is in
-        function_compiled g start (both_hold (called taken.name.name) (function_fits whole r taken) k.0).1 k.1
+        function_compiled g start (and_parts (called taken.name.name) (function_fits whole r taken) k.0).1 k.1
 
   -- a block
   module _ (m : ℕ) (units : UnitsCompiled source kept size m) (u : OrganisationUnit)
@@ -319,7 +317,7 @@ module _ (source : Source) (called : Name → Bool) (h : IsWellTyped source) (vs
     abbrev taken_block : OrganisationUnit
     taken_block = resolved (declared_in source) u
 
-    block_compiled : (x : SlotStmts) (s : Site) → s.size ≡ size
+    block_compiled : (x : SlotStmts) (s : UnitFrame) → s.size ≡ size
         → s.base + sizes (members_of_block whole taken_block) ≤ s.size → linked_block whole vs taken_block ≡ Some x
         → StmtsLinked (CallLinkedWithin kept m) s x
     block_compiled x s same instance linked =
@@ -334,7 +332,7 @@ module _ (source : Source) (called : Name → Bool) (h : IsWellTyped source) (vs
         (subst (λ k. k < 65536) (sym same) small)
         (invocable m units u among shallow s (symbols_of_block whole vs taken_block) each within same) linked
 
-    block_if : (o : Option SlotStmts) (s : Site) → s.size ≡ size
+    block_if : (o : Option SlotStmts) (s : UnitFrame) → s.size ≡ size
         → s.base + sizes (members_of_block whole taken_block) ≤ s.size → kept_block whole vs taken_block ≡ Some o
         → IfBodyLinked (CallLinkedWithin kept m) (Some o) s
     block_if None s same instance is = tt
@@ -359,7 +357,7 @@ module _ (source : Source) (called : Name → Bool) (h : IsWellTyped source) (vs
       let kept_is : kept_function called whole r (resolved text u) ≡ Some k.value =
       function_kept f i u r sort ∙ ap (function_of called text f i) (sym same) ∙ k.is in
       let there : slice_get kept.functions i ≡ Some k.value =
-      ap (slice_get kept.functions) (sym (no_base i k.position k.number)) ∙ k.there in
+      ap (slice_get kept.functions) (sym (without_zero i k.position k.number)) ∙ k.there in
       subst (λ (o : Option (Option SlotFunction)). IfFunctionLinked (CallLinkedWithin kept m) o start
       (length (input_kinds text u.blocks))) (sym there)
       (function_if m units u among (unit_shallow source h f u is m none) r sort k.value start kept_is)
@@ -368,7 +366,7 @@ module _ (source : Source) (called : Name → Bool) (h : IsWellTyped source) (vs
       → kept_block whole vs (resolved text u) ≡ kept_block_of called text f i vs u
   block_kept f i u sort = ap (λ (s : UnitSort). block_by called text f i vs s u) (sym sort)
 
-  standard_compiled : (m : ℕ) (b : Name) (k : StandardBlock) (code : BlockCode) (ps : Parts) (s : Site)
+  standard_compiled : (m : ℕ) (b : Name) (k : StandardBlock) (code : BlockCode) (ps : Parts) (s : UnitFrame)
       → block_of b ≡ Some k → named_in (numbers_of whole).blocks b ≡ Some code
       → named_in (numbers_of whole).members b ≡ Some ps → s.base + sizes ps ≤ s.size
       → InstanceLinked (CallLinkedWithin kept m) kept code s
@@ -383,7 +381,7 @@ module _ (source : Source) (called : Name → Bool) (h : IsWellTyped source) (vs
       (subst (λ n. s.base + n ≤ s.size) (ap sizes (sym members_are) ∙ members_long (members_of k)) instance)
 
   own_compiled : (m : ℕ) → UnitsCompiled source kept size m → (b : Name) (u : OrganisationUnit) (code : BlockCode)
-      (ps : Parts) (s : Site) → block_of b ≡ None → unit_named text.units b ≡ Some u → u.sort ≡ sorts.FunctionBlock
+      (ps : Parts) (s : UnitFrame) → block_of b ≡ None → unit_named text.units b ≡ Some u → u.sort ≡ sorts.FunctionBlock
       → has_chain text (suc (suc m)) (named b) ≡ false → named_in (numbers_of whole).blocks b ≡ Some code
       → named_in (numbers_of whole).members b ≡ Some ps → s.size ≡ size → s.base + sizes ps ≤ s.size
       → InstanceLinked (CallLinkedWithin kept m) kept code s
@@ -406,13 +404,13 @@ module _ (source : Source) (called : Name → Bool) (h : IsWellTyped source) (vs
       let kept_is : kept_block whole vs (resolved text u) ≡ Some k.value =
       block_kept b n.0 u sort ∙ ap (kept_block_of called text b n.0 vs) (sym same) ∙ k.is in
       let there : slice_get kept.blocks n.0 ≡ Some k.value =
-      ap (slice_get kept.blocks) (sym (no_base n.0 k.position k.number)) ∙ k.there in
+      ap (slice_get kept.blocks) (sym (without_zero n.0 k.position k.number)) ∙ k.there in
       subst (λ (c : BlockCode). InstanceLinked (CallLinkedWithin kept m) kept c s) n.2
       (subst (λ (o : Option (Option SlotStmts)). IfBodyLinked (CallLinkedWithin kept m) o s) (sym there)
       (block_if m units u among (unit_shallow source h b u is m none) sort k.value s same_size
       (subst (λ qs. s.base + sizes qs ≤ s.size) (sym members_are) instance) kept_is))
 
-  next_block : (m : ℕ) → UnitsCompiled source kept size m → (b : Identifier) (code : BlockCode) (ps : Parts) (s : Site)
+  next_block : (m : ℕ) → UnitsCompiled source kept size m → (b : Identifier) (code : BlockCode) (ps : Parts) (s : UnitFrame)
       → is_block text b.name ≡ true → has_chain text (suc (suc m)) (named b.name) ≡ false
       → named_in (numbers_of whole).blocks b.name ≡ Some code → named_in (numbers_of whole).members b.name ≡ Some ps
       → s.size ≡ size → s.base + sizes ps ≤ s.size → CallLinkedWithin kept (suc m) (of_block code s)
@@ -448,7 +446,7 @@ module _ (source : Source) (called : Name → Bool) (h : IsWellTyped source) (vs
       → ProgramLinked kept 0 size x 64
   program_compiled u among sort owner has x linked =
       let taken = resolved text u in
-      let s = program_site 0 size in
+      let s = program_frame 0 size in
       let symbols = symbols_of_program whole vs owner taken in
       let differ = ap (λ t. are_different (variable_names t taken)) (sym sort) ∙ variables_differ u among in
       let each = program_instances whole taken differ (unit_in_order source h u among) vs owner has in

@@ -1,4 +1,4 @@
--- A text that has a plan is given it.
+-- A text that has a plan gets it.
 use Rattle.std.proofs.Common.{◌≡◌, ◌∙◌, ℕ, sym, ap, subst, arith, Bool, true, false, ◌||◌, List, [], ◌∷◌}
 use Rattle.std.proofs.Common.{length, Result, Ok, Err, IfOk, IfErr}
 use Rattle.std.specs.Prelude.{◌==◌, nat_lt}
@@ -23,7 +23,7 @@ use Rattle.plan.specs.declared.plan.Plan.{Plan}
 use Rattle.plan.specs.PlanViews.{plan_view}
 use Rattle.config.specs.declared.build_error.BuildError.{BuildError}
 use Rattle.config.specs.declared.build_error.BuildError.TheVariants as errors
-use Rattle.config.specs.Refusals.{GivesPlan, IsWant, SourceLacksPlan}
+use Rattle.config.specs.Refusals.{GivesPlan, IsLackOfRoom, SourceLacksPlan}
 use Rattle.config.specs.TextPlans.{IsPlanOf}
 
 none_there : {X : Type 0} (x : X) → Contains [] x → ⊥
@@ -38,7 +38,7 @@ same_one c d h = ap (head_or c) h
 
 -- its configuration is sound
 broken_none : (source : Source) (c : Configuration) (e : ConfigurationError) → IsConfigured source
-    → configurations_in source ≡ c ∷ [] → BreaksRule source c e → IsWant source (errors.Configuration e)
+    → configurations_in source ≡ c ∷ [] → BreaksRule source c e → IsLackOfRoom source (errors.Configuration e)
 broken_none source c configurations.NotOne of one h =
     let f = subst (λ cs. (length cs == 1) ≡ false) one h in absurd (cc)
 broken_none source c configurations.Unknown of one h =
@@ -56,7 +56,7 @@ broken_none source c configurations.WithoutTask of one h =
 broken_none source c configurations.OutOfMemory of one h = h
 
 misconfigured : (source : Source) (e : ConfigurationError) → IsConfigured source → IsMisconfigured source e
-    → IsWant source (errors.Configuration e)
+    → IsLackOfRoom source (errors.Configuration e)
 misconfigured source configurations.NotOne of h =
     let f = subst (λ cs. (length cs == 1) ≡ false) of.one h in absurd (cc)
 misconfigured source configurations.Unknown of h = broken_none source h.0 configurations.Unknown of h.1 h.2
@@ -68,9 +68,9 @@ misconfigured source configurations.OutOfMemory of h = h
 not_large : (a b : Bool) → a ≡ false → b ≡ false → (a || b) ≡ true → ⊥
 not_large a b h k e = let f : (a || b) ≡ false = ap (λ x. x || b) h ∙ k in absurd (cc)
 
--- so it is refused only where something is wanting
+-- so it is refused only if memory runs out or its code has no room
 refused : (source : Source) (budget : ℕ) (plan : plans.Plan) (e : BuildError) → IsPlanOf source budget plan
-    → SourceLacksPlan source e → IsWant source e
+    → SourceLacksPlan source e → IsLackOfRoom source e
 refused source budget plan errors.Budget of h = absurd h.1
 refused source budget plan (errors.Words x) of h = absurd h.1
 refused source budget plan (errors.Grammar x) of h = absurd h.1

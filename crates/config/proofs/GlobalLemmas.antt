@@ -13,7 +13,7 @@ use Rattle.st_types.specs.declared.configuration.GlobalQualifier.{GlobalQualifie
 use Rattle.st_types.specs.Configurations.{GlobalDeclaration, GlobalBlock}
 use Rattle.st_meaning.specs.NameTypes.{Declared, is_named}
 use Rattle.st_meaning.specs.Scopes.{Name}
-use Rattle.st_rules.specs.ConfigurationRules.{stands_for, is_known_external, is_boolean_global, is_known_single}
+use Rattle.st_rules.specs.ConfigurationRules.{is_external_of, is_known_external, is_boolean_global, is_known_single}
 use Rattle.st_rules.specs.ConfigurationRules.{same_type, is_fixed_global}
 use Rattle.st_rules.specs.NameScopes.{globals_of_block, listed_names}
 use Rattle.st_rules.specs.Places.{places_where, repeats}
@@ -23,12 +23,13 @@ use Rattle.symbols.specs.Found.{or_found}
 use Rattle.config.specs.declared.globals.Global as code
 use Rattle.config.specs.declared.globals.NamedGlobal.{NamedGlobal}
 use Rattle.config.specs.Globals.{global_named, is_global_for, is_boolean, global_view, named_global_view}
+use Rattle.st_types.proofs.ListLemmas.{append_parts}
 
 -- some global of the name passes
 abbrev any_named : (Global → Bool) → Name → List (Name × Global) → Bool
 any_named q x gs = list_any (λ g. bytes_eq x g.0 && q g.1) gs
 
--- the global passes that a name stands for
+-- the global for which a name stands passes
 abbrev passes : (Global → Bool) → Option Global → Bool
 passes q None = false
 passes q (Some g) = q g
@@ -99,11 +100,6 @@ names_of_globals blocks = names_flat globals_in_block globals_of_block
     (λ b. names_flat (globals_of_declaration b.qualifier) (λ d. listed_names d.names)
     (λ d. names_listed (global_of b.qualifier d) (listed_names d.names)) b.declarations) blocks
 
--- lists of which nothing is left
-joined_nothing : {A : Type 0} (xs ys : List A) → xs ++ ys ≡ [] → (xs ≡ []) × (ys ≡ [])
-joined_nothing [] ys h = (refl, h)
-joined_nothing (x ∷ xs) ys h = absurd (cc)
-
 head_is : (x y : Name) (xs ys : List Name) → (x ∷ xs) ≡ (y ∷ ys) → (x ≡ y) × (xs ≡ ys)
 head_is x y xs ys h = (ap (first x) h, ap rest h)
   where
@@ -115,7 +111,7 @@ head_is x y xs ys h = (ap (first x) h, ap rest h)
     rest [] = []
     rest (z ∷ zs) = zs
 
--- a name that does not stand again stands for no later global
+-- a name that does not occur again stands for no later global
 none_later : (q : Global → Bool) (x : Name) (gs : List (Name × Global)) (ys : List Identifier)
     → map (λ e. e.0) gs ≡ map (λ y. y.name) ys → places_where (is_named x) ys ≡ [] → any_named q x gs ≡ false
 none_later q x [] ys h none = refl
@@ -130,14 +126,14 @@ none_later q x (g ∷ gs) (y ∷ ys) h none =
     by_test true f e later = absurd (cc)
     by_test false f e later = ap (λ b. (b && q g.1) || any_named q x gs) e ∙ later f
 
--- where no name stands again, a search finds what the name stands for
+-- if no name occurs again, a search finds the global for which the name stands
 pub found_once : (q : Global → Bool) (x : Name) (gs : List (Name × Global)) (ys : List Identifier)
     → map (λ e. e.0) gs ≡ map (λ y. y.name) ys → repeats ys ≡ [] → any_named q x gs ≡ passes q (global_named gs x)
 found_once q x [] ys h once = refl
 found_once q x (g ∷ gs) [] h once = absurd (cc)
 found_once q x (g ∷ gs) (y ∷ ys) h once =
     let s = head_is g.0 y.name (map (λ e. e.0) gs) (map (λ z. z.name) ys) h in
-    let n = joined_nothing (places_where (is_named y.name) ys) (repeats ys) once in
+    let n = append_parts (places_where (is_named y.name) ys) (repeats ys) once in
     by_test (bytes_eq x g.0) refl (found_once q x gs ys s.1 n.1)
     (λ e. none_later q x gs ys s.1
     (ap (λ z. places_where (is_named z) ys) ((bytes_eq-Decides x g.0).0 e ∙ s.0) ∙ n.0))
@@ -152,7 +148,7 @@ found_once q x (g ∷ gs) (y ∷ ys) h once =
         or_false false = refl
     by_test false e here later = here
 
--- what a configuration's names stand for, where each is declared once, whatever is asked of a declaration
+-- the meanings of a configuration's names, if each is declared once, whatever is asked of a declaration
 pub found_global : (q : Global → Bool) (asked : Option GlobalQualifier → GlobalDeclaration → Bool) (x : Name)
     (blocks : List GlobalBlock) → ((k : Option GlobalQualifier) (d : GlobalDeclaration)
     → asked k d ≡ (list_any (is_named x) (listed_names d.names) && q (global_of k d)))
@@ -173,14 +169,14 @@ and_assoc : (a b c : Bool) → ((a && b) && c) ≡ (a && (b && c))
 and_assoc true b c = refl
 and_assoc false b c = refl
 
--- an external is known just where its name stands for a global of its type
+-- an external is known exactly if its name stands for a global of its type
 pub external_known : (text : Declared) (blocks : List GlobalBlock) (constant : Bool) (t : VariableType) (x : Name)
     → repeats (flat_map globals_of_block blocks) ≡ []
     → is_known_external text blocks constant t x
     ≡ is_global_for text constant t (global_named (globals_in blocks) x)
 external_known text blocks constant t x once =
     found_global (λ g. same_type text t g.declared && (if constant then g.is_fixed else not g.is_fixed))
-    (stands_for text constant t x) x blocks
+    (is_external_of text constant t x) x blocks
     (λ k d. and_assoc (list_any (is_named x) (listed_names d.names)) (same_type text t d.declared)
     (if constant then is_fixed_global k d.names else not (is_fixed_global k d.names))) once
     ∙ told (global_named (globals_in blocks) x)

@@ -10,7 +10,6 @@ use Rattle.layout.specs.Libraries.{instances_among}
 use Rattle.layout.specs.Names.{are_different, names_of_sites}
 use Rattle.layout.specs.Shapes.{of_instance}
 use Rattle.layout.specs.Types.{Site, shape_of_type, parts_of, sites_of_blocks, site_named, is_within_depth}
-use Rattle.layout.proofs.ListLemmas.{both, turned}
 use Rattle.slot_trees.specs.Tables.{Symbol, named_in}
 use Rattle.slot_trees.specs.LinkedTexts.{IsInstance, EachInstance}
 use Rattle.slot_trees.specs.Orderly.{has_orderly_variables}
@@ -19,17 +18,19 @@ use Rattle.slot_trees.specs.TextNumbers.{members_of_block, numbers_of}
 use Rattle.slot_trees.proofs.BlockTableLemmas.{members_stand}
 use Rattle.slot_trees.proofs.InstanceLemmas.{IsInstanceSite, instance_site, instance_shape, members_known, orderly_site}
 use Rattle.slot_trees.proofs.InstanceLemmas.{site_part}
+use Rattle.std.proofs.lemmas.Bool.{and_parts}
+use Rattle.st_types.proofs.TestLemmas.{false_from_not}
 
 module _ (text : Declared) (u : OrganisationUnit)
     (differ : are_different (names_of_sites (sites_of_blocks u.blocks)) ≡ true)
     (orderly : has_orderly_variables text u ≡ true) where
-  -- an instance of the unit is no external, and is not too deep
+  -- an instance of the unit isn't an external, and is not too deep
   apart : (x : Name) (s : Site) → site_named (sites_of_blocks u.blocks) x ≡ Some s
       → (contains_name (externals_in u.blocks) x ≡ false) × (is_within_depth MAX_TYPE_DEPTH text s.declared ≡ true)
   apart x s h =
-      let b = both (not (contains_name (externals_in u.blocks) x)) (is_within_depth MAX_TYPE_DEPTH text s.declared)
+      let b = and_parts (not (contains_name (externals_in u.blocks) x)) (is_within_depth MAX_TYPE_DEPTH text s.declared)
       (orderly_site text (externals_in u.blocks) (sites_of_blocks u.blocks) orderly x s h) in
-      (turned (contains_name (externals_in u.blocks) x) b.0, b.1)
+      (false_from_not (contains_name (externals_in u.blocks) x) b.0, b.1)
 
   is_instance : (x b : Name) (y : Symbol) (i : IsInstanceSite text (sites_of_blocks u.blocks) x b)
       → y.shape ≡ shape_of_type text i.site.declared → y.is_input ≡ false → IsInstance (numbers_of text) b y

@@ -22,17 +22,17 @@ use Rattle.layout.specs.Names.{are_different, names_of_sites}
 use Rattle.layout.specs.Types.{BlockType, NamedSite, block_type_named}
 use Rattle.layout.specs.Types.{block_type_of, instance_of, own_block_type}
 use Rattle.layout.specs.Types.{site_of_member}
-use Rattle.layout.proofs.ListLemmas.{both, neither, same_name, some_is, turned}
+use Rattle.layout.proofs.ListLemmas.{same_name}
 use Rattle.st_link.proofs.Among.{Among, here, later, in_front, in_back, in_either}
 use Rattle.st_link.proofs.FoundNames.{unit_found}
-use Rattle.st_link.specs.LinkVariables.{LinkVariable, named_so, of_site, variables_in, variables_of_blocks}
+use Rattle.st_link.specs.LinkVariables.{LinkVariable, named_so, of_site, link_variables, variables_of_blocks}
 use Rattle.st_link.specs.CalledFunctions.{type_among}
-use Rattle.config.proofs.LinkedCalls.{first_or}
+use Rattle.config.proofs.LinkedCalls.{first_or, none_among}
+use Rattle.std.proofs.lemmas.Bool.{or_parts, and_parts}
+use Rattle.st_types.proofs.OptionLemmas.{some_is}
+use Rattle.st_types.proofs.TestLemmas.{false_from_not}
 
-none_among : {A X : Type 0} {a : A} → Among a [] → X
-none_among a = elim a [ ]
-
--- what is among the images of a list
+-- the elements of the images of a list
 pub record IsImage {A B : Type 0} (f : A → B) (b : B) (xs : List A) : Type 0 where
   pub element : A
   pub among : Among element xs
@@ -45,7 +45,7 @@ of_map f b (x ∷ xs) a = elim (first_or a) [
   | inr k ↦ let i = of_map f b xs k in record { element = i.element; among = later i.among; is = i.is }
 ]
 
--- what is among the lists of a list's elements
+-- the elements of the lists of a list's elements
 pub record IsInFlat {A B : Type 0} (f : A → List B) (b : B) (xs : List A) : Type 0 where
   pub element : A
   pub among : Among element xs
@@ -80,12 +80,12 @@ same_part (types.Array a) = refl
 
 module _ (text : Declared) where
   declared_part : (ds : List Declaration) (v : LinkVariable)
-      → Among v (variables_in (map (resolved_declaration text) ds))
+      → Among v (link_variables (map (resolved_declaration text) ds))
       → Among (part_of_type v.declared) (map (λ d. part_of_type d.declared) ds)
   declared_part [] v a = none_among a
   declared_part (d ∷ ds) v a =
       elim (in_either (map (named_so (resolved_type d.declared)) d.names)
-      (variables_in (map (resolved_declaration text) ds)) a) [
+      (link_variables (map (resolved_declaration text) ds)) a) [
         | inl k ↦
             let i = of_map (named_so (resolved_type d.declared)) v d.names k in
             let same : part_of_type d.declared ≡ part_of_type v.declared =
@@ -102,7 +102,7 @@ module _ (text : Declared) where
   variable_part (b ∷ bs) v a = by_section (is_external b.section) a (variable_part bs v)
     where
       by_section : (e : Bool) → Among v (if e then variables_of_blocks (map (resolved_block text) bs)
-          else variables_in (map (resolved_declaration text) b.declarations)
+          else link_variables (map (resolved_declaration text) b.declarations)
           ++ variables_of_blocks (map (resolved_block text) bs))
           → (Among v (variables_of_blocks (map (resolved_block text) bs))
           → Among (part_of_type v.declared) (flat_map parts_of_block bs))
@@ -110,7 +110,7 @@ module _ (text : Declared) where
           ((if e then [] else map (λ d. part_of_type d.declared) b.declarations) ++ flat_map parts_of_block bs)
       by_section true k rest = rest k
       by_section false k rest =
-          elim (in_either (variables_in (map (resolved_declaration text) b.declarations))
+          elim (in_either (link_variables (map (resolved_declaration text) b.declarations))
           (variables_of_blocks (map (resolved_block text) bs)) k) [
             | inl own ↦ in_front (flat_map parts_of_block bs) (declared_part b.declarations v own)
             | inr other ↦ in_back (map (λ (d : Declaration). part_of_type d.declared) b.declarations) (rest other)
@@ -124,12 +124,12 @@ module _ (text : Declared) where
       subst (λ s. Among (part_of_type s) (flat_map parts_of_block bs)) v.declared
       (variable_part bs v.variable v.among)
 
--- a name that no site has is no instance's
+-- a name that no site has isn't that of an instance
 not_named : (text : Declared) (ds : List NamedSite) (x c : Name) → contains_name (names_of_sites ds) x ≡ false
     → block_named (instances_among text ds) x ≡ Some c → ⊥
 not_named text [] x c absent h = absurd (cc)
 not_named text (d ∷ ds) x c absent h =
-    let a = neither (bytes_eq x d.name) (contains_name (names_of_sites ds) x) absent in
+    let a = or_parts (bytes_eq x d.name) (contains_name (names_of_sites ds) x) absent in
     by_block a.0 (instance_of text d.site.declared) (not_named text ds x c a.1) h
   where
     by_block : bytes_eq x d.name ≡ false → (o : Option BlockType)
@@ -149,7 +149,7 @@ instance_is text (d ∷ ds) x c t differ h k =
     by_name (bytes_eq x d.name) refl h (λ g. instance_is text ds x c t apart.1 g)
   where
     apart : (not (contains_name (names_of_sites ds) d.name) ≡ true) × (are_different (names_of_sites ds) ≡ true)
-    apart = both (not (contains_name (names_of_sites ds) d.name)) (are_different (names_of_sites ds)) differ
+    apart = and_parts (not (contains_name (names_of_sites ds) d.name)) (are_different (names_of_sites ds)) differ
 
     by_block : bytes_eq x d.name ≡ true → (o : Option BlockType) → instance_of text d.site.declared ≡ o
         → block_named (instance_then d.name o (instances_among text ds)) x ≡ Some c
@@ -157,7 +157,7 @@ instance_is text (d ∷ ds) x c t differ h k =
     by_block named None is g =
         let free : contains_name (names_of_sites ds) x ≡ false =
         subst (λ y. contains_name (names_of_sites ds) y ≡ false) (sym (same_name x d.name named))
-        (turned (contains_name (names_of_sites ds) d.name) apart.0) in
+        (false_from_not (contains_name (names_of_sites ds) d.name) apart.0) in
         absurd (not_named text ds x c free g)
     by_block named (Some b) is g = (
       b,

@@ -9,7 +9,6 @@ use Rattle.st_meaning.specs.NameTypes.{Declared}
 use Rattle.st_meaning.specs.ResolvedUnits.{resolved}
 use Rattle.st_meaning.specs.Scopes.{Name}
 use Rattle.layout.specs.LayoutVariables.{Owned}
-use Rattle.layout.proofs.ListLemmas.{some_is}
 use Rattle.layout.proofs.ResolvedLemmas.{taken_text}
 use Rattle.st_link.proofs.Among.{Among, here, later}
 use Rattle.slot_trees.specs.SlotTrees.{SlotFunction, SlotStmts}
@@ -18,8 +17,9 @@ use Rattle.slot_trees.specs.TextNumbers.{numbered_from, function_name_then, func
 use Rattle.slot_trees.proofs.LibraryLinks.{linked_list}
 use Rattle.st_link.specs.KeptTexts.{kept_block, kept_block_then, kept_blocks, kept_function, kept_function_then}
 use Rattle.st_link.specs.KeptTexts.{kept_functions}
+use Rattle.st_types.proofs.OptionLemmas.{some_is}
 
--- a unit of a list, with what is kept of it by its number
+-- a unit of a list, and the one that is kept of it by its number
 pub record IsKeptAt (A : Type 0) (kept : OrganisationUnit → Option A) (us : List OrganisationUnit) (gs : List A)
     (x : Name) (n i : ℕ) : Type 0 where
   pub unit : OrganisationUnit
@@ -85,7 +85,7 @@ module _ (called : Name → Bool) (text : Declared) (x : Name) (i : ℕ) where
   abbrev whole : Declared
   whole = taken_text text
 
-  -- what is kept of a unit that is a function
+  -- the function that is kept of a unit
   abbrev pub function_by : UnitSort → OrganisationUnit → Option (Option SlotFunction)
   function_by (sorts.Function t) u = kept_function called (taken_text text) t (resolved text u)
   function_by sorts.FunctionBlock u = None
@@ -122,7 +122,7 @@ module _ (called : Name → Bool) (text : Declared) (x : Name) (i : ℕ) where
   function_at (v ∷ us) n gs h g = function_cases v us v.sort refl n gs (λ m fs k j. function_at us m fs k j) h g
 
   module _ (vs : List Owned) where
-    -- of one that is a block
+    -- and the block
     abbrev pub block_by : UnitSort → OrganisationUnit → Option (Option SlotStmts)
     block_by sorts.FunctionBlock u = kept_block (taken_text text) vs (resolved text u)
     block_by (sorts.Function t) u = None

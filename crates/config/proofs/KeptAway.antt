@@ -1,37 +1,36 @@
--- Linked statements keep away from a slot, where their control variables and the instances that they call do.
+-- Linked statements keep away from a slot if their control variables and the instances that they call do.
 use Rattle.std.proofs.Common.{◌≡◌, subst, ap, ◌∙◌, ℕ, ◌+◌, List, [], ◌∷◌, Some}
 use Rattle.std.specs.Prelude.{option_map, option_and_then}
 use Rattle.st_types.specs.Statements as text
 use Rattle.st_types.specs.Statements.{Argument, Stmt, Stmts, Arms, CaseArms}
 use Rattle.st_meaning.specs.Scopes.{Name}
 use Rattle.layout.specs.Shapes.{Parts}
-use Rattle.layout.proofs.ListLemmas.{map_some}
 use Rattle.slot_trees.specs.Linking.{linked, linked_target}
 use Rattle.slot_trees.specs.LinkedStatements.{control_of, Instance, instance_of_symbol, offset_of, linked_argument}
-use Rattle.slot_trees.specs.LinkedStatements.{linked_arguments, linked_step, code_of, linked_call_of, linked_stmt}
+use Rattle.slot_trees.specs.LinkedStatements.{linked_arguments, linked_step, block_code_of, linked_call_of, linked_stmt}
 use Rattle.slot_trees.specs.LinkedStatements.{linked_stmts, linked_arms, linked_case_arms}
 use Rattle.slot_trees.specs.SlotEvaluation.{slot_at}
 use Rattle.slot_trees.specs.SlotTrees.{Anchor, BlockCode, SlotArgument, given, copied, SlotStmt, empty, assign, invoke}
 use Rattle.slot_trees.specs.SlotTrees.{IF, CASE, FOR, WHILE, REPEAT, EXIT, RETURN, SlotStmts, no_stmts, stmt_then}
 use Rattle.slot_trees.specs.SlotTrees.{SlotArms, no_arms, arm_then, SlotCaseArms, no_case_arms, case_arm_then}
 use Rattle.slot_trees.specs.Tables.{Table, symbol_of, part_at}
-use Rattle.slot_trees.proofs.OptionLemmas.{then_some}
 use Rattle.machine_code.specs.Codes.{CodeUnits}
-use Rattle.machine_code.specs.Sites.{Site, slot_in}
+use Rattle.machine_code.specs.UnitFrames.{UnitFrame, slot_in}
 use Rattle.config.proofs.CodeReads.{CopiesAvoid, BlockKeeps, StmtAvoids, StmtsAvoid, ArmsAvoid, CaseArmsAvoid}
 use Rattle.config.proofs.Counters.{StmtCounts, StmtsCount, ArmsCount, CaseArmsCount}
+use Rattle.st_types.proofs.OptionLemmas.{map_some, then_some}
 
--- a call of an instance of a block keeps code clean, and no output of it stands in the slot
-pub record InstanceAvoids (k : ℕ) (units : CodeUnits) (s : Site) (i : Instance) (code : BlockCode) : Type 0 where
+-- a call of an instance of a block keeps code clean, and none of its outputs is in the slot
+pub record InstanceAvoids (k : ℕ) (units : CodeUnits) (s : UnitFrame) (i : Instance) (code : BlockCode) : Type 0 where
   pub block : BlockKeeps k units s code (slot_at s.base i.anchor)
   pub outputs : (x : Name) (o : ℕ) → option_and_then offset_of (part_at i.members x) ≡ Some o
       → s.start + (slot_at s.base i.anchor + o) ≡ k → ⊥
 
-module _ (k : ℕ) (units : CodeUnits) (s : Site) (t : Table) (Own : Name → Type 0)
+module _ (k : ℕ) (units : CodeUnits) (s : UnitFrame) (t : Table) (Own : Name → Type 0)
     (control : (x : Name) (a : Anchor) → Own x → option_and_then control_of (symbol_of t.symbols x) ≡ Some a
     → slot_in s a ≡ k → ⊥)
     (instance : (x : Name) (i : Instance) (code : BlockCode)
-    → option_and_then instance_of_symbol (symbol_of t.symbols x) ≡ Some i → code_of t x ≡ Some code
+    → option_and_then instance_of_symbol (symbol_of t.symbols x) ≡ Some i → block_code_of t x ≡ Some code
     → InstanceAvoids k units s i code) where
   copies_avoid : (ps : Parts) (at : ℕ) (rest : List Argument) (xs : List SlotArgument)
       → ((x : Name) (o : ℕ) → option_and_then offset_of (part_at ps x) ≡ Some o → s.start + (at + o) ≡ k → ⊥)
@@ -70,7 +69,7 @@ module _ (k : ℕ) (units : CodeUnits) (s : Site) (t : Table) (Own : Name → Ty
         let m = then_some (linked_call_of t x.name arguments)
         (option_and_then instance_of_symbol (symbol_of t.symbols x.name)) y h in
         let n = then_some (λ code. option_map (invoke m.0.anchor code) (linked_arguments t m.0.members arguments))
-        (code_of t x.name) y m.2 in
+        (block_code_of t x.name) y m.2 in
         let l = map_some (invoke m.0.anchor n.0) (linked_arguments t m.0.members arguments) y n.2 in
         let i = instance x.name m.0 n.0 m.1 n.1 in
         subst (λ z. StmtAvoids k units s z) l.2

@@ -1,4 +1,4 @@
--- Variables one behind another, and the inputs behind them, are a layout where the slots in their order are one.
+-- Variables one after another, and the inputs after them, are a layout if the slots in their order are one.
 use Rattle.std.proofs.Common.{◌≡◌, ℕ, zero, suc, refl, sym, ap, ◌∙◌, arith, Bool, true, false}
 use Rattle.std.proofs.Common.{if◌then◌else◌, List, [], ◌∷◌, ◌++◌, map, slice_get, Option, Some, None}
 use Rattle.std.proofs.Common.{option_map}
@@ -8,21 +8,17 @@ use Rattle.st_meaning.specs.Slots.{Slot, slot_of, IsLayout}
 use Rattle.st_meaning.specs.Layouts.{layout_of, variable_slot, input_slot}
 use Rattle.layout.specs.declared.slots.LayoutSlot.{LayoutSlot}
 use Rattle.layout.specs.KeptLayouts.{slot_view, variable_of, input_of, variables_among, inputs_among}
-
-some_is : {A : Type 0} {x y : A} → ◌≡◌ {A = Option A} (Some x) (Some y) → x ≡ y
-some_is h = cc
+use Rattle.layout.proofs.StoreLemmas.{others_layout}
+use Rattle.st_types.proofs.OptionLemmas.{some_is}
+use Rattle.layout.proofs.IndexLemmas.{one_less}
 
 -- ---- the slot of a path
 
--- what is found has the path
+-- the slot that is found has the path
 pub record Found (ls : List Slot) (p : Path) (k : ℕ) : Type 0 where
   pub slot : Slot
   pub at : slice_get ls k ≡ Some slot
   pub path : p ≡ slot.path
-
-unsuc : (o : Option ℕ) (k : ℕ) → option_map suc o ≡ Some (suc k) → o ≡ Some k
-unsuc None k h = absurd (cc)
-unsuc (Some n) k h = let q : suc n ≡ suc k = some_is h in let r : n ≡ k = omega arith in ap Some r
 
 never_zero : (o : Option ℕ) → option_map suc o ≡ Some 0 → ⊥
 never_zero None h = absurd (cc)
@@ -39,21 +35,13 @@ found (l ∷ ls) p k h = by_test (same_path p l.path) refl k h (found ls p)
     by_test true e (suc k) h rest = let q : 0 ≡ suc k = some_is h in absurd (omega arith)
     by_test false e zero h rest = absurd (never_zero (slot_of ls p) h)
     by_test false e (suc k) h rest =
-        let f = rest k (unsuc (slot_of ls p) k h) in record { slot = f.slot; at = f.at; path = f.path }
+        let f = rest k (one_less (slot_of ls p) k h) in record { slot = f.slot; at = f.at; path = f.path }
 
--- ---- each path stands once
+-- ---- each path occurs once
 
 abbrev pub Apart : List Slot → Type 0
 Apart [] = Unit {0}
 Apart (l ∷ ls) = (slot_of ls l.path ≡ None) × Apart ls
-
-others_layout : (l : Slot) (ls : List Slot) → IsLayout (l ∷ ls) → IsLayout ls
-others_layout l ls h k m g = by_test (same_path m.path l.path) refl (h (suc k) m g)
-  where
-    by_test : (b : Bool) → same_path m.path l.path ≡ b
-        → (if b then Some 0 else option_map suc (slot_of ls m.path)) ≡ Some (suc k) → slot_of ls m.path ≡ Some k
-    by_test true e i = let q : 0 ≡ suc k = some_is i in absurd (omega arith)
-    by_test false e i = unsuc (slot_of ls m.path) k i
 
 first_apart : (l : Slot) (ls : List Slot) → IsLayout (l ∷ ls) → slot_of ls l.path ≡ None
 first_apart l ls h = by_found (slot_of ls l.path) refl
@@ -71,7 +59,7 @@ apart_of : (ls : List Slot) → IsLayout ls → Apart ls
 apart_of [] h = tt
 apart_of (l ∷ ls) h = (first_apart l ls h, apart_of ls (others_layout l ls h))
 
--- a path that is not there is none of theirs
+-- a path that is not there is different from all of theirs
 not_there : (ls : List Slot) (p : Path) (k : ℕ) (m : Slot) → slot_of ls p ≡ None → slice_get ls k ≡ Some m
     → same_path m.path p ≡ false
 not_there [] p k m h g = absurd (cc)
@@ -151,7 +139,7 @@ between (x ∷ xs) ys l a h =
     ∙ ap (option_map suc) (right_none xs ys x.path a.0) in
     (both_none xs (l ∷ ys) x.path (left_none xs ys x.path a.0) more, between xs ys l a.1 n.1)
 
--- ---- variables, and inputs behind them
+-- ---- variables, and inputs after them
 
 abbrev in_parts : List LayoutSlot → List Slot
 in_parts ss = layout_of (variables_among ss) (inputs_among ss)
@@ -189,7 +177,7 @@ pub parts_are_layout : (ss : List LayoutSlot) → IsLayout (map slot_view ss)
     → IsLayout (layout_of (variables_among ss) (inputs_among ss))
 parts_are_layout ss h = layout_apart (in_parts ss) (parts_apart ss (apart_of (map slot_view ss) h))
 
--- ---- each slot stands in one of the parts
+-- ---- each slot is in one of the parts
 
 pub record InParts (ss : List LayoutSlot) (l : Slot) : Type 0 where
   pub number : ℕ

@@ -16,12 +16,12 @@ use Rattle.st_types.specs.UpperNames.{is_letter_or_digit, is_upper_name}
 use Rattle.st_meaning.specs.Slots.{Slot}
 use Rattle.st_meaning.specs.declared.plan.PlanVariable.{PlanVariable}
 use Rattle.st_meaning.specs.Layouts.{Enumerations, variable_slot, owner_text, step_text, steps_text, path_text}
-use Rattle.layout.proofs.ListLemmas.{both, both_are}
 use Rattle.plan.specs.Sound.{is_spelled, has_spelling, has_line}
 use Rattle.config.specs.PlainDeclarations.{is_short, is_elementary}
 use Rattle.config.specs.WordPaths.{is_word_owner, is_word_step, is_word_path}
 use Rattle.config.proofs.OnePath.{word_bytes, is_sign_or_digit, number_bytes, short_is}
 use Rattle.config.proofs.PlainPaths.{is_plain_slot}
+use Rattle.std.proofs.lemmas.Bool.{and_parts, and_from}
 
 abbrev is_visible : ℕ → Bool
 is_visible b = nat_le 33 b && nat_le b 126
@@ -30,8 +30,8 @@ more_visible : (f : ℕ → Bool) → ((b : ℕ) → f b ≡ true → is_visible
     → list_all is_visible xs ≡ true
 more_visible f h [] g = refl
 more_visible f h (b ∷ bs) g =
-    let c = both (f b) (list_all f bs) g in
-    both_are (is_visible b) (list_all is_visible bs) (h b c.0) (more_visible f h bs c.1)
+    let c = and_parts (f b) (list_all f bs) g in
+    and_from (is_visible b) (list_all is_visible bs) (h b c.0) (more_visible f h bs c.1)
 
 letter_visible : (b : ℕ) → is_letter_or_digit b ≡ true → is_visible b ≡ true
 letter_visible b h = grind (arith, nat_tests)
@@ -48,12 +48,12 @@ number_visible z h = more_visible is_sign_or_digit digit_visible (signed_decimal
 joined_visible : (xs ys : List ℕ) → list_all is_visible xs ≡ true → list_all is_visible ys ≡ true
     → list_all is_visible (xs ++ ys) ≡ true
 joined_visible xs ys h g =
-    list_all-append is_visible xs ys ∙ both_are (list_all is_visible xs) (list_all is_visible ys) h g
+    list_all-append is_visible xs ys ∙ and_from (list_all is_visible xs) (list_all is_visible ys) h g
 
 owner_visible : (o : Option Owner) → is_word_owner o ≡ true → list_all is_visible (owner_text o) ≡ true
 owner_visible None h = refl
 owner_visible (Some o) h =
-    let b = both (is_upper_name o.resource) (is_upper_name o.instance) h in
+    let b = and_parts (is_upper_name o.resource) (is_upper_name o.instance) h in
     joined_visible ((o.resource ++ codes "/") ++ o.instance) (codes ".")
     (joined_visible (o.resource ++ codes "/") o.instance
     (joined_visible o.resource (codes "/") (word_visible o.resource b.0) refl) (word_visible o.instance b.1)) refl
@@ -67,7 +67,7 @@ step_visible (Element z) h =
 steps_visible : (xs : List Step) → list_all is_word_step xs ≡ true → list_all is_visible (steps_text xs) ≡ true
 steps_visible [] h = refl
 steps_visible (x ∷ xs) h =
-    let b = both (is_word_step x) (list_all is_word_step xs) h in
+    let b = and_parts (is_word_step x) (list_all is_word_step xs) h in
     joined_visible (step_text x) (steps_text xs) (step_visible x b.0) (steps_visible xs b.1)
 
 -- a path has a name
@@ -91,10 +91,10 @@ some_behind (b ∷ bs) ys h = more_than_none (length (bs ++ ys))
 
 path_spelled : (p : Path) → is_word_path p ≡ true → is_spelled (path_text p) ≡ true
 path_spelled p h =
-    let a = both (is_word_owner p.owner && is_upper_name p.name) (list_all is_word_step p.steps) h in
-    let b = both (is_word_owner p.owner) (is_upper_name p.name) a.0 in
+    let a = and_parts (is_word_owner p.owner && is_upper_name p.name) (list_all is_word_step p.steps) h in
+    let b = and_parts (is_word_owner p.owner) (is_upper_name p.name) a.0 in
     let front = owner_text p.owner ++ p.name in
-    both_are (has_bytes (path_text p)) (list_all is_visible (path_text p))
+    and_from (has_bytes (path_text p)) (list_all is_visible (path_text p))
     (some_before front (steps_text p.steps) (some_behind (owner_text p.owner) p.name (word_has_bytes p.name b.1)))
     (joined_visible front (steps_text p.steps)
     (joined_visible (owner_text p.owner) p.name (owner_visible p.owner b.0) (word_visible p.name b.1))
@@ -111,14 +111,14 @@ slot_lines : (types : Enumerations) (p : Slot → Bool) (ls : List Slot)
     → list_all (is_plain_slot (has_spelling types)) ls ≡ true → list_all (has_slot_line types) (filter p ls) ≡ true
 slot_lines types p [] h = refl
 slot_lines types p (l ∷ ls) h =
-    let b = both (is_plain_slot (has_spelling types) l) (list_all (is_plain_slot (has_spelling types)) ls) h in
-    let c = both (is_word_path l.path) (has_spelling types l.kind) b.0 in
-    by_test (p l) (both_are (is_spelled (path_text l.path)) (has_spelling types l.kind) (path_spelled l.path c.0) c.1)
+    let b = and_parts (is_plain_slot (has_spelling types) l) (list_all (is_plain_slot (has_spelling types)) ls) h in
+    let c = and_parts (is_word_path l.path) (has_spelling types l.kind) b.0 in
+    by_test (p l) (and_from (is_spelled (path_text l.path)) (has_spelling types l.kind) (path_spelled l.path c.0) c.1)
     (slot_lines types p ls b.1)
   where
     by_test : (b : Bool) → has_slot_line types l ≡ true → list_all (has_slot_line types) (filter p ls) ≡ true
         → list_all (has_slot_line types) (if b then l ∷ filter p ls else filter p ls) ≡ true
-    by_test true here rest = both_are (has_slot_line types l) (list_all (has_slot_line types) (filter p ls)) here rest
+    by_test true here rest = and_from (has_slot_line types l) (list_all (has_slot_line types) (filter p ls)) here rest
     by_test false here rest = rest
 
 -- so each variable of such slots may have a line

@@ -1,4 +1,4 @@
--- Code is made of what is linked.
+-- Code is made of linked bodies.
 use Rattle.std.proofs.Common.{◌≡◌, ℕ, zero, suc, ◌+◌, ◌*◌, ◌<◌, ◌≤◌, Option, Some, None}
 use Rattle.std.proofs.Common.{false, true, refl, sym, subst, ap, arith}
 use Rattle.std.specs.Prelude.{nat_lt, option_map, option_and_then}
@@ -9,7 +9,7 @@ use Rattle.st_types.specs.Expressions.{Selectors, no_selectors, selector_then}
 use Rattle.st_meaning.specs.Scopes.{Name}
 use Rattle.st_meaning.specs.StandardFunctions.{Standard, standard_of}
 use Rattle.layout.specs.Shapes.{Shape, plain, array, parts, size}
-use Rattle.slot_trees.specs.Linking.{Selected, behind_offset, behind_subscript, place_of_shape, place_if_plain}
+use Rattle.slot_trees.specs.Linking.{Selected, with_offset, with_subscript, place_of_shape, place_if_plain}
 use Rattle.slot_trees.specs.Linking.{linked_call, linked, linked_all, linked_variable, linked_selectors, target_of}
 use Rattle.slot_trees.specs.Linking.{linked_target}
 use Rattle.slot_trees.specs.SlotEvaluation.{slot_at}
@@ -18,29 +18,23 @@ use Rattle.slot_trees.specs.SlotTrees.{no_exprs, expr_then, Place, place, Subscr
 use Rattle.slot_trees.specs.Tables.{Table, Symbol, symbol_of, named_in, moved, Part, part_at}
 use Rattle.machine_code.specs.Codes.{count_of}
 use Rattle.machine_code.specs.Fitting.{UnitCall, of_function, reach}
-use Rattle.machine_code.specs.Sites.{Site, end_of}
+use Rattle.machine_code.specs.UnitFrames.{UnitFrame, end_of}
 use Rattle.st_compile.specs.Linked.{ExprLinked, ExprsLinked, PlaceLinked, SubscriptsLinked}
 use Rattle.config.specs.Sound.{IsBounded, SymbolsWithin, number_of_exprs, CallSound, ExprSound, ExprsSound}
 use Rattle.config.specs.Sound.{VariableSound, SelectorsSound}
-use Rattle.slot_trees.proofs.OptionLemmas.{then_some}
-use Rattle.config.proofs.Options.{map_some, if_some, unless_some}
-use Rattle.config.proofs.Selected.{part_within, symbol_within, moved_on, all_elements}
-use Rattle.config.proofs.Selected.{element_within, elements_within}
+use Rattle.config.proofs.Options.{unless_some}
+use Rattle.config.proofs.Selected.{part_within, symbol_within, all_elements}
+use Rattle.st_types.proofs.TestLemmas.{above_zero, product_of_more}
+use Rattle.slot_trees.proofs.ExpressionSim.{element_room, moved_slot}
+use Rattle.st_types.proofs.OptionLemmas.{map_some, if_some, then_some}
+use Rattle.st_link.proofs.PlaceLemmas.{one_of}
 
-lt_of : (n : ℕ) → nat_lt 0 n ≡ true → 0 < n
-lt_of n h = grind (arith, nat_tests)
-
--- an array that takes room has elements that do
-element_room : (count n : ℕ) → nat_lt 0 (count * n) ≡ true → nat_lt 0 n ≡ true
-element_room count zero h = absurd (let none : nat_lt 0 (count * 0) ≡ false = grind (arith, nat_tests) in cc)
-element_room count (suc n) h = grind (arith, nat_tests)
-
--- what selectors lead to lies in the variable, and code is made of their subscripts
-pub record SelectedLinked (C : UnitCall → Type 0) (s : Site) (sh : Shape) (z : Selected) : Type 0 where
+-- the part to which selectors lead lies in the variable, and code is made of their subscripts
+pub record SelectedLinked (C : UnitCall → Type 0) (s : UnitFrame) (sh : Shape) (z : Selected) : Type 0 where
   pub within : z.offset + reach z.subscripts + size z.shape ≤ size sh
   pub subscripts : SubscriptsLinked C s z.subscripts
 
-module _ (C : UnitCall → Type 0) (s : Site) (t : Table) (small : s.size < 65536)
+module _ (C : UnitCall → Type 0) (s : UnitFrame) (t : Table) (small : s.size < 65536)
     (stands : SymbolsWithin s t.symbols) where
   call_linked : (o : Option Standard) (f : Name) (count : ℕ) (xs : SlotExprs) (x : SlotExpr) → ExprsLinked C s xs
       → count_of xs ≡ count → linked_call t f o xs ≡ Some x → CallSound C s t o f count → ExprLinked C s x
@@ -56,7 +50,7 @@ module _ (C : UnitCall → Type 0) (s : Site) (t : Table) (small : s.size < 6553
       → SubscriptsLinked C s ss → PlaceLinked C s p
   place_linked a n ss (plain k) p total h le within l =
       let is : place (moved a n) ss ≡ p = cc in
-      let e = moved_on s.base a n in
+      let e = moved_slot s.base a n in
       subst (λ q. PlaceLinked C s q) is (omega arith, l)
   place_linked a n ss (array lower count sh) p total h le within l = absurd (cc)
   place_linked a n ss (parts w ps) p total h le within l = absurd (cc)
@@ -113,30 +107,30 @@ module _ (C : UnitCall → Type 0) (s : Site) (t : Table) (small : s.size < 6553
         let l : SelectedLinked C s sh all = record { within = omega arith; subscripts = tt } in
         subst (λ y. SelectedLinked C s sh y) is l
     selectors_linked (parts w ps) (selector_then (member x) xs) z h g bounded lt =
-        let m = then_some (λ (e : Part). option_map (behind_offset e.offset) (linked_selectors t e.shape xs))
+        let m = then_some (λ (e : Part). option_map (with_offset e.offset) (linked_selectors t e.shape xs))
         (part_at ps x.name) z h in
-        let k = map_some (behind_offset m.0.offset) (linked_selectors t m.0.shape xs) z m.2 in
+        let k = map_some (with_offset m.0.offset) (linked_selectors t m.0.shape xs) z m.2 in
         let p = part_within ps x.name m.0 m.1 bounded in
         let part = p.within in
         let r = selectors_linked m.0.shape xs k.0 k.1 g p.bounded (omega arith) in
         let rest = r.within in
-        let l : SelectedLinked C s (parts w ps) (behind_offset m.0.offset k.0)
+        let l : SelectedLinked C s (parts w ps) (with_offset m.0.offset k.0)
         = record { within = omega arith; subscripts = r.subscripts } in
         subst (λ y. SelectedLinked C s (parts w ps) y) k.2 l
     selectors_linked (array lower count sh) (selector_then (subscript e) xs) z h g bounded lt =
         let q = if_some (nat_lt 0 (count * size sh))
-        (option_and_then (λ i. option_map (behind_subscript i lower count (size sh)) (linked_selectors t sh xs))
+        (option_and_then (λ i. option_map (with_subscript i lower count (size sh)) (linked_selectors t sh xs))
         (linked t e)) z h in
-        let m = then_some (λ i. option_map (behind_subscript i lower count (size sh)) (linked_selectors t sh xs))
+        let m = then_some (λ i. option_map (with_subscript i lower count (size sh)) (linked_selectors t sh xs))
         (linked t e) z q.1 in
-        let k = map_some (behind_subscript m.0 lower count (size sh)) (linked_selectors t sh xs) z m.2 in
-        let room : 0 < size sh = lt_of (size sh) (element_room count (size sh) q.0) in
+        let k = map_some (with_subscript m.0 lower count (size sh)) (linked_selectors t sh xs) z m.2 in
+        let room : 0 < size sh = above_zero (size sh) (element_room count (size sh) q.0) in
         let all = all_elements count (size sh) bounded.0 in
-        let one = element_within count (size sh) bounded.0 in
-        let many = elements_within count (size sh) room in
+        let one = one_of count (size sh) bounded.0 in
+        let many = product_of_more count (size sh) room in
         let r = selectors_linked sh xs k.0 k.1 g.1 bounded.2 (omega arith) in
         let rest = r.within in
-        let l : SelectedLinked C s (array lower count sh) (behind_subscript m.0 lower count (size sh) k.0)
+        let l : SelectedLinked C s (array lower count sh) (with_subscript m.0 lower count (size sh) k.0)
         = record {
           within = omega arith;
           subscripts = ((bounded.1, omega arith, omega arith), expr_linked e m.0 m.1 g.0, r.subscripts);

@@ -1,4 +1,4 @@
--- Calls of a body with names stand in its linked form.
+-- Calls of a body with names are in its linked form.
 use Rattle.std.proofs.Common.{◌≡◌, refl, sym, ap, subst, ◌∙◌, ℕ, ◌*◌, List, [], ◌∷◌, ◌++◌, Bool, true, false}
 use Rattle.std.proofs.Common.{if◌then◌else◌, Option, Some, None, option_map, option_and_then, inl, inr}
 use Rattle.std.specs.Prelude.{◌⊎◌, nat_lt}
@@ -14,7 +14,6 @@ use Rattle.st_meaning.specs.StandardFunctions.{Standard, standard_of}
 use Rattle.st_rules.specs.Containment.{calls_in, calls_in_all, calls_in_variable, calls_in_selectors}
 use Rattle.st_rules.specs.Containment.{calls_in_argument, calls_in_conditions, calls_in_statement, calls_in_step}
 use Rattle.layout.specs.Shapes.{Shape, Parts, plain, array, parts, size}
-use Rattle.layout.proofs.ListLemmas.{map_some, some_is}
 use Rattle.st_decl.specs.Flattened.{all_below, all_in, all_in_arms, all_in_case_arms}
 use Rattle.st_link.proofs.Among.{Among, here, later, in_front, in_back, in_either}
 use Rattle.slot_trees.specs.SlotTrees.{SlotExpr, load, call, unary, binary, SlotExprs, expr_then, Place}
@@ -23,20 +22,21 @@ use Rattle.slot_trees.specs.SlotTrees.{SlotStmt, assign, invoke, IF, CASE}
 use Rattle.slot_trees.specs.SlotTrees.{FOR, WHILE, REPEAT, SlotStmts, stmt_then, SlotArms, arm_then, SlotCaseArms}
 use Rattle.slot_trees.specs.SlotTrees.{case_arm_then}
 use Rattle.slot_trees.specs.Tables.{Table, Symbol, Part, named_in, part_at, symbol_of}
-use Rattle.slot_trees.specs.Linking.{Selected, behind_offset, behind_subscript, linked, linked_all, linked_call}
+use Rattle.slot_trees.specs.Linking.{Selected, with_offset, with_subscript, linked, linked_all, linked_call}
 use Rattle.slot_trees.specs.Linking.{linked_selectors, linked_target}
 use Rattle.slot_trees.specs.Linking.{linked_variable, place_if_plain, place_of_shape}
 use Rattle.slot_trees.specs.Linking.{target_of}
-use Rattle.slot_trees.specs.LinkedStatements.{code_of, control_of, instance_of_symbol, linked_argument}
+use Rattle.slot_trees.specs.LinkedStatements.{block_code_of, control_of, instance_of_symbol, linked_argument}
 use Rattle.slot_trees.specs.LinkedStatements.{linked_arguments, linked_arms, linked_call_of, linked_case_arms}
 use Rattle.slot_trees.specs.LinkedStatements.{linked_step, linked_stmt, linked_stmts, offset_of}
-use Rattle.slot_trees.proofs.OptionLemmas.{then_some, not_some}
+use Rattle.slot_trees.proofs.OptionLemmas.{not_some}
 use Rattle.config.proofs.CallLengths.{UnitCalls, expr_calls, exprs_calls}
 use Rattle.config.proofs.CallLengths.{place_calls, subscripts_calls, step_calls}
 use Rattle.config.proofs.CallLengths.{argument_calls, arguments_calls, stmt_calls, stmts_calls, arms_calls}
 use Rattle.config.proofs.CallLengths.{case_calls}
+use Rattle.st_types.proofs.OptionLemmas.{some_is, map_some, then_some}
 
-none_among : {A X : Type 0} {a : A} → Among a [] → X
+pub none_among : {A X : Type 0} {a : A} → Among a [] → X
 none_among a = elim a [ ]
 
 -- the first one of a list, or one of the others
@@ -71,7 +71,7 @@ module _ (units : UnitCalls) (t : Table) (g : ℕ) where
         let m = map_some (λ j. call j xs) (named_in t.functions f) x own_call in
         subst (λ y. Among g (expr_calls units y)) m.2 (in_front (exprs_calls units xs) (calls m.0 m.1))
 
-    -- what its arguments call
+    -- the calls in its arguments
     given_calls_it : (k : Name) (xs : SlotExprs) (x : SlotExpr) → Among g (exprs_calls units xs)
         → (o : Option Standard) → linked_call t k o xs ≡ Some x → Among g (expr_calls units x)
     given_calls_it k xs x a (Some s) h = subst (λ y. Among g (expr_calls units y)) (some_is h) a
@@ -127,18 +127,18 @@ module _ (units : UnitCalls) (t : Table) (g : ℕ) where
           → Among f (calls_in_selectors xs) → Among g (subscripts_calls units z.subscripts)
       selectors_call_it sh no_selectors z h a = none_among a
       selectors_call_it (parts w ps) (selector_then (member x) xs) z h a =
-          let m = then_some (λ (e : Part). option_map (behind_offset e.offset) (linked_selectors t e.shape xs))
+          let m = then_some (λ (e : Part). option_map (with_offset e.offset) (linked_selectors t e.shape xs))
           (part_at ps x.name) z h in
-          let k = map_some (behind_offset m.0.offset) (linked_selectors t m.0.shape xs) z m.2 in
+          let k = map_some (with_offset m.0.offset) (linked_selectors t m.0.shape xs) z m.2 in
           subst (λ (y : Selected). Among g (subscripts_calls units y.subscripts)) k.2
           (selectors_call_it m.0.shape xs k.0 k.1 a)
       selectors_call_it (array lower count sh) (selector_then (subscript e) xs) z h a =
           let q = some_if (nat_lt 0 (count * size sh))
-          (option_and_then (λ i. option_map (behind_subscript i lower count (size sh)) (linked_selectors t sh xs))
+          (option_and_then (λ i. option_map (with_subscript i lower count (size sh)) (linked_selectors t sh xs))
           (linked t e)) z h in
-          let m = then_some (λ i. option_map (behind_subscript i lower count (size sh)) (linked_selectors t sh xs))
+          let m = then_some (λ i. option_map (with_subscript i lower count (size sh)) (linked_selectors t sh xs))
           (linked t e) z q in
-          let k = map_some (behind_subscript m.0 lower count (size sh)) (linked_selectors t sh xs) z m.2 in
+          let k = map_some (with_subscript m.0 lower count (size sh)) (linked_selectors t sh xs) z m.2 in
           subst (λ (y : Selected). Among g (subscripts_calls units y.subscripts)) k.2
           (elim (in_either (calls_in e) (calls_in_selectors xs) a) [
             | inl b ↦ in_front (subscripts_calls units k.0.subscripts) (expr_calls_it e m.0 m.1 b)
@@ -220,7 +220,7 @@ module _ (units : UnitCalls) (t : Table) (g : ℕ) where
         let m = then_some (linked_call_of t x.name arguments)
         (option_and_then instance_of_symbol (symbol_of t.symbols x.name)) y h in
         let n = then_some (λ code. option_map (invoke m.0.anchor code) (linked_arguments t m.0.members arguments))
-        (code_of t x.name) y m.2 in
+        (block_code_of t x.name) y m.2 in
         let k = map_some (invoke m.0.anchor n.0) (linked_arguments t m.0.members arguments) y n.2 in
         subst (λ z. Among g (stmt_calls units z)) k.2
         (in_back (units.blocks n.0) (arguments_call_it m.0.members arguments k.0 k.1 a))
@@ -272,17 +272,17 @@ module _ (units : UnitCalls) (t : Table) (g : ℕ) where
 
   -- a call of a block
   pub block_calls_it : (x : Identifier) (arguments : List Argument)
-      → ((code : BlockCode) → code_of t x.name ≡ Some code → Among g (units.blocks code)) → (y : SlotStmt)
+      → ((code : BlockCode) → block_code_of t x.name ≡ Some code → Among g (units.blocks code)) → (y : SlotStmt)
       → linked_stmt t (text.invoke x arguments) ≡ Some y → Among g (stmt_calls units y)
   block_calls_it x arguments calls y h =
       let m = then_some (linked_call_of t x.name arguments)
       (option_and_then instance_of_symbol (symbol_of t.symbols x.name)) y h in
       let n = then_some (λ c. option_map (invoke m.0.anchor c) (linked_arguments t m.0.members arguments))
-      (code_of t x.name) y m.2 in
+      (block_code_of t x.name) y m.2 in
       let k = map_some (invoke m.0.anchor n.0) (linked_arguments t m.0.members arguments) y n.2 in
       subst (λ z. Among g (stmt_calls units z)) k.2 (in_front (arguments_calls units k.0) (calls n.0 n.1))
 
-  -- what a statement calls, wherever it stands in a body
+  -- the calls of a statement, wherever it is in a body
   module _ (z : Stmt) (calls : (y : SlotStmt) → linked_stmt t z ≡ Some y → Among g (stmt_calls units y)) where
     mutual
       below_calls_it : (x : Stmt) (y : SlotStmt) → linked_stmt t x ≡ Some y → Among z (all_below x)

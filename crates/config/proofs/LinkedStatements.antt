@@ -10,7 +10,7 @@ use Rattle.layout.specs.Shapes.{Shape, plain, array, parts, Parts, size, sizes}
 use Rattle.slot_trees.specs.Linking.{linked, linked_target}
 use Rattle.slot_trees.specs.LinkedStatements.{plain_anchor, control_of, Instance, instance_at, instance_of_symbol}
 use Rattle.slot_trees.specs.LinkedStatements.{plain_offset, offset_of, linked_argument, linked_arguments, linked_step}
-use Rattle.slot_trees.specs.LinkedStatements.{code_of, linked_call_of, linked_stmt, linked_stmts}
+use Rattle.slot_trees.specs.LinkedStatements.{block_code_of, linked_call_of, linked_stmt, linked_stmts}
 use Rattle.slot_trees.specs.LinkedStatements.{linked_arms, linked_case_arms}
 use Rattle.slot_trees.specs.SlotEvaluation.{slot_at}
 use Rattle.slot_trees.specs.SlotTrees.{Anchor, SlotExpr, SlotArgument, given, copied, SlotStmt, empty, assign, invoke}
@@ -18,16 +18,16 @@ use Rattle.slot_trees.specs.SlotTrees.{IF, CASE, FOR, WHILE, REPEAT, EXIT, RETUR
 use Rattle.slot_trees.specs.SlotTrees.{SlotArms, no_arms, arm_then, SlotCaseArms, no_case_arms, case_arm_then}
 use Rattle.slot_trees.specs.Tables.{Table, Symbol, symbol_of, part_at}
 use Rattle.machine_code.specs.Fitting.{UnitCall}
-use Rattle.machine_code.specs.Sites.{Site}
+use Rattle.machine_code.specs.UnitFrames.{UnitFrame}
 use Rattle.st_compile.specs.Linked.{StepLinked, ArgumentsLinked, StmtLinked, StmtsLinked}
 use Rattle.st_compile.specs.Linked.{ArmsLinked, CaseArmsLinked}
 use Rattle.config.specs.Sound.{IsBounded, AreBounded, SymbolsWithin, StepSound, ArgumentsSound, StmtSound}
 use Rattle.config.specs.Sound.{StmtsSound}
 use Rattle.config.specs.Sound.{ArmsSound, CaseArmsSound}
-use Rattle.slot_trees.proofs.OptionLemmas.{then_some}
-use Rattle.config.proofs.Options.{map_some, unless_some}
+use Rattle.config.proofs.Options.{unless_some}
 use Rattle.config.proofs.Selected.{part_within, symbol_within}
 use Rattle.config.proofs.LinkedBodies.{expr_linked, target_linked}
+use Rattle.st_types.proofs.OptionLemmas.{map_some, then_some}
 
 plain_anchor_is : (a b : Anchor) (sh : Shape) → plain_anchor a sh ≡ Some b → (a ≡ b) × (size sh ≡ 1)
 plain_anchor_is a b (plain k) h = (cc, refl)
@@ -40,7 +40,7 @@ plain_offset_is o p (array lower count sh) h = absurd (cc)
 plain_offset_is o p (parts w ps) h = absurd (cc)
 
 -- an instance among the values of a unit
-record InstanceWithin (s : Site) (i : Instance) : Type 0 where
+record InstanceWithin (s : UnitFrame) (i : Instance) : Type 0 where
   within : slot_at s.base i.anchor + sizes i.members ≤ s.size
   bounded : AreBounded i.members
 
@@ -53,7 +53,7 @@ member_within ps x o h bounded =
     let p = plain_offset_is m.0.offset o m.0.shape m.2 in
     omega (arith, p.0, p.1)
 
-module _ (C : UnitCall → Type 0) (s : Site) (t : Table) (small : s.size < 65536)
+module _ (C : UnitCall → Type 0) (s : UnitFrame) (t : Table) (small : s.size < 65536)
     (stands : SymbolsWithin s t.symbols) where
   control_within : (x : Name) (a : Anchor) → option_and_then control_of (symbol_of t.symbols x) ≡ Some a
       → slot_at s.base a < s.size
@@ -133,7 +133,7 @@ module _ (C : UnitCall → Type 0) (s : Site) (t : Table) (small : s.size < 6553
         let m = then_some (linked_call_of t x.name arguments)
         (option_and_then instance_of_symbol (symbol_of t.symbols x.name)) y h in
         let n = then_some (λ code. option_map (invoke m.0.anchor code) (linked_arguments t m.0.members arguments))
-        (code_of t x.name) y m.2 in
+        (block_code_of t x.name) y m.2 in
         let k = map_some (invoke m.0.anchor n.0) (linked_arguments t m.0.members arguments) y n.2 in
         let w = instance_within x.name m.0 m.1 in
         let within = w.within in

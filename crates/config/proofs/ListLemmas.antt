@@ -4,59 +4,23 @@ use Rattle.std.proofs.Common.{if◌then◌else◌, List, [], ◌∷◌, ◌++◌
 use Rattle.std.specs.Prelude.{nat_lt, position}
 use Rattle.std.specs.List.{list_all, list_any, position_or_len}
 use Rattle.std.proofs.lemmas.Bool.Decides.{nat_tests}
-
-pub some_is : {A : Type 0} {x y : A} → ◌≡◌ {A = Option A} (Some x) (Some y) → x ≡ y
-some_is h = cc
-
-pub both : (a b : Bool) → (a && b) ≡ true → (a ≡ true) × (b ≡ true)
-both true b h = (refl, h)
-both false b h = absurd (cc)
-
-pub both_are : (a b : Bool) → a ≡ true → b ≡ true → (a && b) ≡ true
-both_are true b h k = k
-both_are false b h k = absurd (cc)
-
-pub all_append : {A : Type 0} (p : A → Bool) (xs ys : List A) → list_all p xs ≡ true → list_all p ys ≡ true
-    → list_all p (xs ++ ys) ≡ true
-all_append p [] ys h k = k
-all_append p (x ∷ xs) ys h k =
-    let b = both (p x) (list_all p xs) h in both_are (p x) (list_all p (xs ++ ys)) b.0 (all_append p xs ys b.1 k)
+use Rattle.st_types.proofs.OptionLemmas.{some_is}
+use Rattle.std.proofs.lemmas.Bool.{and_parts, and_from}
+use Rattle.layout.proofs.Positions.{position_step}
 
 pub all_get : {A : Type 0} (p : A → Bool) (xs : List A) (k : ℕ) (x : A) → list_all p xs ≡ true
     → slice_get xs k ≡ Some x → p x ≡ true
 all_get p [] k x h g = absurd (cc)
-all_get p (y ∷ xs) zero x h g = ap p (sym (some_is g)) ∙ (both (p y) (list_all p xs) h).0
-all_get p (y ∷ xs) (suc k) x h g = all_get p xs k x (both (p y) (list_all p xs) h).1 g
-
-pub map_append : {A B : Type 0} (f : A → B) (xs ys : List A) → map f (xs ++ ys) ≡ map f xs ++ map f ys
-map_append f [] ys = refl
-map_append f (x ∷ xs) ys = ap (λ zs. f x ∷ zs) (map_append f xs ys)
-
-pub map_map : {A B C : Type 0} (f : B → C) (g : A → B) (xs : List A) → map f (map g xs) ≡ map (λ x. f (g x)) xs
-map_map f g [] = refl
-map_map f g (x ∷ xs) = ap (λ zs. f (g x) ∷ zs) (map_map f g xs)
-
-pub length_map : {A B : Type 0} (f : A → B) (xs : List A) → length (map f xs) ≡ length xs
-length_map f [] = refl
-length_map f (x ∷ xs) = let h = length_map f xs in omega arith
+all_get p (y ∷ xs) zero x h g = ap p (sym (some_is g)) ∙ (and_parts (p y) (list_all p xs) h).0
+all_get p (y ∷ xs) (suc k) x h g = all_get p xs k x (and_parts (p y) (list_all p xs) h).1 g
 
 pub length_both : {A : Type 0} (xs ys : List A) → length (xs ++ ys) ≡ length xs + length ys
 length_both [] ys = let e : 0 + length ys ≡ length ys = omega arith in sym e
 length_both (x ∷ xs) ys = let h = length_both xs ys in omega arith
 
-pub get_map : {A B : Type 0} (f : A → B) (xs : List A) (k : ℕ) → slice_get (map f xs) k ≡ option_map f (slice_get xs k)
-get_map f [] k = refl
-get_map f (x ∷ xs) zero = refl
-get_map f (x ∷ xs) (suc k) = get_map f xs k
-
 pub mapped : {A B : Type 0} (f : A → B) (o : Option A) (y : B) → option_map f o ≡ Some y → (x : A) × (o ≡ Some x) × (f x ≡ y)
 mapped f (Some x) y h = (x, refl, some_is h)
 mapped f None y h = absurd (cc)
-
-pub get_left : {A : Type 0} (xs ys : List A) (k : ℕ) (x : A) → slice_get xs k ≡ Some x → slice_get (xs ++ ys) k ≡ Some x
-get_left [] ys k x h = absurd (cc)
-get_left (y ∷ xs) ys zero x h = h
-get_left (y ∷ xs) ys (suc k) x h = get_left xs ys k x h
 
 pub get_right : {A : Type 0} (xs ys : List A) (k : ℕ) → slice_get (xs ++ ys) (length xs + k) ≡ slice_get ys k
 get_right [] ys k = let e : 0 + k ≡ k = omega arith in ap (slice_get ys) e
@@ -91,11 +55,7 @@ position_then p x xs false e =
     ap (λ k. as_position k (length (x ∷ xs))) n ∙ ap (as_position (suc m)) l
     ∙ one_later m (length xs) (nat_lt m (length xs)) refl
 
-pub position_step : {A : Type 0} (p : A → Bool) (x : A) (xs : List A)
-    → position p (x ∷ xs) ≡ (if p x then Some 0 else option_map suc (position p xs))
-position_step p x xs = position_then p x xs (p x) refl
-
--- where one passes there is a first
+-- if one passes there is a first
 pub record First {A : Type 0} (p : A → Bool) (xs : List A) : Type 0 where
   pub number : ℕ
   pub one : A

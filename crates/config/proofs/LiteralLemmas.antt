@@ -19,7 +19,7 @@ use Rattle.st_meaning.specs.Enumerations.{place_among, member_of, members_named,
 use Rattle.st_meaning.specs.Enumerations.{number_of_member}
 use Rattle.st_meaning.specs.Failures.{failing}
 use Rattle.st_meaning.specs.NameTypes.{Declared}
-use Rattle.st_meaning.specs.Operators.{or_kind, number_of, kind_of_number, value_in, value_of_number, value_of_literal}
+use Rattle.st_meaning.specs.Operators.{or_kind, number_of, kind_of_number, value_of_kind, value_of_number, value_of_literal}
 use Rattle.st_meaning.specs.Resolution.{taken_kind, taking_number, taking_literal}
 use Rattle.st_meaning.specs.Scopes.{Name}
 use Rattle.st_meaning.specs.ResolvedUnits.{resolved_label}
@@ -31,7 +31,6 @@ use Rattle.std.specs.List.{flat_map}
 use Rattle.std.specs.Prelude.{map}
 use Rattle.std.proofs.lemmas.Float.{T_from_true}
 use Rattle.std.specs.Int.Signed.{le_z_yes}
-use Rattle.st_link.proofs.Alikes.{front_empty, back_empty}
 use Rattle.st_rules.specs.declared.rule.Rule.TheVariants.{WrongType}
 use Rattle.st_link.proofs.RangeLemmas.{held_in}
 use Rattle.st_rules.specs.declared.rule.Rule.TheVariants.{OutOfRange}
@@ -39,11 +38,11 @@ use Rattle.st_rules.specs.ExpressionRules.{kind_or_taken, wrong_literal}
 use Rattle.st_rules.specs.Faults.{breaking, unless}
 use Rattle.st_rules.specs.Readings.{Reading, reading_among, reading_of, reading_of_name, wrong_reading}
 use Rattle.st_link.proofs.RangeLemmas.{in_held}
-use Rattle.slot_trees.proofs.OptionLemmas.{then_some}
 use Rattle.machine_code.specs.Fitting.{IsValue}
-use Rattle.layout.proofs.ListLemmas.{map_some}
 use Rattle.st_compile.specs.Linked.{IsNumber, IsLabel, AreLabels}
 use Rattle.config.specs.Spelled.{HaveFewNames, IsKeyword, IsSpelledLiteral, IsSpelledLabel, AreSpelledLabels}
+use Rattle.st_types.proofs.OptionLemmas.{map_some, then_some}
+use Rattle.st_types.proofs.ListLemmas.{append_first, append_second}
 
 -- a number that a type holds is a value
 value_there : (k : Kind) (z : ℤ) → holds k z ≡ true → IsValue (failing (in_range k z))
@@ -62,14 +61,14 @@ number_value k n None is h =
     let kind : or_kind n.written (Some (taken_kind k)) ≡ Some (taken_kind k) =
     ap (λ (o : Option Kind). or_kind o (Some (taken_kind k))) is in
     subst (λ (m : Number). IsValue (value_of_number m)) (sym taken)
-    (subst (λ (o : Option Kind). IsValue (value_in o (number_of n))) (sym kind)
+    (subst (λ (o : Option Kind). IsValue (value_of_kind o (number_of n))) (sym kind)
     (value_there (taken_kind k) (number_of n) h))
 number_value k n (Some m) is h =
     let taken : taking_number (taken_kind k) n ≡ n =
     ap (λ (o : Option Kind). elim o [ Some j ↦ n | None ↦ record n { taken = Some (taken_kind k) } ]) is in
     let kind : kind_of_number n ≡ Some m = ap (λ (o : Option Kind). or_kind o n.taken) is in
     subst (λ (j : Number). IsValue (value_of_number j)) (sym taken)
-    (subst (λ (o : Option Kind). IsValue (value_in o (number_of n))) (sym kind) (value_there m (number_of n) h))
+    (subst (λ (o : Option Kind). IsValue (value_of_kind o (number_of n))) (sym kind) (value_there m (number_of n) h))
 
 -- values of enumerated types
 abbrev IsHeldMember : Member → Type 0
@@ -99,7 +98,7 @@ member_held x e m h =
 abbrev member_by : List TypeDeclaration → Name → Option Name → Option Member
 member_by ts x o = elim o [ Some t ↦ member_of_type ts t x | None ↦ member_named ts x ]
 
--- what holds of each value of these types
+-- a property of each value of these types
 abbrev AllOf : (Member → Type 0) → List Enumeration → Type 0
 AllOf P [] = Unit {0}
 AllOf P (e ∷ es) = ((x : Name) (m : Member) → member_of x e ≡ Some m → P m) × AllOf P es
@@ -299,7 +298,7 @@ label_number k q n h keyword =
     subst IsNumber (sym (same_number (taken_kind k) n n.written refl))
     (kind_number (kind_or_taken q n.written) (number_of n) (kind_keyword q n.written keyword)
     (held_there (holds (kind_or_taken q n.written) (number_of n)) n.place
-    (back_empty type_faults range_faults h)))
+    (append_second type_faults range_faults h)))
 
 small_number : (n : ℕ) → n < MAX_NAMES → IsNumber (pos n)
 small_number n h = number_between (pos n) (omega (arith, ints)) (omega (arith, ints, h))
@@ -308,8 +307,8 @@ label_right : (text : Declared) → HaveFewNames (enumerations_of text.types) �
     → wrong_label text q l ≡ [] → IsSpelledLabel l → IsLabel (resolved_label text k l)
 label_right text few k q (labels.Single n) h s = label_number k q n h s
 label_right text few k q (labels.Range a b) h s = (
-  label_number k q a (front_empty (wrong_label_number q a) (wrong_label_number q b) h) s.0,
-  label_number k q b (back_empty (wrong_label_number q a) (wrong_label_number q b) h) s.1,
+  label_number k q a (append_first (wrong_label_number q a) (wrong_label_number q b) h) s.0,
+  label_number k q b (append_second (wrong_label_number q a) (wrong_label_number q b) h) s.1,
 )
 label_right text few k q (labels.Enumerated v) h s = by_member (member_by text.types v.name v.type_name) refl
   where
@@ -325,6 +324,6 @@ pub labels_right : (text : Declared) → HaveFewNames (enumerations_of text.type
     → AreLabels (map (resolved_label text k) ls)
 labels_right text few k q [] h s = tt
 labels_right text few k q (l ∷ ls) h s = (
-  label_right text few k q l (front_empty (wrong_label text q l) (flat_map (wrong_label text q) ls) h) s.0,
-  labels_right text few k q ls (back_empty (wrong_label text q l) (flat_map (wrong_label text q) ls) h) s.1,
+  label_right text few k q l (append_first (wrong_label text q l) (flat_map (wrong_label text q) ls) h) s.0,
+  labels_right text few k q ls (append_second (wrong_label text q l) (flat_map (wrong_label text q) ls) h) s.1,
 )

@@ -1,4 +1,4 @@
--- Where calls begin with too many values, the code of a program is too long.
+-- If calls begin with too many values, the code of a program is too long.
 use Rattle.std.proofs.Common.{◌≡◌, refl, sym, ap, subst, ◌∙◌, arith, ℕ, ◌+◌, ◌*◌, ◌/◌, ◌<◌, ◌≤◌, Bool, true}
 use Rattle.std.proofs.Common.{List, [], ◌∷◌, length, Some, option_map}
 use Rattle.std.proofs.Common.{inl, slice_get}
@@ -23,7 +23,6 @@ use Rattle.layout.specs.LayoutVariables.{only_configuration}
 use Rattle.layout.specs.Libraries.{instances_among}
 use Rattle.layout.specs.TextLayouts.{slots_of_text}
 use Rattle.layout.specs.Types.{sites_of_blocks}
-use Rattle.layout.proofs.ListLemmas.{both, map_some}
 use Rattle.layout.proofs.ResolvedLemmas.{configuration_taken, same_unit_named, taken_configuration, taken_text}
 use Rattle.st_link.specs.Homes.{IsAmong}
 use Rattle.st_link.specs.LinkedSources.{HasLink}
@@ -41,11 +40,10 @@ use Rattle.slot_trees.specs.TextLinks.{linked_programs, linked_resources}
 use Rattle.slot_trees.specs.TextLinks.{linked_source, linked_text, symbols_of_program}
 use Rattle.slot_trees.specs.TextLinks.{text_with}
 use Rattle.slot_trees.specs.TextNumbers.{function_names, numbered_from}
-use Rattle.slot_trees.proofs.OptionLemmas.{then_some}
 use Rattle.st_link.specs.CalledFunctions.{IsReached, programs_among, values_of_units}
 use Rattle.st_link.specs.Orderly.{configuration_in, instances_of}
 use Rattle.st_link.specs.Accepted.{IsAccepted}
-use Rattle.config.specs.Rooms.{HasLongCode, HasOne, IsLong}
+use Rattle.config.specs.Rooms.{HasLongCode, HasOne, HasTooManyInstructions}
 use Rattle.config.proofs.RoomLemmas.{HasManyValues}
 use Rattle.config.proofs.CallSums.{one_has_more, sum_appended, sum_of, sum_whole}
 use Rattle.config.proofs.CallLengths.{code_holds_calls, stmts_calls, units_calls, values_at}
@@ -53,6 +51,8 @@ use Rattle.config.proofs.InstanceNames.{of_map}
 use Rattle.config.proofs.ProgramRoots.{instance_of_program, resource_root, roots_counted}
 use Rattle.config.proofs.ReachedCalls.{IsHeld, of_among, reached_found}
 use Rattle.config.proofs.ValueSums.{taken_units_differ, units_differ, values_within}
+use Rattle.std.proofs.lemmas.Bool.{and_parts}
+use Rattle.st_types.proofs.OptionLemmas.{map_some, then_some}
 
 program_sort : (s : UnitSort) → is_program_sort s ≡ true → s ≡ sorts.Program
 program_sort sorts.Program h = refl
@@ -137,13 +137,13 @@ module _ (source : Source) (well_typed : IsWellTyped source) (c : Configuration)
       × IsHeld source well_typed layout linked.library parts.functions parts.blocks IsFound u 64
   roots x u among there =
       let i = instance_of_program c.resources x (of_among names among) in
-      let resources = (both (list_all (has_known_externals text c.globals) text.units)
+      let resources = (and_parts (list_all (has_known_externals text c.globals) text.units)
       (list_all (is_known_resource text c.globals) c.resources) known).1 in
       let resource = all_at (is_known_resource text c.globals) i.in_text resources in
-      let instances = (both (list_all (is_known_instance text i.resource.tasks) i.resource.instances)
+      let instances = (and_parts (list_all (is_known_instance text i.resource.tasks) i.resource.instances)
       (list_all (λ t. is_known_single text c.globals t.single) i.resource.tasks) resource).0 in
       let instance = all_at (is_known_instance text i.resource.tasks) i.in_resource instances in
-      let program = (both (is_known_task i.resource.tasks i.instance.task)
+      let program = (and_parts (is_known_task i.resource.tasks i.instance.task)
       (is_program_unit (unit_named text.units i.instance.program.name)) instance).1 in
       let named : unit_named text.units i.instance.program.name ≡ Some u =
       ap (unit_named text.units) i.named ∙ there in
@@ -192,7 +192,7 @@ module _ (source : Source) (well_typed : IsWellTyped source) (c : Configuration)
 
     program_long : length (instances_in c.resources) * (MAX_INSTRUCTIONS / 2)
         < values_of_units called whole whole.units
-        → HasOne (IsLong linked.library (length (slots_of_text source))) linked.programs
+        → HasOne (HasTooManyInstructions linked.library (length (slots_of_text source))) linked.programs
     program_long many =
         let w = values_at linked.library in
         let few = roots_counted whole layout c.resources linked.programs parts.programs in

@@ -9,7 +9,7 @@ use Rattle.st_meaning.specs.Runs.{Program}
 use Rattle.st_meaning.specs.Scopes.{Name, contains_name}
 use Rattle.layout.specs.LayoutVariables.{Owned, owned_variable}
 use Rattle.layout.specs.Shapes.{Parts, size, sizes}
-use Rattle.layout.specs.Standing.{is_named_so, later, variable_at}
+use Rattle.layout.specs.VariableSlots.{is_variable, later, variable_at}
 use Rattle.layout.specs.TextLayouts.{variable_shape, leaves_of_variable, slot_of_leaf, slots_of_variable, slots_of}
 use Rattle.layout.specs.Types.{NamedSite}
 use Rattle.layout.proofs.LeafLemmas.{length_leaves}
@@ -18,16 +18,17 @@ use Rattle.slot_trees.specs.FunctionTables.{call_symbol, function_symbols}
 use Rattle.slot_trees.specs.ProgramTables.{owner_of_name, symbol_at, symbol_then, program_symbols}
 use Rattle.slot_trees.specs.Tables.{Symbol, part_at}
 use Rattle.slot_trees.specs.SlotEvaluation.{slot_at}
-use Rattle.machine_code.specs.Sites.{Site}
+use Rattle.machine_code.specs.UnitFrames.{UnitFrame}
 use Rattle.config.specs.Sound.{IsBounded, AreBounded, SymbolsWithin, AreBoundedVariables}
-use Rattle.config.proofs.Options.{either_some, map_some}
+use Rattle.config.proofs.Options.{either_some}
 use Rattle.config.proofs.Selected.{part_within}
+use Rattle.st_types.proofs.OptionLemmas.{map_some}
 
 length_variable : (text : Declared) (v : Owned) → length (slots_of_variable text v) ≡ size (variable_shape text v)
 length_variable text v =
     length-map (leaves_of_variable text v) (slot_of_leaf v) ∙ length_leaves (variable_shape text v)
 
--- a variable among so many slots
+-- a variable among `n` slots
 record VariableWithin (text : Declared) (n : ℕ) (e : ℕ × Owned) : Type 0 where
   within : e.0 + size (variable_shape text e.1) ≤ n
   bounded : IsBounded (variable_shape text e.1)
@@ -40,7 +41,7 @@ variable_within text (v ∷ vs) o x e h bounded =
     let all = length-append (slots_of_variable text v) (slots_of text vs) in
     let own = length_variable text v in
     let first : ℕ × Owned = (0, v) in
-    elim (either_some (is_named_so o x v) (Some first) (option_map (later text v) (variable_at text vs o x)) e h) [
+    elim (either_some (is_variable o x v) (Some first) (option_map (later text v) (variable_at text vs o x)) e h) [
       | inl q ↦
           let is : first ≡ e = cc in
           let here : VariableWithin text (length (slots_of text (v ∷ vs))) first
@@ -55,7 +56,7 @@ variable_within text (v ∷ vs) o x e h bounded =
           subst (λ (z : ℕ × Owned). VariableWithin text (length (slots_of text (v ∷ vs))) z) m.2 there
     ]
 
-module _ (text : Declared) (vs : List Owned) (site : Site) (room : length (slots_of text vs) ≤ site.size)
+module _ (text : Declared) (vs : List Owned) (site : UnitFrame) (room : length (slots_of text vs) ≤ site.size)
     (bounded : AreBoundedVariables text vs) where
   program_symbol : (p : Program) (x : Name) (o : Option (ℕ × Owned)) (rest : List Symbol)
       → variable_at text vs (owner_of_name p x) x ≡ o → SymbolsWithin site rest
@@ -72,7 +73,7 @@ module _ (text : Declared) (vs : List Owned) (site : Site) (room : length (slots
       program_symbol p x (variable_at text vs (owner_of_name p x) x) (program_symbols text vs p xs) refl
       (program_within p xs)
 
-module _ (text : Declared) (ds : List NamedSite) (site : Site) (base : site.base ≡ 0)
+module _ (text : Declared) (ds : List NamedSite) (site : UnitFrame) (base : site.base ≡ 0)
     (room : length (slots_of text (map (owned_variable None) ds)) ≤ site.size)
     (bounded : AreBoundedVariables text (map (owned_variable None) ds)) where
   function_symbol : (x : Name) (o : Option (ℕ × Owned)) (rest : List Symbol)
@@ -91,10 +92,10 @@ module _ (text : Declared) (ds : List NamedSite) (site : Site) (base : site.base
       (function_within xs)
 
 -- a symbol among the values of a unit
-abbrev IsWithin : Site → Symbol → Type 0
+abbrev IsWithin : UnitFrame → Symbol → Type 0
 IsWithin site y = (slot_at site.base y.anchor + size y.shape ≤ site.size) × IsBounded y.shape
 
-module _ (text : Declared) (vs : List Owned) (ps : Parts) (externals : List Name) (site : Site)
+module _ (text : Declared) (vs : List Owned) (ps : Parts) (externals : List Name) (site : UnitFrame)
     (room : length (slots_of text vs) ≤ site.size) (bounded : AreBoundedVariables text vs)
     (instance : site.base + sizes ps ≤ site.size) (members : AreBounded ps) where
   block_name : (x : Name) (y : Symbol) → block_symbol text vs ps externals x ≡ Some y → IsWithin site y

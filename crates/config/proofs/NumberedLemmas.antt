@@ -12,13 +12,8 @@ use Rattle.plan.specs.declared.slots.SlotPlace.{SlotPlace}
 use Rattle.plan.specs.declared.slots.SlotPlace.TheVariants.{Input, Variable}
 use Rattle.plan.specs.SlotPlaces.{are_numbered, slots_among}
 use Rattle.plan.specs.NumberedSlots.{numbered_from}
-
-same_number : (n : ℕ) → (n == n) ≡ true
-same_number n = grind (arith, nat_tests)
-
-and_first : (a b : Bool) → a ≡ true → b ≡ true → (a && b) ≡ true
-and_first true b h k = k
-and_first false b h k = absurd (cc)
+use Rattle.std.proofs.lemmas.Bool.{and_from}
+use Rattle.st_types.proofs.TestLemmas.{same_number}
 
 numbered_then : (s : LayoutSlot) (ss : List LayoutSlot) (v i : ℕ) (b : Bool) → s.is_input ≡ b
     → are_numbered (suc v) i (numbered_from (suc v) i ss) (suc v + length (variables_among ss))
@@ -29,12 +24,12 @@ numbered_then : (s : LayoutSlot) (ss : List LayoutSlot) (v i : ℕ) (b : Bool) �
     (i + length (inputs_among (s ∷ ss))) ≡ true
 numbered_then s ss v i true e one other =
     let n : i + suc (length (inputs_among ss)) ≡ suc i + length (inputs_among ss) = omega arith in
-    rw e (and_first (i == i) (are_numbered v (suc i) (numbered_from v (suc i) ss) (v + length (variables_among ss))
+    rw e (and_from (i == i) (are_numbered v (suc i) (numbered_from v (suc i) ss) (v + length (variables_among ss))
     (i + suc (length (inputs_among ss)))) (same_number i)
     (ap (λ m. are_numbered v (suc i) (numbered_from v (suc i) ss) (v + length (variables_among ss)) m) n ∙ other))
 numbered_then s ss v i false e one other =
     let n : v + suc (length (variables_among ss)) ≡ suc v + length (variables_among ss) = omega arith in
-    rw e (and_first (v == v) (are_numbered (suc v) i (numbered_from (suc v) i ss)
+    rw e (and_from (v == v) (are_numbered (suc v) i (numbered_from (suc v) i ss)
     (v + suc (length (variables_among ss))) (i + length (inputs_among ss))) (same_number v)
     (ap (λ m. are_numbered (suc v) i (numbered_from (suc v) i ss) m (i + length (inputs_among ss))) n ∙ one))
 
@@ -44,11 +39,11 @@ numbered_on [] v i =
     let a : v + 0 ≡ v = omega arith in
     let b : i + 0 ≡ i = omega arith in
     ap (λ m. v == m && i == i + 0) a ∙ ap (λ m. v == v && i == m) b
-    ∙ and_first (v == v) (i == i) (same_number v) (same_number i)
+    ∙ and_from (v == v) (i == i) (same_number v) (same_number i)
 numbered_on (s ∷ ss) v i =
     numbered_then s ss v i s.is_input refl (numbered_on ss (suc v) i) (numbered_on ss v (suc i))
 
--- the slots of a layout are numbered as they stand
+-- the slots of a layout are numbered in their order
 pub numbered : (ss : List LayoutSlot)
     → are_numbered 0 0 (numbered_from 0 0 ss) (length (variables_among ss)) (length (inputs_among ss)) ≡ true
 numbered ss =
@@ -72,7 +67,7 @@ pub slots_are : (ss : List LayoutSlot) (v i : ℕ)
 slots_are [] v i = refl
 slots_are (s ∷ ss) v i = slots_then s ss v i s.is_input refl (slots_are ss (suc v) i) (slots_are ss v (suc i))
 
--- what stands in slots is told by their facts
+-- the variables and inputs in slots, from the facts of these
 abbrev pub numbered_facts : ℕ → ℕ → List SlotFacts → List SlotPlace
 numbered_facts v i [] = []
 numbered_facts v i (f ∷ fs) =

@@ -1,4 +1,4 @@
--- The function and the block that stand in a linked library by a number.
+-- The function and the block with a given number in a linked library.
 use Rattle.std.proofs.Common.{◌≡◌, refl, subst, arith, ℕ, suc, ◌+◌, Bool, true, false, if◌then◌else◌}
 use Rattle.std.proofs.Common.{List, [], ◌∷◌, Some, slice_get}
 use Rattle.std.specs.Prelude.{bytes_eq}
@@ -9,7 +9,6 @@ use Rattle.st_types.specs.Units.{OrganisationUnit}
 use Rattle.st_meaning.specs.NameTypes.{Declared}
 use Rattle.st_meaning.specs.Scopes.{Name}
 use Rattle.layout.specs.LayoutVariables.{Owned}
-use Rattle.layout.proofs.ListLemmas.{some_is}
 use Rattle.st_link.proofs.Among.{Among, here, later}
 use Rattle.slot_trees.specs.SlotTrees.{SlotFunction, SlotStmts}
 use Rattle.slot_trees.specs.Tables.{named_in}
@@ -18,6 +17,7 @@ use Rattle.slot_trees.specs.TextLinks.{linked_function_then, linked_functions}
 use Rattle.slot_trees.specs.TextNumbers.{block_name_then, block_names, function_name_then, function_names}
 use Rattle.slot_trees.specs.TextNumbers.{numbered_from}
 use Rattle.slot_trees.proofs.LibraryLinks.{linked_list}
+use Rattle.st_types.proofs.OptionLemmas.{some_is}
 
 pub record FunctionAt (text : Declared) (us : List OrganisationUnit) (fs : List SlotFunction) (x : Name) (n i : ℕ)
     : Type 0 where

@@ -33,7 +33,6 @@ use Rattle.st_rules.specs.Statements.{Context, placed, in_loop, in_for, outside,
 use Rattle.st_rules.specs.Statements.{statements_of_arms, statements_of_case_arms}
 use Rattle.st_rules.specs.TargetRules.{is_own, is_control, is_assignable}
 use Rattle.st_link.specs.StatementSoundness.{BodyRight}
-use Rattle.st_link.proofs.Alikes.{front_empty}
 use Rattle.st_link.proofs.Among.{Among, here, later, in_map, none_of}
 use Rattle.st_link.proofs.FoundNames.{unit_found}
 use Rattle.st_link.proofs.StatementParts.{statement_right, body_split, first_right, unless_right}
@@ -43,7 +42,6 @@ use Rattle.layout.specs.Libraries.{block_of_unit, block_then, blocks_among, body
 use Rattle.layout.specs.Names.{are_different, are_types_and_units_different, has_different_fields}
 use Rattle.layout.specs.Names.{has_different_variables, names_of_sites, variable_names}
 use Rattle.layout.specs.Types.{Site, site_named, sites_of_blocks}
-use Rattle.layout.proofs.ListLemmas.{both, turned, some_is}
 use Rattle.layout.proofs.ResolvedLemmas.{taken_text}
 use Rattle.st_link.specs.Homes.{IsAmong, here as here_among, further_on}
 use Rattle.st_link.proofs.GivenPrograms.{program_is_of}
@@ -56,8 +54,11 @@ use Rattle.st_link.proofs.TakenTexts.{taken_differ}
 use Rattle.st_link.proofs.UnitServes.{differ}
 use Rattle.config.proofs.Counters.{StmtCounts, StmtsCount, ArmsCount, CaseArmsCount}
 use Rattle.config.proofs.UnitCodes.{KeepsOwn}
+use Rattle.st_types.proofs.OptionLemmas.{some_is}
+use Rattle.st_types.proofs.TestLemmas.{false_from_not}
+use Rattle.st_types.proofs.ListLemmas.{append_first}
 
--- FORs count by variables of their units' own
+-- FORs count by variables that their units own
 own_is_no_external : (s : Section) → is_own (Some s) ≡ true → is_external s ≡ false
 own_is_no_external (sections.Local keep) h = refl
 own_is_no_external sections.Constant h = refl
@@ -84,7 +85,7 @@ module _ (env : Environment) (Own : Name → Type 0) (counts : (x : Name) → Is
   control_is c x None is h = absurd (cc)
   control_is c x (Some t) is h =
       let right = unless_right WrongType (is_control env x t) x.place
-      (front_empty (breaking WrongType (unless (is_control env x t) x.place))
+      (append_first (breaking WrongType (unless (is_control env x t) x.place))
       (breaking NotAssignable (unless (is_assignable env c (variable x no_selectors)) x.place)) h) in
       counts x.name (record {
         declared = t;
@@ -153,8 +154,8 @@ module _ (source : Source) (h : IsWellTyped source) (u : OrganisationUnit) (amon
   apart x s is =
       let o = orderly_site whole (externals_in taken.blocks) (sites_of_blocks taken.blocks)
       (unit_in_order source h u among) x s is in
-      turned (contains_name (externals_in taken.blocks) x)
-      (both (not (contains_name (externals_in taken.blocks) x)) _ o).0
+      false_from_not (contains_name (externals_in taken.blocks) x)
+      (and_parts (not (contains_name (externals_in taken.blocks) x)) _ o).0
 
   in_blocks : (x : Name) (t : VariableType) (b : Bool) → is_named x u.name ≡ b
       → (if b then result_type u.sort else type_in_blocks u.blocks x) ≡ Some t
@@ -178,13 +179,13 @@ module _ (source : Source) (h : IsWellTyped source) (u : OrganisationUnit) (amon
   names_differ : are_types_and_units_different whole ≡ true
   names_differ =
       taken_differ (declared_in source)
-      (both (are_different (map (λ t. t.name.name) (declared_in source).types))
+      (and_parts (are_different (map (λ t. t.name.name) (declared_in source).types))
       (are_types_and_units_different (declared_in source)) (differ source h)).1
 
   variables_differ : has_different_variables (resolved (declared_in source) u) ≡ true
   variables_differ =
       all_at has_different_variables (in_map (resolved (declared_in source)) among)
-      (both (list_all (λ t. has_different_fields t.definition) whole.types)
+      (and_parts (list_all (λ t. has_different_fields t.definition) whole.types)
       (list_all has_different_variables whole.units) names_differ).1
 
   keeps_own : (text : Declared)

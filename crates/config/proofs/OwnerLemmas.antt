@@ -1,4 +1,4 @@
--- Instances are told apart by their names.
+-- Instances are distinguished by their names.
 use Rattle.std.proofs.Common.{◌≡◌, ◌⊎◌, inl, inr, ◌+◌, ℕ, zero, suc, refl, sym, ap, ap₂, ◌∙◌, subst, Bool, true, false}
 use Rattle.std.proofs.Common.{◌&&◌, ◌||◌, not, List, [], ◌∷◌, ◌++◌, map, length, slice_get, Some}
 use Rattle.std.proofs.Common.{option_map, append_assoc}
@@ -23,15 +23,20 @@ use Rattle.st_meaning.specs.Plans as plans
 use Rattle.config.specs.PlainDeclarations.{is_plain, is_plain_configuration, is_plain_element, is_plain_globals}
 use Rattle.config.specs.PlainDeclarations.{is_plain_instance, is_plain_resource, is_word}
 use Rattle.config.proofs.OnePath.{word_bytes}
-use Rattle.plan.specs.Owners.{name_of, AreToldApart}
+use Rattle.plan.specs.Owners.{name_of, AreDistinguished}
 use Rattle.config.specs.declared.places.Place.{Place}
 use Rattle.config.specs.Places.{places_from}
 use Rattle.config.specs.TextPlans.{instances_at, resources_of, IsPlanOf}
 use Rattle.config.proofs.ConfiguredLemmas.{only, owners_of_text, resources}
-use Rattle.config.proofs.ListLemmas.{some_is, both, both_are, all_append, all_get, get_map, mapped}
+use Rattle.config.proofs.ListLemmas.{all_get, mapped}
 use Rattle.config.proofs.PlaceLemmas.{owners_in, owners_on}
+use Rattle.st_types.proofs.OptionLemmas.{some_is}
+use Rattle.std.proofs.lemmas.Bool.{and_parts, and_from}
+use Rattle.st_types.proofs.ListLemmas.{all_append}
+use Rattle.std.proofs.lemmas.Option.{slice_get-map}
+use Rattle.st_types.proofs.TestLemmas.{false_from_not}
 
--- ---- a word ends where its mark stands
+-- ---- a word ends at its mark
 
 cut_word : (m : ℕ) → is_letter_or_digit m ≡ false → (x y r s : List ℕ) → list_all is_letter_or_digit x ≡ true
     → list_all is_letter_or_digit y ≡ true → x ++ m ∷ r ≡ y ++ m ∷ s → (x ≡ y) × (r ≡ s)
@@ -41,22 +46,22 @@ cut_word m mark [] [] r s h k e = (refl, tails e)
     tails e = cc
 cut_word m mark [] (b ∷ y) r s h k e =
     let q : m ≡ b = heads e in
-    let p = (both (is_letter_or_digit b) (list_all is_letter_or_digit y) k).0 in
+    let p = (and_parts (is_letter_or_digit b) (list_all is_letter_or_digit y) k).0 in
     let f : true ≡ false = sym p ∙ ap is_letter_or_digit (sym q) ∙ mark in absurd (cc)
   where
     heads : m ∷ r ≡ b ∷ (y ++ m ∷ s) → m ≡ b
     heads e = cc
 cut_word m mark (b ∷ x) [] r s h k e =
     let q : b ≡ m = heads e in
-    let p = (both (is_letter_or_digit b) (list_all is_letter_or_digit x) h).0 in
+    let p = (and_parts (is_letter_or_digit b) (list_all is_letter_or_digit x) h).0 in
     let f : true ≡ false = sym p ∙ ap is_letter_or_digit q ∙ mark in absurd (cc)
   where
     heads : b ∷ (x ++ m ∷ r) ≡ m ∷ s → b ≡ m
     heads e = cc
 cut_word m mark (b ∷ x) (c ∷ y) r s h k e =
     let q : b ≡ c = heads e in
-    let rest = cut_word m mark x y r s (both (is_letter_or_digit b) (list_all is_letter_or_digit x) h).1
-    (both (is_letter_or_digit c) (list_all is_letter_or_digit y) k).1 (tails e) in
+    let rest = cut_word m mark x y r s (and_parts (is_letter_or_digit b) (list_all is_letter_or_digit x) h).1
+    (and_parts (is_letter_or_digit c) (list_all is_letter_or_digit y) k).1 (tails e) in
     (ap₂ (λ z (zs : List ℕ). z ∷ zs) q rest.0, rest.1)
   where
     heads : b ∷ (x ++ m ∷ r) ≡ c ∷ (y ++ m ∷ s) → b ≡ c
@@ -77,8 +82,8 @@ parted o more =
 pub one_owner : (o p : Owner) (more rest : List ℕ) → is_word_owner o ≡ true → is_word_owner p ≡ true
     → (name_of o ++ codes " ") ++ more ≡ (name_of p ++ codes " ") ++ rest → o ≡ p
 one_owner o p more rest h k e =
-    let a = both (is_upper_name o.resource) (is_upper_name o.instance) h in
-    let b = both (is_upper_name p.resource) (is_upper_name p.instance) k in
+    let a = and_parts (is_upper_name o.resource) (is_upper_name o.instance) h in
+    let b = and_parts (is_upper_name p.resource) (is_upper_name p.instance) k in
     let whole = sym (parted o more) ∙ e ∙ parted p rest in
     let first = cut_word 47 refl o.resource p.resource (o.instance ++ 32 ∷ more) (p.instance ++ 32 ∷ rest)
     (word_bytes o.resource a.0) (word_bytes p.resource b.0) whole in
@@ -86,11 +91,7 @@ one_owner o p more rest h k e =
     first.1 in
     ap₂ (λ (x y : List ℕ). record { resource = x; instance = y }) first.0 second.0
 
--- ---- no name stands twice
-
-not_false : (b : Bool) → not b ≡ true → b ≡ false
-not_false false h = refl
-not_false true h = absurd (cc)
+-- ---- no name occurs twice
 
 contains : (xs : List Name) (k : ℕ) (x : Name) → slice_get xs k ≡ Some x → contains_name xs x ≡ true
 contains [] k x h = absurd (cc)
@@ -108,17 +109,17 @@ once : (xs : List Name) → are_different xs ≡ true → (i j : ℕ) (x : Name)
 once [] h i j x a b = absurd (cc)
 once (y ∷ xs) h zero zero x a b = refl
 once (y ∷ xs) h zero (suc j) x a b =
-    let d = both (not (contains_name xs y)) (are_different xs) h in
+    let d = and_parts (not (contains_name xs y)) (are_different xs) h in
     let e : y ≡ x = some_is a in
     let f : contains_name xs y ≡ true = ap (contains_name xs) e ∙ contains xs j x b in
-    let g = not_false (contains_name xs y) d.0 in absurd (cc)
+    let g = false_from_not (contains_name xs y) d.0 in absurd (cc)
 once (y ∷ xs) h (suc i) zero x a b =
-    let d = both (not (contains_name xs y)) (are_different xs) h in
+    let d = and_parts (not (contains_name xs y)) (are_different xs) h in
     let e : y ≡ x = some_is b in
     let f : contains_name xs y ≡ true = ap (contains_name xs) e ∙ contains xs i x a in
-    let g = not_false (contains_name xs y) d.0 in absurd (cc)
+    let g = false_from_not (contains_name xs y) d.0 in absurd (cc)
 once (y ∷ xs) h (suc i) (suc j) x a b =
-    ap suc (once xs (both (not (contains_name xs y)) (are_different xs) h).1 i j x a b)
+    ap suc (once xs (and_parts (not (contains_name xs y)) (are_different xs) h).1 i j x a b)
 
 -- ---- the instances of resources
 
@@ -129,9 +130,9 @@ own_at : (r : Resource) (k : ℕ) (o : Owner) → slice_get (owners_on r) k ≡ 
     → (o.resource ≡ r.name.name) × (slice_get (map (λ (i : Instance). i.name.name) r.instances) k ≡ Some o.instance)
 own_at r k o h =
     let m = mapped (owner_in r.name.name) (slice_get r.instances k) o
-    (sym (get_map (owner_in r.name.name) r.instances k) ∙ h) in (
+    (sym (slice_get-map (owner_in r.name.name) r.instances k) ∙ h) in (
       sym (ap (λ (p : Owner). p.resource) m.2),
-      get_map (λ (i : Instance). i.name.name) r.instances k ∙ ap (option_map (λ (i : Instance). i.name.name)) m.1
+      slice_get-map (λ (i : Instance). i.name.name) r.instances k ∙ ap (option_map (λ (i : Instance). i.name.name)) m.1
           ∙ ap (λ (p : Owner). Some p.instance) m.2,
     )
 
@@ -157,20 +158,20 @@ one_place : (rs : List Resource) → are_different (resource_names rs) ≡ true 
 one_place [] h k i j o a b = absurd (cc)
 one_place (r ∷ rs) h k i j o a b =
     by_sides (get_split (owners_on r) (owners_in rs) i o a) (get_split (owners_on r) (owners_in rs) j o b)
-    (λ m n g f. one_place rs (both (not (contains_name (resource_names rs) r.name.name)) (are_different (resource_names rs)) h).1
-    (both (has_different_instances r) (list_all has_different_instances rs) k).1 m n o g f)
+    (λ m n g f. one_place rs (and_parts (not (contains_name (resource_names rs) r.name.name)) (are_different (resource_names rs)) h).1
+    (and_parts (has_different_instances r) (list_all has_different_instances rs) k).1 m n o g f)
   where
     names : not (contains_name (resource_names rs) r.name.name) ≡ true
-    names = (both (not (contains_name (resource_names rs) r.name.name)) (are_different (resource_names rs)) h).0
+    names = (and_parts (not (contains_name (resource_names rs) r.name.name)) (are_different (resource_names rs)) h).0
 
     own : has_different_instances r ≡ true
-    own = (both (has_different_instances r) (list_all has_different_instances rs) k).0
+    own = (and_parts (has_different_instances r) (list_all has_different_instances rs) k).0
 
     apart : (m n : ℕ) → slice_get (owners_on r) m ≡ Some o → slice_get (owners_in rs) n ≡ Some o → ⊥
     apart m n g f =
         let e : contains_name (resource_names rs) r.name.name ≡ true =
         ap (contains_name (resource_names rs)) (sym (own_at r m o g).0) ∙ member rs n o f in
-        let q = not_false (contains_name (resource_names rs) r.name.name) names in absurd (cc)
+        let q = false_from_not (contains_name (resource_names rs) r.name.name) names in absurd (cc)
 
     by_sides : ((slice_get (owners_on r) i ≡ Some o)
         ⊎ ((m : ℕ) × (i ≡ length (owners_on r) + m) × (slice_get (owners_in rs) m ≡ Some o)))
@@ -190,30 +191,30 @@ words_on : (r : Resource) (is : List Instance) → is_upper_name r.name.name ≡
     → list_all is_word_owner (map (owner_in r.name.name) is) ≡ true
 words_on r [] h k = refl
 words_on r (i ∷ is) h k =
-    let b = both (is_plain_instance i) (list_all is_plain_instance is) k in
-    both_are (is_word_owner (owner_in r.name.name i))
+    let b = and_parts (is_plain_instance i) (list_all is_plain_instance is) k in
+    and_from (is_word_owner (owner_in r.name.name i))
     (list_all is_word_owner (map (owner_in r.name.name) is))
-    (both_are (is_upper_name r.name.name) (is_upper_name i.name.name) h b.0)
+    (and_from (is_upper_name r.name.name) (is_upper_name i.name.name) h b.0)
     (words_on r is h b.1)
 
 words_in : (rs : List Resource) → list_all is_plain_resource rs ≡ true → list_all is_word_owner (owners_in rs) ≡ true
 words_in [] h = refl
 words_in (r ∷ rs) h =
-    let b = both (is_plain_resource r) (list_all is_plain_resource rs) h in
-    let p = both (is_word r.name) (list_all is_plain_instance r.instances) b.0 in
+    let b = and_parts (is_plain_resource r) (list_all is_plain_resource rs) h in
+    let p = and_parts (is_word r.name) (list_all is_plain_instance r.instances) b.0 in
     all_append is_word_owner (owners_on r) (owners_in rs)
     (words_on r r.instances p.0 p.1) (words_in rs b.1)
 
-plain_configurations : (source : Source) → is_plain source ≡ true
+pub plain_configurations : (source : Source) → is_plain source ≡ true
     → list_all is_plain_configuration (configurations_in source) ≡ true
 plain_configurations [] h = refl
 plain_configurations (sources.types ts ∷ rest) h =
-    plain_configurations rest (both (is_plain_element (sources.types ts)) (is_plain rest) h).1
+    plain_configurations rest (and_parts (is_plain_element (sources.types ts)) (is_plain rest) h).1
 plain_configurations (sources.unit u ∷ rest) h =
-    plain_configurations rest (both (is_plain_element (sources.unit u)) (is_plain rest) h).1
+    plain_configurations rest (and_parts (is_plain_element (sources.unit u)) (is_plain rest) h).1
 plain_configurations (sources.configuration c ∷ rest) h =
-    let b = both (is_plain_configuration c) (is_plain rest) h in
-    both_are (is_plain_configuration c)
+    let b = and_parts (is_plain_configuration c) (is_plain rest) h in
+    and_from (is_plain_configuration c)
     (list_all is_plain_configuration (configurations_in rest)) b.0 (plain_configurations rest b.1)
 
 plain_only : (cs : List Configuration) (c : Configuration) → only_configuration cs ≡ Some c
@@ -221,19 +222,19 @@ plain_only : (cs : List Configuration) (c : Configuration) → only_configuratio
 plain_only [] c h k = absurd (cc)
 plain_only (d ∷ []) c h k =
     let e : d ≡ c = some_is h in
-    ap is_plain_configuration (sym e) ∙ (both (is_plain_configuration d) true k).0
+    ap is_plain_configuration (sym e) ∙ (and_parts (is_plain_configuration d) true k).0
 plain_only (d ∷ e ∷ cs) c h k = absurd (cc)
 
--- the instances of the only configuration of a text are told apart
+-- the instances of the only configuration of a text are distinguished
 pub told_apart : (source : Source) (c : Configuration) → IsWellTyped source → is_plain source ≡ true
-    → only_configuration (configurations_in source) ≡ Some c → AreToldApart (owners_in c.resources)
+    → only_configuration (configurations_in source) ≡ Some c → AreDistinguished (owners_in c.resources)
 told_apart source c well plain only i j o p more rest a b e =
     let conf : is_configuration_different (Some c) ≡ true =
     subst (λ x. is_configuration_different x ≡ true) only (scopes_differ source (parts_right source well).names.all) in
-    let d = both (are_different (map (λ v. v.name) (variables_of_globals c.globals)))
+    let d = and_parts (are_different (map (λ v. v.name) (variables_of_globals c.globals)))
     (are_different (resource_names c.resources) && list_all has_different_instances c.resources) conf in
-    let names = both (are_different (resource_names c.resources)) (list_all has_different_instances c.resources) d.1 in
-    let q = both (list_all is_plain_globals c.globals) (list_all is_plain_resource c.resources)
+    let names = and_parts (are_different (resource_names c.resources)) (list_all has_different_instances c.resources) d.1 in
+    let q = and_parts (list_all is_plain_globals c.globals) (list_all is_plain_resource c.resources)
     (plain_only (configurations_in source) c only (plain_configurations source plain)) in
     let words = words_in c.resources q.1 in
     let same = one_owner o p more rest (all_get is_word_owner (owners_in c.resources) i o words a)
@@ -251,7 +252,7 @@ program_at (p ∷ ps) (x ∷ programs) (suc k) v h = program_at ps programs k v 
 -- so are those of a plan
 pub plan_told_apart : (source : Source) (budget : ℕ) (plan : plans.Plan) → is_plain source ≡ true
     → IsPlanOf source budget plan
-    → AreToldApart (map (λ (p : plans.ProgramInstance). p.code.owner) plan.programs)
+    → AreDistinguished (map (λ (p : plans.ProgramInstance). p.code.owner) plan.programs)
 plan_told_apart source budget plan plain of i j o p more rest a b e =
     told_apart source c of.well_typed plain (only source of.configured) i j o p more rest (there i o a) (there j p b) e
   where
@@ -263,11 +264,11 @@ plan_told_apart source budget plan plain of i j o p more rest a b e =
         → slice_get (owners_in c.resources) k ≡ Some x
     there k x h =
         let v = mapped (λ (q : plans.ProgramInstance). q.code.owner) (slice_get plan.programs k) x
-        (sym (get_map (λ (q : plans.ProgramInstance). q.code.owner) plan.programs k) ∙ h) in
+        (sym (slice_get-map (λ (q : plans.ProgramInstance). q.code.owner) plan.programs k) ∙ h) in
         let ps = places_from 0 0 (resources_of source) in
         let at = program_at ps (programs_of_text source) k v.0
         (ap (λ (q : plans.Plan). slice_get q.programs k) (sym of.is) ∙ v.1) in
         ap (λ (rs : List Resource). slice_get (owners_in rs) k) (sym (resources source of.configured))
         ∙ ap (λ xs. slice_get xs k) (sym (owners_of_text source of.configured))
-        ∙ get_map (λ (q : Program). q.owner) (programs_of_text source) k
+        ∙ slice_get-map (λ (q : Program). q.owner) (programs_of_text source) k
         ∙ ap (option_map (λ (q : Program). q.owner)) at ∙ ap Some v.2

@@ -30,8 +30,13 @@ use Rattle.plan.specs.Sound.{is_of_resource}
 use Rattle.config.specs.declared.places.Place.{Place}
 use Rattle.config.specs.Places.{task_number, place_of, places_from}
 use Rattle.config.specs.Tasks.{task_at, tasks_from}
-use Rattle.config.proofs.ListLemmas.{both, both_are, all_append, map_append, map_map, length_map, length_both}
-use Rattle.config.proofs.ListLemmas.{get_map, get_left, get_right, first_there}
+use Rattle.config.proofs.ListLemmas.{length_both}
+use Rattle.config.proofs.ListLemmas.{get_right, first_there}
+use Rattle.std.proofs.lemmas.Bool.{and_parts, and_from}
+use Rattle.st_types.proofs.ListLemmas.{all_append, map_map, get_first, length_map}
+use Rattle.std.proofs.lemmas.List.{map-append}
+use Rattle.std.proofs.lemmas.Option.{slice_get-map}
+use Rattle.st_types.proofs.TestLemmas.{same_number}
 
 -- ---- each instance has a program
 
@@ -71,22 +76,22 @@ module _ (source : Source) where
       → map (λ (p : Program). p.owner) (programs_of_instances whole resource is) ≡ map (owner_in resource) is
   programs_on resource tasks [] known = refl
   programs_on resource tasks (i ∷ is) known =
-      let b = both (is_known_instance text tasks i) (list_all (is_known_instance text tasks) is) known in
-      let p = both (is_known_task tasks i.task) (is_program_unit (unit_named text.units i.program.name)) b.0 in
+      let b = and_parts (is_known_instance text tasks i) (list_all (is_known_instance text tasks) is) known in
+      let p = and_parts (is_known_task tasks i.task) (is_program_unit (unit_named text.units i.program.name)) b.0 in
       let here = program_if_there whole (owner_in resource i) (unit_named whole.units i.program.name) in
-      map_append (λ (q : Program). q.owner) here (programs_of_instances whole resource is)
+      map-append (λ (q : Program). q.owner) here (programs_of_instances whole resource is)
       ∙ ap₂ (λ (xs ys : List Owner). xs ++ ys) (one_program (owner_in resource i) i.program.name p.1)
       (programs_on resource tasks is b.1)
 
-  -- the programs of a text are of the instances, one of each
+  -- the programs of a text are those of the instances, one of each
   pub owners_of_programs : (rs : List Resource)
       → list_all (λ r. list_all (is_known_instance text r.tasks) r.instances) rs ≡ true
       → map (λ (p : Program). p.owner) (programs_of_resources whole rs) ≡ owners_in rs
   owners_of_programs [] known = refl
   owners_of_programs (r ∷ rs) known =
-      let b = both (list_all (is_known_instance text r.tasks) r.instances)
+      let b = and_parts (list_all (is_known_instance text r.tasks) r.instances)
       (list_all (λ q. list_all (is_known_instance text q.tasks) q.instances) rs) known in
-      map_append (λ (q : Program). q.owner) (programs_of_instances whole r.name.name r.instances)
+      map-append (λ (q : Program). q.owner) (programs_of_instances whole r.name.name r.instances)
       (programs_of_resources whole rs)
       ∙ ap₂ (λ (xs ys : List Owner). xs ++ ys) (programs_on r.name.name r.tasks r.instances b.0)
       (owners_of_programs rs b.1)
@@ -96,7 +101,7 @@ pub owners_of_places : (number first : ℕ) (rs : List Resource)
     → map (λ (p : Place). p.owner) (places_from number first rs) ≡ owners_in rs
 owners_of_places number first [] = refl
 owners_of_places number first (r ∷ rs) =
-    map_append (λ (p : Place). p.owner) (map (place_of number first r) r.instances)
+    map-append (λ (p : Place). p.owner) (map (place_of number first r) r.instances)
     (places_from (suc number) (first + length r.tasks) rs)
     ∙ ap₂ (λ (xs ys : List Owner). xs ++ ys) (map_map (λ (p : Place). p.owner) (place_of number first r) r.instances)
     (owners_of_places (suc number) (first + length r.tasks) rs)
@@ -115,9 +120,6 @@ places_counted number first (r ∷ rs) =
 
 abbrev pub runs_in : List Task → Place → Bool
 runs_in tasks p = is_of_resource p.resource (slice_get tasks p.task)
-
-same_number : (n : ℕ) → (n == n) ≡ true
-same_number n = grind (arith, nat_tests)
 
 module _ (vs : List PlanVariable) (is : List PlanInput) where
   -- the task of an instance is known, so it has a number
@@ -138,19 +140,19 @@ module _ (vs : List PlanVariable) (is : List PlanInput) where
   places_on before behind number r (i ∷ xs) known tasked =
       let own = map (task_at vs is number) r.tasks in
       let all = before ++ (own ++ behind) in
-      let k = both (is_known_task r.tasks i.task) (list_all (λ (j : Instance). is_known_task r.tasks j.task) xs) known in
-      let t = both (is_some i.task) (list_all (λ (j : Instance). is_some j.task) xs) tasked in
+      let k = and_parts (is_known_task r.tasks i.task) (list_all (λ (j : Instance). is_known_task r.tasks j.task) xs) known in
+      let t = and_parts (is_some i.task) (list_all (λ (j : Instance). is_some j.task) xs) tasked in
       let f = task_there r.tasks i.task k.0 t.0 in
       let there : slice_get own f.0 ≡ Some (task_at vs is number f.1) =
-      get_map (task_at vs is number) r.tasks f.0 ∙ ap (option_map (task_at vs is number)) f.3 in
+      slice_get-map (task_at vs is number) r.tasks f.0 ∙ ap (option_map (task_at vs is number)) f.3 in
       let found : slice_get all (length before + f.0) ≡ Some (task_at vs is number f.1) =
-      get_right before (own ++ behind) f.0 ∙ get_left own behind f.0 (task_at vs is number f.1) there in
+      get_right before (own ++ behind) f.0 ∙ get_first own behind f.0 (task_at vs is number f.1) there in
       let at : slice_get all (length before + unwrap_or (task_number r.tasks i.task) 0)
       ≡ Some (task_at vs is number f.1) =
       ap (λ o. slice_get all (length before + unwrap_or o 0)) f.2 ∙ found in
       let here : runs_in all (place_of number (length before) r i) ≡ true =
       ap (is_of_resource number) at ∙ same_number number in
-      both_are (runs_in all (place_of number (length before) r i))
+      and_from (runs_in all (place_of number (length before) r i))
       (list_all (runs_in all) (map (place_of number (length before) r) xs)) here
       (places_on before behind number r xs k.1 t.1)
 
@@ -162,9 +164,9 @@ module _ (vs : List PlanVariable) (is : List PlanInput) where
   places_run before number first (r ∷ rs) e known tasked =
       let own = map (task_at vs is number) r.tasks in
       let behind = tasks_from vs is (suc number) rs in
-      let k = both (list_all (λ (i : Instance). is_known_task r.tasks i.task) r.instances)
+      let k = and_parts (list_all (λ (i : Instance). is_known_task r.tasks i.task) r.instances)
       (list_all (λ q. list_all (λ (i : Instance). is_known_task q.tasks i.task) q.instances) rs) known in
-      let t = both (list_all (λ (i : Instance). is_some i.task) r.instances)
+      let t = and_parts (list_all (λ (i : Instance). is_some i.task) r.instances)
       (list_all (λ q. list_all (λ (i : Instance). is_some i.task) q.instances) rs) tasked in
       let here = places_on before behind number r r.instances k.0 t.0 in
       let n : first + length r.tasks ≡ length (before ++ own) =

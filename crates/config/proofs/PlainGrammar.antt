@@ -2,7 +2,7 @@
 use Rattle.std.proofs.Common.{◌≡◌, refl, sym, ap, ◌∙◌, ℕ, Bool, true, ◌&&◌, List, ◌∷◌, length, Option, Some, arith}
 use Rattle.std.specs.Prelude.{nat_lt}
 use Rattle.std.specs.List.{list_all}
-use Rattle.std.proofs.lemmas.Bool.{lt-ltb}
+use Rattle.std.proofs.lemmas.Bool.{lt-ltb, and_parts, and_from}
 use Rattle.st_types.specs.declared.identifier.Identifier.{Identifier}
 use Rattle.st_types.specs.declared.literal.Number.{Number as NumberLeaf}
 use Rattle.st_lex.specs.declared.token.Token.{Token}
@@ -32,7 +32,6 @@ use Rattle.st_parse.specs.Configurations.{IsGlobalNames, IsGlobal, IsGlobalBlock
 use Rattle.st_parse.specs.Configurations.{IsInstance, IsResource, IsConfiguration}
 use Rattle.st_parse.specs.Sources as s
 use Rattle.st_parse.specs.Sources.{IsLibraryElement, IsSource}
-use Rattle.layout.proofs.ListLemmas.{both, both_are}
 use Rattle.config.specs.PlainDeclarations.{is_plain_number, is_word, is_plain_simple, is_plain_array, is_plain_type}
 use Rattle.config.specs.PlainDeclarations.{is_plain_field, is_plain_definition, is_plain_type_declaration}
 use Rattle.config.specs.PlainDeclarations.{is_plain_declaration, is_plain_block, is_plain_unit, are_words}
@@ -42,11 +41,11 @@ use Rattle.config.specs.Texts.{IsTextOf}
 use Rattle.config.proofs.PlainTokens.{is_plain_kind, is_plain_token, tokens_plain}
 use Rattle.config.proofs.PlainRest.{ArePlain, token_rest, initial_rest, stmts_rest}
 
--- What was read passes, and what stands behind it is plain.
+-- The part that was read passes, and the rest after it is plain.
 abbrev pub Gives : Bool → Tokens → Type 0
 Gives b us = (b ≡ true) × ArePlain us
 
--- One that is read of plain tokens passes.
+-- A part that is read of plain tokens passes.
 abbrev pub Passing : {A : Type 0} → (Tokens → A → Tokens → Type 0) → (A → Bool) → Type 0
 Passing {A} One p = (ts : Tokens) (x : A) (us : Tokens) → One ts x us → ArePlain ts → Gives (p x) us
 
@@ -59,14 +58,14 @@ many_plain p passing no_more h = (refl, h)
 many_plain p passing (one_more {ts} {us} {vs} {x} {xs} o r) h =
     let a = passing ts x us o h in
     let b = many_plain p passing r a.1 in
-    (both_are (p x) (list_all p xs) a.0 b.0, b.1)
+    (and_from (p x) (list_all p xs) a.0 b.0, b.1)
 
 several_plain : {A : Type 0} {One : Tokens → A → Tokens → Type 0} (p : A → Bool) → Passing One p → {ts us : Tokens}
     {xs : List A} → Several One ts xs us → ArePlain ts → Gives (list_all p xs) us
 several_plain p passing (several {ts} {us} {vs} {x} {xs} o r) h =
     let a = passing ts x us o h in
     let b = many_plain p passing r a.1 in
-    (both_are (p x) (list_all p xs) a.0 b.0, b.1)
+    (and_from (p x) (list_all p xs) a.0 b.0, b.1)
 
 comma_plain : {A : Type 0} {One : Tokens → A → Tokens → Type 0} (p : A → Bool) → Passing One p
     → Passing (AfterComma One) p
@@ -77,8 +76,8 @@ listed_plain : {A : Type 0} {One : Tokens → A → Tokens → Type 0} (p : A �
 listed_plain p passing (listed {ts} {us} {vs} {x} {xs} o r) h =
     let a = passing ts x us o h in
     let b = many_plain p (comma_plain p passing) r a.1 in (
-      both_are (nat_lt 0 (length (x ∷ xs))) (list_all p (x ∷ xs)) (lt-ltb 0 (length (x ∷ xs)) (omega arith))
-          (both_are (p x) (list_all p xs) a.0 b.0),
+      and_from (nat_lt 0 (length (x ∷ xs))) (list_all p (x ∷ xs)) (lt-ltb 0 (length (x ∷ xs)) (omega arith))
+          (and_from (p x) (list_all p xs) a.0 b.0),
       b.1,
     )
 
@@ -91,7 +90,7 @@ one_token : {A : Type 0} (of : Token → Option A) → Passing (Is of) anything
 one_token of ts x us i h = (refl, token_rest i h)
 
 first_plain : (t : Token) (ts : Tokens) → ArePlain (t ∷ ts) → is_plain_kind t.kind ≡ true
-first_plain t ts h = (both (is_plain_kind t.kind) (list_all is_plain_token ts) h).0
+first_plain t ts h = (and_parts (is_plain_kind t.kind) (list_all is_plain_token ts) h).0
 
 -- names
 name_plain_in : (k : TokenKind) (at : ℕ) (x : Identifier) → name_in at k ≡ Some x → is_plain_kind k ≡ true
@@ -109,13 +108,13 @@ name_plain_in (kinds.Enumerated k l) at x e h = absurd (cc)
 
 pub name_plain : Passing (Is name) is_word
 name_plain rs x vs (is {t = t} {us = us} e) h =
-    (name_plain_in t.kind t.start x e (first_plain t us h), (both (is_plain_token t) (list_all is_plain_token us) h).1)
+    (name_plain_in t.kind t.start x e (first_plain t us h), (and_parts (is_plain_token t) (list_all is_plain_token us) h).1)
 
 names_plain : {ts us : Tokens} {xs : List Identifier} → Listed (Is name) ts xs us → ArePlain ts
     → Gives (list_all is_word xs) us
 names_plain {xs = xs} l h =
     let a = listed_plain is_word name_plain l h in
-    ((both (nat_lt 0 (length xs)) (list_all is_word xs) a.0).1, a.1)
+    ((and_parts (nat_lt 0 (length xs)) (list_all is_word xs) a.0).1, a.1)
 
 -- numbers
 whole_plain_in : (k : TokenKind) (at : ℕ) (n : NumberLeaf) → whole_in at k ≡ Some n → is_plain_kind k ≡ true
@@ -133,7 +132,7 @@ whole_plain_in (kinds.Enumerated k l) at n e h = absurd (cc)
 
 whole_plain : {ts us : Tokens} {n : NumberLeaf} → Is whole ts n us → ArePlain ts → Gives (is_plain_number n) us
 whole_plain {n = n} (is {t = t} {us = us} e) h =
-    (whole_plain_in t.kind t.start n e (first_plain t us h), (both (is_plain_token t) (list_all is_plain_token us) h).1)
+    (whole_plain_in t.kind t.start n e (first_plain t us h), (and_parts (is_plain_token t) (list_all is_plain_token us) h).1)
 
 pub number_plain : {ts us : Tokens} {n : NumberLeaf} → IsNumber ts n us → ArePlain ts → Gives (is_plain_number n) us
 number_plain (plain p) h = whole_plain p h
@@ -159,7 +158,7 @@ simple_plain_in (kinds.Enumerated k l) at x e h = absurd (cc)
 simple_plain : {ts us : Tokens} {x : SimpleType} → Is simple ts x us → ArePlain ts → Gives (is_plain_simple x) us
 simple_plain {x = x} (is {t = t} {us = us} e) h = (
   simple_plain_in t.kind t.start x e (first_plain t us h),
-  (both (is_plain_token t) (list_all is_plain_token us) h).1,
+  (and_parts (is_plain_token t) (list_all is_plain_token us) h).1,
 )
 
 array_plain : {ts us : Tokens} {a : ArrayType} → IsArray ts a us → ArePlain ts → Gives (is_plain_array a) us
@@ -167,8 +166,8 @@ array_plain (t.array at lower upper element i b n r m e o p eq) h =
     let l = number_plain n (token_rest b.1 (token_rest i h)) in
     let k = number_plain m (token_rest r.1 l.1) in
     let s = simple_plain p (token_rest o.1 (token_rest e.1 k.1)) in (
-      ap is_plain_array eq ∙ both_are (is_plain_number lower && is_plain_number upper) (is_plain_simple element)
-          (both_are (is_plain_number lower) (is_plain_number upper) l.0 k.0) s.0,
+      ap is_plain_array eq ∙ and_from (is_plain_number lower && is_plain_number upper) (is_plain_simple element)
+          (and_from (is_plain_number lower) (is_plain_number upper) l.0 k.0) s.0,
       s.1,
     )
 
@@ -183,7 +182,7 @@ field_plain : Passing IsField is_plain_field
 field_plain rs f vs (field x y v n c ty g z eq) h =
     let a = name_plain _ x _ n h in
     let b = type_plain ty (token_rest c.1 a.1) in (
-      ap is_plain_field eq ∙ both_are (is_word x) (is_plain_type y) a.0 b.0,
+      ap is_plain_field eq ∙ and_from (is_word x) (is_plain_type y) a.0 b.0,
       token_rest z.1 (optional_rest given_plain g b.1),
     )
 
@@ -201,7 +200,7 @@ type_declaration_plain : Passing IsTypeDeclaration is_plain_type_declaration
 type_declaration_plain rs d vs (declared x y n c i z eq) h =
     let a = name_plain _ x _ n h in
     let b = definition_plain i (token_rest c.1 a.1) in
-    (ap is_plain_type_declaration eq ∙ both_are (is_word x) (is_plain_definition y) a.0 b.0, token_rest z.1 b.1)
+    (ap is_plain_type_declaration eq ∙ and_from (is_word x) (is_plain_definition y) a.0 b.0, token_rest z.1 b.1)
 
 types_plain : {ts us : Tokens} {xs : List TypeDeclaration} → IsTypes ts xs us → ArePlain ts
     → Gives (list_all is_plain_type_declaration xs) us
@@ -214,7 +213,7 @@ pub declaration_plain : Passing IsDeclaration is_plain_declaration
 declaration_plain rs d vs (u.declared xs y v n c ty g z eq) h =
     let a = names_plain n h in
     let b = type_plain ty (token_rest c.1 a.1) in (
-      ap is_plain_declaration eq ∙ both_are (list_all is_word xs) (is_plain_type y) a.0 b.0,
+      ap is_plain_declaration eq ∙ and_from (list_all is_word xs) (is_plain_type y) a.0 b.0,
       token_rest z.1 (optional_rest given_plain g b.1),
     )
 
@@ -222,7 +221,7 @@ external_plain : Passing IsExternal is_plain_declaration
 external_plain rs d vs (u.external xs y n c ty z eq) h =
     let a = names_plain n h in
     let b = type_plain ty (token_rest c.1 a.1) in
-    (ap is_plain_declaration eq ∙ both_are (list_all is_word xs) (is_plain_type y) a.0 b.0, token_rest z.1 b.1)
+    (ap is_plain_declaration eq ∙ and_from (list_all is_word xs) (is_plain_type y) a.0 b.0, token_rest z.1 b.1)
 
 pub function_section_plain : Passing IsFunctionSection anything
 function_section_plain rs s vs (u.input i eq) h = (refl, token_rest i.1 h)
@@ -268,19 +267,19 @@ unit_plain (u.function x r bs body k n c e m i f eq) h =
     let a = name_plain _ x _ n (token_rest k.1 h) in
     let b = many_plain is_plain_block (block_plain IsFunctionSection IsDeclaration function_section_plain
     declaration_plain) m (token_rest e (token_rest c.1 a.1)) in (
-      ap is_plain_unit eq ∙ both_are (is_word x) (list_all is_plain_block bs) a.0 b.0,
+      ap is_plain_unit eq ∙ and_from (is_word x) (list_all is_plain_block bs) a.0 b.0,
       token_rest f.1 (stmts_rest i b.1),
     )
 unit_plain (u.function_block x bs body k n m i f eq) h =
     let a = name_plain _ x _ n (token_rest k.1 h) in
     let b = many_plain is_plain_block variable_block_plain m a.1 in (
-      ap is_plain_unit eq ∙ both_are (is_word x) (list_all is_plain_block bs) a.0 b.0,
+      ap is_plain_unit eq ∙ and_from (is_word x) (list_all is_plain_block bs) a.0 b.0,
       token_rest f.1 (stmts_rest i b.1),
     )
 unit_plain (u.program x bs body k n m i f eq) h =
     let a = name_plain _ x _ n (token_rest k.1 h) in
     let b = many_plain is_plain_block program_block_plain m a.1 in (
-      ap is_plain_unit eq ∙ both_are (is_word x) (list_all is_plain_block bs) a.0 b.0,
+      ap is_plain_unit eq ∙ and_from (is_word x) (list_all is_plain_block bs) a.0 b.0,
       token_rest f.1 (stmts_rest i b.1),
     )
 
@@ -295,7 +294,7 @@ global_plain : Passing IsGlobal is_plain_global
 global_plain rs g vs (c.global names y v n k ty o z eq) h =
     let a = global_names_plain n h in
     let b = type_plain ty (token_rest k.1 a.1) in (
-      ap is_plain_global eq ∙ both_are (are_words names) (is_plain_type y) a.0 b.0,
+      ap is_plain_global eq ∙ and_from (are_words names) (is_plain_type y) a.0 b.0,
       token_rest z.1 (optional_rest given_plain o b.1),
     )
 
@@ -332,7 +331,7 @@ resource_plain rs r vs (c.resource x y tasks instances k n o p m i e eq) h =
     let a = name_plain _ x _ n (token_rest k.1 h) in
     let b = many_plain anything task_plain m (token_rest p (token_rest o.1 a.1)) in
     let d = several_plain is_plain_instance instance_plain i b.1 in
-    (ap is_plain_resource eq ∙ both_are (is_word x) (list_all is_plain_instance instances) a.0 d.0, token_rest e.1 d.1)
+    (ap is_plain_resource eq ∙ and_from (is_word x) (list_all is_plain_instance instances) a.0 d.0, token_rest e.1 d.1)
 
 configuration_plain : {ts us : Tokens} {x : Configuration} → IsConfiguration ts x us → ArePlain ts
     → Gives (is_plain_configuration x) us
@@ -340,7 +339,7 @@ configuration_plain (c.configuration x gs rs k n m i e eq) h =
     let a = token_rest n (token_rest k.1 h) in
     let b = many_plain is_plain_globals global_block_plain m a in
     let d = several_plain is_plain_resource resource_plain i b.1 in (
-      ap is_plain_configuration eq ∙ both_are (list_all is_plain_globals gs) (list_all is_plain_resource rs) b.0 d.0,
+      ap is_plain_configuration eq ∙ and_from (list_all is_plain_globals gs) (list_all is_plain_resource rs) b.0 d.0,
       token_rest e.1 d.1,
     )
 
@@ -350,7 +349,7 @@ element_plain rs x vs (s.unit v i eq) h = let a = unit_plain i h in (ap is_plain
 element_plain rs x vs (s.configuration k i eq) h =
     let a = configuration_plain i h in (ap is_plain_element eq ∙ a.0, a.1)
 
--- what is read of plain tokens is plain, so the tree of each text is
+-- the part that is read of plain tokens is plain, so the tree of each text is
 source_plain : (ts : Tokens) (source : Source) → IsSource ts source → ArePlain ts → is_plain source ≡ true
 source_plain ts source i h = (many_plain is_plain_element element_plain i h).0
 

@@ -32,8 +32,9 @@ use Rattle.config.specs.PlainDeclarations.{is_elementary, is_word, is_plain_type
 use Rattle.config.specs.PlainDeclarations.{is_plain_unit, are_words, is_plain_global, is_plain_globals}
 use Rattle.config.specs.PlainDeclarations.{is_plain_instance, is_plain_resource, is_plain_configuration, is_plain}
 use Rattle.config.specs.WordPaths.{is_word_owner, is_word_step, is_word_path}
-use Rattle.layout.proofs.ListLemmas.{both, both_are}
 use Rattle.config.proofs.PlainShapes.{is_plain_site, sites_plain, unit_found, is_plain_leaf, leaves_plain}
+use Rattle.std.proofs.lemmas.Bool.{and_parts, and_from}
+use Rattle.config.proofs.OwnerLemmas.{plain_configurations}
 
 abbrev is_plain_owned : Owned → Bool
 is_plain_owned v = is_word_owner v.owner && is_upper_name v.name && is_plain_type v.site.declared
@@ -43,38 +44,38 @@ listed_plain : (s : Site) (xs : List Identifier) → list_all is_word xs ≡ tru
     → list_all is_plain_owned (map (global_variable s false) xs) ≡ true
 listed_plain s [] h g = refl
 listed_plain s (x ∷ xs) h g =
-    let b = both (is_word x) (list_all is_word xs) h in
-    both_are (is_plain_owned (global_variable s false x)) (list_all is_plain_owned (map (global_variable s false) xs))
-    (both_are (is_upper_name x.name) (is_plain_type s.declared) b.0 g) (listed_plain s xs b.1 g)
+    let b = and_parts (is_word x) (list_all is_word xs) h in
+    and_from (is_plain_owned (global_variable s false x)) (list_all is_plain_owned (map (global_variable s false) xs))
+    (and_from (is_upper_name x.name) (is_plain_type s.declared) b.0 g) (listed_plain s xs b.1 g)
 
 names_plain : (s : Site) (xs : GlobalNames) → are_words xs ≡ true → is_plain_type s.declared ≡ true
     → list_all is_plain_owned (variables_of_names s xs) ≡ true
 names_plain s (located x a) h g =
-    both_are (is_plain_owned (global_variable s (is_input_address a.direction) x)) true
-    (both_are (is_upper_name x.name) (is_plain_type s.declared) h g) refl
+    and_from (is_plain_owned (global_variable s (is_input_address a.direction) x)) true
+    (and_from (is_upper_name x.name) (is_plain_type s.declared) h g) refl
 names_plain s (listed xs) h g = listed_plain s xs h g
 
 declarations_plain : (keep : Option Retention) (ds : List GlobalDeclaration) → list_all is_plain_global ds ≡ true
     → list_all is_plain_owned (variables_of_declarations keep ds) ≡ true
 declarations_plain keep [] h = refl
 declarations_plain keep (d ∷ ds) h =
-    let b = both (is_plain_global d) (list_all is_plain_global ds) h in
-    let c = both (are_words d.names) (is_plain_type d.declared) b.0 in
+    let b = and_parts (is_plain_global d) (list_all is_plain_global ds) h in
+    let c = and_parts (are_words d.names) (is_plain_type d.declared) b.0 in
     let here = variables_of_names (site_of_global keep d) d.names in
     let rest = variables_of_declarations keep ds in
     list_all-append is_plain_owned here rest
-    ∙ both_are (list_all is_plain_owned here) (list_all is_plain_owned rest)
+    ∙ and_from (list_all is_plain_owned here) (list_all is_plain_owned rest)
     (names_plain (site_of_global keep d) d.names c.0 c.1) (declarations_plain keep ds b.1)
 
 globals_plain : (bs : List GlobalBlock) → list_all is_plain_globals bs ≡ true
     → list_all is_plain_owned (variables_of_globals bs) ≡ true
 globals_plain [] h = refl
 globals_plain (b ∷ bs) h =
-    let c = both (is_plain_globals b) (list_all is_plain_globals bs) h in
+    let c = and_parts (is_plain_globals b) (list_all is_plain_globals bs) h in
     let here = variables_of_declarations (retention_of_globals b.qualifier) b.declarations in
     let rest = variables_of_globals bs in
     list_all-append is_plain_owned here rest
-    ∙ both_are (list_all is_plain_owned here) (list_all is_plain_owned rest)
+    ∙ and_from (list_all is_plain_owned here) (list_all is_plain_owned rest)
     (declarations_plain (retention_of_globals b.qualifier) b.declarations c.0) (globals_plain bs c.1)
 
 -- variables of instances
@@ -82,11 +83,11 @@ owned_plain : (o : Owner) (ds : List NamedSite) → is_word_owner (Some o) ≡ t
     → list_all is_plain_owned (map (owned_variable (Some o)) ds) ≡ true
 owned_plain o [] h g = refl
 owned_plain o (d ∷ ds) h g =
-    let b = both (is_plain_site d) (list_all is_plain_site ds) g in
-    let c = both (is_upper_name d.name) (is_plain_type d.site.declared) b.0 in
-    both_are (is_plain_owned (owned_variable (Some o) d)) (list_all is_plain_owned (map (owned_variable (Some o)) ds))
-    (both_are (is_word_owner (Some o) && is_upper_name d.name) (is_plain_type d.site.declared)
-    (both_are (is_word_owner (Some o)) (is_upper_name d.name) h c.0) c.1) (owned_plain o ds h b.1)
+    let b = and_parts (is_plain_site d) (list_all is_plain_site ds) g in
+    let c = and_parts (is_upper_name d.name) (is_plain_type d.site.declared) b.0 in
+    and_from (is_plain_owned (owned_variable (Some o) d)) (list_all is_plain_owned (map (owned_variable (Some o)) ds))
+    (and_from (is_word_owner (Some o) && is_upper_name d.name) (is_plain_type d.site.declared)
+    (and_from (is_word_owner (Some o)) (is_upper_name d.name) h c.0) c.1) (owned_plain o ds h b.1)
 
 module _ (text : Declared) (units_are : list_all is_plain_unit text.units ≡ true) where
   program_plain : (o : Option OrganisationUnit)
@@ -109,13 +110,13 @@ module _ (text : Declared) (units_are : list_all is_plain_unit text.units ≡ tr
       → list_all is_plain_owned (variables_of_instances text r is) ≡ true
   instances_plain r [] h g = refl
   instances_plain r (i ∷ is) h g =
-      let b = both (is_plain_instance i) (list_all is_plain_instance is) g in
+      let b = and_parts (is_plain_instance i) (list_all is_plain_instance is) g in
       let u = unit_named text.units i.program.name in
       let here = map (owned_variable (Some (owner_in r i))) (program_sites u) in
       let rest = variables_of_instances text r is in
       list_all-append is_plain_owned here rest
-      ∙ both_are (list_all is_plain_owned here) (list_all is_plain_owned rest)
-      (owned_plain (owner_in r i) (program_sites u) (both_are (is_upper_name r) (is_upper_name i.name.name) h b.0)
+      ∙ and_from (list_all is_plain_owned here) (list_all is_plain_owned rest)
+      (owned_plain (owner_in r i) (program_sites u) (and_from (is_upper_name r) (is_upper_name i.name.name) h b.0)
       (program_plain u (λ v e. sorted_plain i.program.name v e)))
       (instances_plain r is h b.1)
 
@@ -123,12 +124,12 @@ module _ (text : Declared) (units_are : list_all is_plain_unit text.units ≡ tr
       → list_all is_plain_owned (variables_of_resources text rs) ≡ true
   resources_plain [] h = refl
   resources_plain (r ∷ rs) h =
-      let b = both (is_plain_resource r) (list_all is_plain_resource rs) h in
-      let c = both (is_word r.name) (list_all is_plain_instance r.instances) b.0 in
+      let b = and_parts (is_plain_resource r) (list_all is_plain_resource rs) h in
+      let c = and_parts (is_word r.name) (list_all is_plain_instance r.instances) b.0 in
       let here = variables_of_instances text r.name.name r.instances in
       let rest = variables_of_resources text rs in
       list_all-append is_plain_owned here rest
-      ∙ both_are (list_all is_plain_owned here) (list_all is_plain_owned rest)
+      ∙ and_from (list_all is_plain_owned here) (list_all is_plain_owned rest)
       (instances_plain r.name.name r.instances c.0 c.1) (resources_plain rs b.1)
 
   configuration_plain : (cs : List Configuration) → list_all is_plain_configuration cs ≡ true
@@ -136,12 +137,12 @@ module _ (text : Declared) (units_are : list_all is_plain_unit text.units ≡ tr
   configuration_plain [] h = refl
   configuration_plain (c ∷ d ∷ cs) h = refl
   configuration_plain (c ∷ []) h =
-      let b = both (is_plain_configuration c) true h in
-      let d = both (list_all is_plain_globals c.globals) (list_all is_plain_resource c.resources) b.0 in
+      let b = and_parts (is_plain_configuration c) true h in
+      let d = and_parts (list_all is_plain_globals c.globals) (list_all is_plain_resource c.resources) b.0 in
       let here = variables_of_globals c.globals in
       let rest = variables_of_resources text c.resources in
       list_all-append is_plain_owned here rest
-      ∙ both_are (list_all is_plain_owned here) (list_all is_plain_owned rest)
+      ∙ and_from (list_all is_plain_owned here) (list_all is_plain_owned rest)
       (globals_plain c.globals d.0) (resources_plain c.resources d.1)
 
 -- the parts of a plain text
@@ -149,37 +150,25 @@ types_are_plain : (source : Source) → is_plain source ≡ true
     → list_all is_plain_type_declaration (types_in source) ≡ true
 types_are_plain [] h = refl
 types_are_plain (sources.types ts ∷ rest) h =
-    let b = both (list_all is_plain_type_declaration ts) (is_plain rest) h in
+    let b = and_parts (list_all is_plain_type_declaration ts) (is_plain rest) h in
     list_all-append is_plain_type_declaration ts (types_in rest)
-    ∙ both_are (list_all is_plain_type_declaration ts) (list_all is_plain_type_declaration (types_in rest)) b.0
+    ∙ and_from (list_all is_plain_type_declaration ts) (list_all is_plain_type_declaration (types_in rest)) b.0
     (types_are_plain rest b.1)
-types_are_plain (sources.unit u ∷ rest) h = types_are_plain rest (both (is_plain_unit u) (is_plain rest) h).1
+types_are_plain (sources.unit u ∷ rest) h = types_are_plain rest (and_parts (is_plain_unit u) (is_plain rest) h).1
 types_are_plain (sources.configuration c ∷ rest) h =
-    types_are_plain rest (both (is_plain_configuration c) (is_plain rest) h).1
+    types_are_plain rest (and_parts (is_plain_configuration c) (is_plain rest) h).1
 
 units_are_plain : (source : Source) → is_plain source ≡ true → list_all is_plain_unit (units_in source) ≡ true
 units_are_plain [] h = refl
 units_are_plain (sources.types ts ∷ rest) h =
-    units_are_plain rest (both (list_all is_plain_type_declaration ts) (is_plain rest) h).1
+    units_are_plain rest (and_parts (list_all is_plain_type_declaration ts) (is_plain rest) h).1
 units_are_plain (sources.unit u ∷ rest) h =
-    let b = both (is_plain_unit u) (is_plain rest) h in
-    both_are (is_plain_unit u) (list_all is_plain_unit (units_in rest)) b.0 (units_are_plain rest b.1)
+    let b = and_parts (is_plain_unit u) (is_plain rest) h in
+    and_from (is_plain_unit u) (list_all is_plain_unit (units_in rest)) b.0 (units_are_plain rest b.1)
 units_are_plain (sources.configuration c ∷ rest) h =
-    units_are_plain rest (both (is_plain_configuration c) (is_plain rest) h).1
+    units_are_plain rest (and_parts (is_plain_configuration c) (is_plain rest) h).1
 
-configurations_are_plain : (source : Source) → is_plain source ≡ true
-    → list_all is_plain_configuration (configurations_in source) ≡ true
-configurations_are_plain [] h = refl
-configurations_are_plain (sources.types ts ∷ rest) h =
-    configurations_are_plain rest (both (list_all is_plain_type_declaration ts) (is_plain rest) h).1
-configurations_are_plain (sources.unit u ∷ rest) h =
-    configurations_are_plain rest (both (is_plain_unit u) (is_plain rest) h).1
-configurations_are_plain (sources.configuration c ∷ rest) h =
-    let b = both (is_plain_configuration c) (is_plain rest) h in
-    both_are (is_plain_configuration c) (list_all is_plain_configuration (configurations_in rest)) b.0
-    (configurations_are_plain rest b.1)
-
--- slots whose paths are of words and whose types are good ones
+-- slots whose paths are of words and whose types are good
 abbrev pub is_plain_slot : (Kind → Bool) → Slot → Bool
 is_plain_slot good l = is_word_path l.path && good l.kind
 
@@ -187,17 +176,17 @@ module _ (good : Kind → Bool) where
   slot_plain : (v : Owned) (l : Leaf) → is_plain_owned v ≡ true → is_plain_leaf good l ≡ true
       → is_plain_slot good (slot_of_leaf v l) ≡ true
   slot_plain v l h g =
-      let b = both (is_word_owner v.owner && is_upper_name v.name) (is_plain_type v.site.declared) h in
-      let c = both (list_all is_word_step l.steps) (good l.kind) g in
-      both_are ((is_word_owner v.owner && is_upper_name v.name) && list_all is_word_step l.steps) (good l.kind)
-      (both_are (is_word_owner v.owner && is_upper_name v.name) (list_all is_word_step l.steps) b.0 c.0) c.1
+      let b = and_parts (is_word_owner v.owner && is_upper_name v.name) (is_plain_type v.site.declared) h in
+      let c = and_parts (list_all is_word_step l.steps) (good l.kind) g in
+      and_from ((is_word_owner v.owner && is_upper_name v.name) && list_all is_word_step l.steps) (good l.kind)
+      (and_from (is_word_owner v.owner && is_upper_name v.name) (list_all is_word_step l.steps) b.0 c.0) c.1
 
   leaf_slots_plain : (v : Owned) (ls : List Leaf) → is_plain_owned v ≡ true
       → list_all (is_plain_leaf good) ls ≡ true → list_all (is_plain_slot good) (map (slot_of_leaf v) ls) ≡ true
   leaf_slots_plain v [] h g = refl
   leaf_slots_plain v (l ∷ ls) h g =
-      let b = both (is_plain_leaf good l) (list_all (is_plain_leaf good) ls) g in
-      both_are (is_plain_slot good (slot_of_leaf v l)) (list_all (is_plain_slot good) (map (slot_of_leaf v) ls))
+      let b = and_parts (is_plain_leaf good l) (list_all (is_plain_leaf good) ls) g in
+      and_from (is_plain_slot good (slot_of_leaf v l)) (list_all (is_plain_slot good) (map (slot_of_leaf v) ls))
       (slot_plain v l h b.0) (leaf_slots_plain v ls h b.1)
 
   slots_plain : (text : Declared)
@@ -207,15 +196,15 @@ module _ (good : Kind → Bool) where
       → list_all (is_plain_slot good) (slots_of text vs) ≡ true
   slots_plain text leaves [] h = refl
   slots_plain text leaves (v ∷ vs) h =
-      let b = both (is_plain_owned v) (list_all is_plain_owned vs) h in
-      let c = both (is_word_owner v.owner && is_upper_name v.name) (is_plain_type v.site.declared) b.0 in
+      let b = and_parts (is_plain_owned v) (list_all is_plain_owned vs) h in
+      let c = and_parts (is_word_owner v.owner && is_upper_name v.name) (is_plain_type v.site.declared) b.0 in
       list_all-append (is_plain_slot good) (slots_of_variable text v) (slots_of text vs)
-      ∙ both_are (list_all (is_plain_slot good) (slots_of_variable text v))
+      ∙ and_from (list_all (is_plain_slot good) (slots_of_variable text v))
       (list_all (is_plain_slot good) (slots_of text vs))
       (leaf_slots_plain v (leaves_of_variable text v) b.0 (leaves v c.1))
       (slots_plain text leaves vs b.1)
 
--- so the layout of a plain text has, where each of its types is a good one
+-- so the layout of a plain text has such slots, if each of its types is good
 pub layout_plain : (good : Kind → Bool) (source : Source) → is_plain source ≡ true
     → ((k : Kind) → is_elementary k ≡ true → good k ≡ true)
     → ((x : Name) (e : Enumeration) → enumeration_named (enumerations_of (types_in source)) x ≡ Some e
@@ -228,4 +217,4 @@ layout_plain good source h elementary_good enumerated_good =
     (λ v g. leaves_plain good text (types_are_plain source h) (units_are_plain source h) elementary_good
     enumerated_good MAX_TYPE_DEPTH v.site.declared g)
     (variables_of_configuration text (only_configuration (configurations_in source)))
-    (configuration_plain text (units_are_plain source h) (configurations_in source) (configurations_are_plain source h))
+    (configuration_plain text (units_are_plain source h) (configurations_in source) (plain_configurations source h))

@@ -1,4 +1,4 @@
--- What stands behind an expression, an initial value or statements is as plain as all tokens are.
+-- The tokens after an expression, an initial value or statements are as plain as all tokens are.
 use Rattle.std.proofs.Common.{◌≡◌, ℕ, true, List, Option}
 use Rattle.std.specs.List.{list_all}
 use Rattle.st_types.specs.declared.literal.Literal.{Literal}
@@ -23,15 +23,15 @@ use Rattle.st_parse.specs.Statements.{no_step, step, IsStmt, empty, assign, invo
 use Rattle.st_parse.specs.Statements.{repeat_while, repeat_until, exit, leave, IsStmts, no_stmt, stmt, IsElse}
 use Rattle.st_parse.specs.Statements.{no_else, otherwise, IsArm, arm, IsMoreArms, no_more_arms, elsif, IsCaseArm}
 use Rattle.st_parse.specs.Statements.{case_arm, IsCaseArms, no_case_arm, next_case_arm}
-use Rattle.layout.proofs.ListLemmas.{both}
 use Rattle.config.proofs.PlainTokens.{is_plain_token}
+use Rattle.std.proofs.lemmas.Bool.{and_parts}
 
 abbrev pub ArePlain : Tokens → Type 0
 ArePlain ts = list_all is_plain_token ts ≡ true
 
 pub token_rest : {A : Type 0} {of : Token → Option A} {ts us : Tokens} {x : A} → Is of ts x us → ArePlain ts
     → ArePlain us
-token_rest (is {t = t} {us = us} q) h = (both (is_plain_token t) (list_all is_plain_token us) h).1
+token_rest (is {t = t} {us = us} q) h = (and_parts (is_plain_token t) (list_all is_plain_token us) h).1
 
 mutual
   pub expr_rest : {k : ℕ} {ts us : Tokens} {x : Expr} → IsExpr k ts x us → ArePlain ts → ArePlain us

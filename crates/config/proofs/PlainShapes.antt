@@ -5,7 +5,7 @@ use Rattle.std.proofs.Common.{Some, None, option_map, arith}
 use Rattle.std.specs.Prelude.{◌≤ℤ◌, neg_ℤ, is_none}
 use Rattle.std.specs.List.{list_all}
 use Rattle.std.proofs.lemmas.Int.{ints}
-use Rattle.std.proofs.lemmas.Bool.{ltb-true, lt-ltb}
+use Rattle.std.proofs.lemmas.Bool.{ltb-true, lt-ltb, and_parts, and_from}
 use Rattle.std.proofs.lemmas.List.Folds.{list_all-append, list_all-map}
 use Rattle.st_types.specs.declared.identifier.Identifier.{Identifier}
 use Rattle.st_types.specs.declared.kind.Kind.{Kind}
@@ -30,11 +30,12 @@ use Rattle.st_meaning.specs.Operators.{natural, number_of}
 use Rattle.st_meaning.specs.Scopes.{Name}
 use Rattle.st_meaning.specs.StandardBlocks as standard
 use Rattle.st_meaning.specs.StandardBlocks.{StandardBlock, block_of, members_of}
+use Rattle.st_rules.specs.TypeRules.{elements_of_array}
 use Rattle.layout.specs.Shapes.{Shape, Leaf, below, leaves_of_elements, leaves_of, leaves_of_parts}
 use Rattle.layout.specs.Types.{Site, NamedSite, with_site, site_of_declaration, sites_of_declarations}
 use Rattle.layout.specs.Types.{retention_of, sites_of_blocks, site_of_field, site_of_member, block_type_of}
 use Rattle.layout.specs.Types.{own_block_type, block_type_named, instance_of, Composition, of_kind, of_elements}
-use Rattle.layout.specs.Types.{of_parts, instance_parts, defined_composition, composition_of, lower_of, count_of}
+use Rattle.layout.specs.Types.{of_parts, instance_parts, defined_composition, composition_of, lower_of}
 use Rattle.layout.specs.Types.{element_of, parts_of, composed_shape, shape_within}
 use Rattle.config.specs.PlainDeclarations.{is_short, is_type_word, is_plain_number, is_elementary, is_word}
 use Rattle.config.specs.PlainDeclarations.{is_plain_simple, is_plain_array}
@@ -42,7 +43,6 @@ use Rattle.config.specs.PlainDeclarations.{is_plain_type, is_plain_field, is_pla
 use Rattle.config.specs.PlainDeclarations.{is_plain_type_declaration, is_plain_declaration, is_plain_block}
 use Rattle.config.specs.PlainDeclarations.{is_plain_unit}
 use Rattle.config.specs.WordPaths.{is_word_step}
-use Rattle.layout.proofs.ListLemmas.{both, both_are}
 
 -- declared things
 abbrev pub is_plain_site : NamedSite → Bool
@@ -52,26 +52,26 @@ sites_named : (s : Site) (xs : List Identifier) → list_all is_word xs ≡ true
     → list_all is_plain_site (map (with_site s) xs) ≡ true
 sites_named s [] h g = refl
 sites_named s (x ∷ xs) h g =
-    let b = both (is_word x) (list_all is_word xs) h in
-    both_are (is_plain_site (with_site s x)) (list_all is_plain_site (map (with_site s) xs))
-    (both_are (is_upper_name x.name) (is_plain_type s.declared) b.0 g) (sites_named s xs b.1 g)
+    let b = and_parts (is_word x) (list_all is_word xs) h in
+    and_from (is_plain_site (with_site s x)) (list_all is_plain_site (map (with_site s) xs))
+    (and_from (is_upper_name x.name) (is_plain_type s.declared) b.0 g) (sites_named s xs b.1 g)
 
 sites_declared : (keep : Option Retention) (ds : List Declaration) → list_all is_plain_declaration ds ≡ true
     → list_all is_plain_site (sites_of_declarations keep ds) ≡ true
 sites_declared keep [] h = refl
 sites_declared keep (d ∷ ds) h =
-    let b = both (is_plain_declaration d) (list_all is_plain_declaration ds) h in
-    let c = both (list_all is_word d.names) (is_plain_type d.declared) b.0 in
+    let b = and_parts (is_plain_declaration d) (list_all is_plain_declaration ds) h in
+    let c = and_parts (list_all is_word d.names) (is_plain_type d.declared) b.0 in
     let here = map (with_site (site_of_declaration keep d)) d.names in
     list_all-append is_plain_site here (sites_of_declarations keep ds)
-    ∙ both_are (list_all is_plain_site here) (list_all is_plain_site (sites_of_declarations keep ds))
+    ∙ and_from (list_all is_plain_site here) (list_all is_plain_site (sites_of_declarations keep ds))
     (sites_named (site_of_declaration keep d) d.names c.0 c.1) (sites_declared keep ds b.1)
 
 pub sites_plain : (bs : List VariableBlock) → list_all is_plain_block bs ≡ true
     → list_all is_plain_site (sites_of_blocks bs) ≡ true
 sites_plain [] h = refl
 sites_plain (b ∷ bs) h =
-    let c = both (is_plain_block b) (list_all is_plain_block bs) h in
+    let c = and_parts (is_plain_block b) (list_all is_plain_block bs) h in
     by_section (is_external b.section) c.0 (sites_plain bs c.1)
   where
     by_section : (external : Bool) → is_plain_block b ≡ true → list_all is_plain_site (sites_of_blocks bs) ≡ true
@@ -81,7 +81,7 @@ sites_plain (b ∷ bs) h =
     by_section false here rest =
         let own = sites_of_declarations (retention_of b.section) b.declarations in
         list_all-append is_plain_site own (sites_of_blocks bs)
-        ∙ both_are (list_all is_plain_site own) (list_all is_plain_site (sites_of_blocks bs))
+        ∙ and_from (list_all is_plain_site own) (list_all is_plain_site (sites_of_blocks bs))
         (sites_declared (retention_of b.section) b.declarations here) rest
 
 fields_plain : (fields : List Field) → list_all is_plain_field fields ≡ true
@@ -100,19 +100,19 @@ members_plain standard.TON = refl
 members_plain standard.TOF = refl
 members_plain standard.TP = refl
 
--- a composition of plain parts, whose type is a good one
+-- a composition of plain parts, whose type is good
 abbrev IsPlainComposition : (Kind → Bool) → Composition → Type 0
 IsPlainComposition good (of_kind k) = good k ≡ true
 IsPlainComposition good (of_elements a) = is_plain_array a ≡ true
 IsPlainComposition good (of_parts w ds) = list_all is_plain_site ds ≡ true
 
--- what is found by a name
+-- the part that is found by a name
 type_found : (ts : List TypeDeclaration) (x : Name) (t : TypeDefinition) → list_all is_plain_type_declaration ts ≡ true
     → type_named ts x ≡ Some t → is_plain_definition t ≡ true
 type_found [] x t h e = absurd (cc)
 type_found (d ∷ ds) x t h e =
-    let b = both (is_plain_type_declaration d) (list_all is_plain_type_declaration ds) h in
-    by_test (is_named x d.name) e (both (is_word d.name) (is_plain_definition d.definition) b.0).1
+    let b = and_parts (is_plain_type_declaration d) (list_all is_plain_type_declaration ds) h in
+    by_test (is_named x d.name) e (and_parts (is_word d.name) (is_plain_definition d.definition) b.0).1
     (type_found ds x t b.1)
   where
     by_test : (b : Bool) → (if b then Some d.definition else type_named ds x) ≡ Some t
@@ -125,8 +125,8 @@ pub unit_found : (us : List OrganisationUnit) (x : Name) (u : OrganisationUnit) 
     → unit_named us x ≡ Some u → list_all is_plain_block u.blocks ≡ true
 unit_found [] x u h e = absurd (cc)
 unit_found (v ∷ vs) x u h e =
-    let b = both (is_plain_unit v) (list_all is_plain_unit vs) h in
-    by_test (is_named x v.name) e (both (is_word v.name) (list_all is_plain_block v.blocks) b.0).1
+    let b = and_parts (is_plain_unit v) (list_all is_plain_unit vs) h in
+    by_test (is_named x v.name) e (and_parts (is_word v.name) (list_all is_plain_block v.blocks) b.0).1
     (unit_found vs x u b.1)
   where
     by_test : (b : Bool) → (if b then Some v else unit_named vs x) ≡ Some u
@@ -149,7 +149,7 @@ record IsBound (z : ℤ) : Type 0 where
 
 bound_is : (n : Number) → is_plain_number n ≡ true → IsBound (number_of n)
 bound_is n h =
-    by_sign n.is_negative (ltb-true n.magnitude (2 ^ 64) (both (is_short n.magnitude) (is_type_word n.written) h).0)
+    by_sign n.is_negative (ltb-true n.magnitude (2 ^ 64) (and_parts (is_short n.magnitude) (is_type_word n.written) h).0)
   where
     by_sign : (b : Bool) → n.magnitude < 2 ^ 64 → IsBound (if b then neg_ℤ (pos n.magnitude) else pos n.magnitude)
     by_sign true small = record { low = omega (arith, ints); high = omega (arith, ints) }
@@ -161,7 +161,7 @@ ends_low y z (pos n) a b e = let c = a.high in let d = b.high in omega (arith, i
 ends_low y z (negsuc n) a b e = let c = a.high in let d = b.high in omega (arith, ints)
 
 module _ (good : Kind → Bool) where
-  -- an elementary part whose names are words and whose type is a good one
+  -- an elementary part whose names are words and whose type is good
   abbrev pub is_plain_leaf : Leaf → Bool
   is_plain_leaf l = list_all is_word_step l.steps && good l.kind
 
@@ -169,11 +169,11 @@ module _ (good : Kind → Bool) where
       → list_all is_plain_leaf (map (below x) ls) ≡ true
   below_plain x [] h g = refl
   below_plain x (l ∷ ls) h g =
-      let b = both (is_plain_leaf l) (list_all is_plain_leaf ls) g in
-      let c = both (list_all is_word_step l.steps) (good l.kind) b.0 in
-      both_are (is_plain_leaf (below x l)) (list_all is_plain_leaf (map (below x) ls))
-      (both_are (is_word_step x && list_all is_word_step l.steps) (good l.kind)
-      (both_are (is_word_step x) (list_all is_word_step l.steps) h c.0) c.1)
+      let b = and_parts (is_plain_leaf l) (list_all is_plain_leaf ls) g in
+      let c = and_parts (list_all is_word_step l.steps) (good l.kind) b.0 in
+      and_from (is_plain_leaf (below x l)) (list_all is_plain_leaf (map (below x) ls))
+      (and_from (is_word_step x && list_all is_word_step l.steps) (good l.kind)
+      (and_from (is_word_step x) (list_all is_word_step l.steps) h c.0) c.1)
       (below_plain x ls h b.1)
 
   elements_plain : (z : ℤ) (n : ℕ) (inner : List Leaf) → neg_ℤ (pos (2 ^ 64 - 1)) ≤ℤ z
@@ -184,17 +184,17 @@ module _ (good : Kind → Bool) where
       let here = map (below (Element z)) inner in
       let rest = leaves_of_elements (z +ℤ pos 1) n inner in
       list_all-append is_plain_leaf here rest
-      ∙ both_are (list_all is_plain_leaf here) (list_all is_plain_leaf rest)
+      ∙ and_from (list_all is_plain_leaf here) (list_all is_plain_leaf rest)
       (below_plain (Element z) inner (short_between z low (omega (arith, ints))) h)
       (elements_plain (z +ℤ pos 1) n inner (omega (arith, ints)) (omega (arith, ints)) h)
 
   array_plain : (a : ArrayType) (inner : List Leaf) → is_plain_array a ≡ true → list_all is_plain_leaf inner ≡ true
-      → list_all is_plain_leaf (leaves_of_elements (lower_of a) (count_of a) inner) ≡ true
+      → list_all is_plain_leaf (leaves_of_elements (lower_of a) (elements_of_array a) inner) ≡ true
   array_plain a inner h g =
-      let b = both (is_plain_number a.lower && is_plain_number a.upper) (is_plain_simple a.element) h in
-      let c = both (is_plain_number a.lower) (is_plain_number a.upper) b.0 in
+      let b = and_parts (is_plain_number a.lower && is_plain_number a.upper) (is_plain_simple a.element) h in
+      let c = and_parts (is_plain_number a.lower) (is_plain_number a.upper) b.0 in
       let lower = bound_is a.lower c.0 in
-      elements_plain (lower_of a) (count_of a) inner lower.low
+      elements_plain (lower_of a) (elements_of_array a) inner lower.low
       (ends_low (lower_of a) (number_of a.upper) ((number_of a.upper -ℤ lower_of a) +ℤ pos 1) lower
       (bound_is a.upper c.1) refl) g
 
@@ -204,20 +204,20 @@ module _ (good : Kind → Bool) where
         → list_all is_plain_leaf (leaves_of_parts (parts_of inner ds)) ≡ true
     parts_plain [] h = refl
     parts_plain (d ∷ ds) h =
-        let b = both (is_plain_site d) (list_all is_plain_site ds) h in
-        let c = both (is_upper_name d.name) (is_plain_type d.site.declared) b.0 in
+        let b = and_parts (is_plain_site d) (list_all is_plain_site ds) h in
+        let c = and_parts (is_upper_name d.name) (is_plain_type d.site.declared) b.0 in
         let here = map (below (Member d.name)) (leaves_of (inner d.site.declared)) in
         let rest = leaves_of_parts (parts_of inner ds) in
         list_all-append is_plain_leaf here rest
-        ∙ both_are (list_all is_plain_leaf here) (list_all is_plain_leaf rest)
+        ∙ and_from (list_all is_plain_leaf here) (list_all is_plain_leaf rest)
         (below_plain (Member d.name) (leaves_of (inner d.site.declared)) c.0 (ih d.site.declared c.1))
         (parts_plain ds b.1)
 
     composition_shaped : (c : Composition) → IsPlainComposition good c
         → list_all is_plain_leaf (leaves_of (composed_shape inner c)) ≡ true
-    composition_shaped (of_kind k) h = both_are (good k) true h refl
+    composition_shaped (of_kind k) h = and_from (good k) true h refl
     composition_shaped (of_elements a) h = array_plain a (leaves_of (inner (element_of a))) h
-        (ih (element_of a) (both (is_plain_number a.lower && is_plain_number a.upper)
+        (ih (element_of a) (and_parts (is_plain_number a.lower && is_plain_number a.upper)
         (is_plain_simple a.element) h).1)
     composition_shaped (of_parts w ds) h = parts_plain ds h
 

@@ -1,5 +1,5 @@
--- What the lexer gives: names are words, numbers have at most 64 bits, durations at most 63, and no token is an
--- enumerated type or has one before a `#`.
+-- The lexer's results: names are words, numbers have at most 64 bits, durations at most 63, and no token is an enumerated
+-- type or has one before a `#`.
 use Rattle.std.proofs.Common.{◌≡◌, refl, sym, ap, ap₂, ◌∙◌, subst, ℕ, suc, zero, ◌+◌, ◌^◌, ◌<◌, Bool, true, false, not}
 use Rattle.std.proofs.Common.{◌&&◌, ◌||◌, ◌==◌, cond, List, [], ◌∷◌, length, take, drop, Option, Some, None, arith}
 use Rattle.std.proofs.Common.{inl, inr}
@@ -8,7 +8,7 @@ use Rattle.std.specs.Option.{option_map, option_or, unwrap_or}
 use Rattle.std.specs.List.{list_all, list_any, prefix_len}
 use Rattle.std.specs.Char.{to_ascii_uppercase, is_ascii_digit}
 use Rattle.std.specs.Str.{str_eq_ignore_ascii_case}
-use Rattle.std.proofs.lemmas.Bool.{ltb-true, cases_eq, ne_eqb}
+use Rattle.std.proofs.lemmas.Bool.{ltb-true, cases_eq, ne_eqb, or_parts, and_parts, and_from}
 use Rattle.std.proofs.lemmas.Bool.Decides.{nat_tests}
 use Rattle.st_types.specs.declared.limits.TheConstants.{MAX_NAME_LENGTH}
 use Rattle.st_types.specs.declared.kind.Kind.{Kind}
@@ -30,8 +30,8 @@ use Rattle.st_lex.specs.Characters.{is_allowed, is_space, is_word_character}
 use Rattle.st_lex.specs.Characters.{begins}
 use Rattle.st_lex.specs.Comments.{to_close, to_open, comment_front}
 use Rattle.st_lex.specs.Numbers.{numeral, is_numeral, value_from, below, bases, in_base, based, before_hash}
-use Rattle.st_lex.specs.Numbers.{behind_hash, magnitude, is_whole, with_type, typed, untyped, whole_number}
-use Rattle.st_lex.specs.ReservedWords.{types, keyword_of, elementary, truth, reserved}
+use Rattle.st_lex.specs.Numbers.{after_hash, magnitude, is_whole, with_type, typed, untyped, whole_number}
+use Rattle.st_lex.specs.ReservedWords.{types, keyword_of, elementary, bool_word, reserved}
 use Rattle.st_lex.specs.Literals as literals
 use Rattle.st_lex.specs.Literals.{literal}
 use Rattle.st_lex.specs.Durations.{duration, is_duration, milliseconds, fits, parts}
@@ -43,9 +43,8 @@ use Rattle.st_lex.specs.Marks.{longest_mark, read_mark, mark_front}
 use Rattle.st_lex.specs.Fronts.{front_of}
 use Rattle.st_lex.specs.Texts.{Spells, ends, blank, token}
 use Rattle.config.specs.PlainDeclarations.{is_elementary, is_short, is_type_word}
-use Rattle.layout.proofs.ListLemmas.{both, both_are, neither}
 
--- what is asked of a token
+-- the requirements on a token
 abbrev pub is_plain_kind : TokenKind → Bool
 is_plain_kind (tokens.Name x) = is_upper_name x
 is_plain_kind (tokens.Elementary k) = is_elementary k
@@ -103,7 +102,7 @@ in_base_short (Some base) word = numeral_short base word
 
 based_short : (word : List ℕ) → IfSome (based word) Short
 unfolding based
-based_short word = in_base_short (lookup bases (before_hash word)) (behind_hash word)
+based_short word = in_base_short (lookup bases (before_hash word)) (after_hash word)
 
 magnitude_short : (word : List ℕ) → IfSome (magnitude word) Short
 unfolding magnitude
@@ -117,7 +116,7 @@ lookup_each : {A : Type 0} (p : A → Bool) (rows : List (List ℕ × A)) (word 
     → list_all (λ row. p row.1) rows ≡ true → IfSome (lookup rows word) (λ x. p x ≡ true)
 lookup_each p [] word h = tt
 lookup_each p (row ∷ rows) word h =
-    let b = both (p row.1) (list_all (λ r. p r.1) rows) h in
+    let b = and_parts (p row.1) (list_all (λ r. p r.1) rows) h in
     by_test (str_eq_ignore_ascii_case row.0 word) b.0 (lookup_each p rows word b.1)
   where
     by_test : (b : Bool) → p row.1 ≡ true → IfSome (lookup rows word) (λ x. p x ≡ true)
@@ -140,19 +139,19 @@ with_type_plain (Some kind) (Some n) g h = by_test (is_whole (row_of kind).sort)
     by_test : (b : Bool)
         → IfSome (if b then Some (record { written = Some kind; magnitude = n; is_decimal = false }) else None)
         PlainNumber
-    by_test true = both_are (is_short n) (is_elementary kind) h g
+    by_test true = and_from (is_short n) (is_elementary kind) h g
     by_test false = tt
 
 typed_plain : (word : List ℕ) → IfSome (typed word) PlainNumber
 unfolding typed
 typed_plain word =
-    with_type_plain (elementary (before_hash word)) (magnitude (behind_hash word)) (elementary_plain (before_hash word))
-    (magnitude_short (behind_hash word))
+    with_type_plain (elementary (before_hash word)) (magnitude (after_hash word)) (elementary_plain (before_hash word))
+    (magnitude_short (after_hash word))
 
 untyped_plain : (is_decimal : Bool) (o : Option ℕ) → IfSome o Short
     → IfSome (option_map (untyped is_decimal) o) PlainNumber
 untyped_plain is_decimal None h = tt
-untyped_plain is_decimal (Some n) h = both_are (is_short n) true h refl
+untyped_plain is_decimal (Some n) h = and_from (is_short n) true h refl
 
 number_plain : (word : List ℕ) → IfSome (whole_number word) PlainNumber
 unfolding whole_number
@@ -173,8 +172,8 @@ unfolding duration milliseconds
 duration_short word = by_test (is_duration word)
   where
     by_test : (b : Bool)
-        → IfSome (if b then milliseconds (behind_hash word) else None) (λ d. nat_lt d (2 ^ 63) ≡ true)
-    by_test true = fits_short (parts units true (behind_hash word))
+        → IfSome (if b then milliseconds (after_hash word) else None) (λ d. nat_lt d (2 ^ 63) ≡ true)
+    by_test true = fits_short (parts units true (after_hash word))
     by_test false = tt
 
 -- literals
@@ -182,12 +181,12 @@ literal_plain : (word : List ℕ) → IfSome (literal word) PlainKind
 unfolding literal
 literal_plain word =
     either PlainKind (option_map tokens.Number (whole_number word))
-    (option_or (option_map tokens.Truth (literals.truth word))
+    (option_or (option_map tokens.Truth (literals.bool_literal word))
     (option_or (option_map tokens.Duration (duration word)) (option_map tokens.Address (address word))))
     (mapped PlainKind tokens.Number (whole_number word) (number_plain word))
-    (either PlainKind (option_map tokens.Truth (literals.truth word))
+    (either PlainKind (option_map tokens.Truth (literals.bool_literal word))
     (option_or (option_map tokens.Duration (duration word)) (option_map tokens.Address (address word)))
-    (each tokens.Truth (literals.truth word) (λ x. refl))
+    (each tokens.Truth (literals.bool_literal word) (λ x. refl))
     (either PlainKind (option_map tokens.Duration (duration word)) (option_map tokens.Address (address word))
     (mapped PlainKind tokens.Duration (duration word) (duration_short word))
     (each tokens.Address (address word) (λ x. refl))))
@@ -195,10 +194,10 @@ literal_plain word =
 enumerated_plain : (word : List ℕ) → IfSome (enumerated word) PlainKind
 unfolding enumerated
 enumerated_plain word =
-    by_test (is_name (before_hash word) && is_name (behind_hash word) && not (begins_duration word))
+    by_test (is_name (before_hash word) && is_name (after_hash word) && not (begins_duration word))
   where
     by_test : (b : Bool) → IfSome (if b
-        then Some (tokens.Enumerated (upper (before_hash word)) (upper (behind_hash word))) else None) PlainKind
+        then Some (tokens.Enumerated (upper (before_hash word)) (upper (after_hash word))) else None) PlainKind
     by_test true = refl
     by_test false = tt
 
@@ -210,11 +209,11 @@ read_plain fault n (Some k) h = h
 reserved_plain : (word : List ℕ) → IfSome (reserved word) PlainKind
 reserved_plain word =
     either PlainKind (option_map tokens.Keyword (keyword_of word))
-    (option_or (option_map tokens.Elementary (elementary word)) (option_map tokens.Truth (truth word)))
+    (option_or (option_map tokens.Elementary (elementary word)) (option_map tokens.Truth (bool_word word)))
     (each tokens.Keyword (keyword_of word) (λ x. refl))
-    (either PlainKind (option_map tokens.Elementary (elementary word)) (option_map tokens.Truth (truth word))
+    (either PlainKind (option_map tokens.Elementary (elementary word)) (option_map tokens.Truth (bool_word word))
     (mapped PlainKind tokens.Elementary (elementary word) (elementary_plain word))
-    (each tokens.Truth (truth word) (λ x. refl)))
+    (each tokens.Truth (bool_word word) (λ x. refl)))
 
 -- the bytes of a word that need not be a literal
 abbrev is_marked : ℕ → Bool
@@ -249,26 +248,26 @@ upper_bytes : (word : List ℕ) → list_all is_word_character word ≡ true →
     → list_all is_letter_or_digit (upper word) ≡ true
 upper_bytes [] h g = refl
 upper_bytes (b ∷ bs) h g =
-    let p = both (is_word_character b) (list_all is_word_character bs) h in
-    let q = neither (is_marked b) (list_any is_marked bs) g in
-    both_are (is_letter_or_digit (to_ascii_uppercase b)) (list_all is_letter_or_digit (upper bs))
+    let p = and_parts (is_word_character b) (list_all is_word_character bs) h in
+    let q = or_parts (is_marked b) (list_any is_marked bs) g in
+    and_from (is_letter_or_digit (to_ascii_uppercase b)) (list_all is_letter_or_digit (upper bs))
     (upper_byte b p.0 q.0) (upper_bytes bs p.1 q.1)
 
 upper_is : (word : List ℕ) → 0 < length word → list_all is_word_character word ≡ true → must_be_literal word ≡ false
     → is_identifier word ≡ true → is_upper_name (upper word) ≡ true
 upper_is [] some h g i = absurd (omega arith)
 upper_is (b ∷ bs) some h g i =
-    let p = both (is_word_character b) (list_all is_word_character bs) h in
-    let q = neither (is_ascii_digit b) (list_any is_marked (b ∷ bs)) g in
-    let r = neither (is_marked b) (list_any is_marked bs) q.1 in
-    let s = both (nat_le (length (b ∷ bs)) MAX_NAME_LENGTH) (is_spaced (b ∷ bs)) i in
+    let p = and_parts (is_word_character b) (list_all is_word_character bs) h in
+    let q = or_parts (is_ascii_digit b) (list_any is_marked (b ∷ bs)) g in
+    let r = or_parts (is_marked b) (list_any is_marked bs) q.1 in
+    let s = and_parts (nat_le (length (b ∷ bs)) MAX_NAME_LENGTH) (is_spaced (b ∷ bs)) i in
     let first = is_letter (to_ascii_uppercase b) in
     let others = list_all is_letter_or_digit (upper bs) in
     let spaced = is_spaced (upper (b ∷ bs)) in
     let short = nat_le (length (upper (b ∷ bs))) MAX_NAME_LENGTH in
-    both_are ((first && others) && spaced) short
-    (both_are (first && others) spaced
-    (both_are first others (upper_letter b p.0 r.0 q.0) (upper_bytes bs p.1 r.1))
+    and_from ((first && others) && spaced) short
+    (and_from (first && others) spaced
+    (and_from first others (upper_letter b p.0 r.0 q.0) (upper_bytes bs p.1 r.1))
     (spaced_so (b ∷ bs) ∙ s.1))
     (ap (λ n. nat_le n MAX_NAME_LENGTH) (length_so (b ∷ bs)) ∙ s.0)
 
@@ -308,7 +307,7 @@ front_bytes p (x ∷ xs) = by_test (p x) refl (front_bytes p xs)
     by_test true h rest =
         let n : 1 + prefix_len p xs ≡ suc (prefix_len p xs) = omega arith in
         ap (λ m. list_all p (take m (x ∷ xs))) n
-        ∙ both_are (p x) (list_all p (take (prefix_len p xs) xs)) h rest
+        ∙ and_from (p x) (list_all p (take (prefix_len p xs) xs)) h rest
     by_test false h rest = refl
 
 -- a word that is marked by `%` is a literal
@@ -389,5 +388,5 @@ pub tokens_plain : {at : ℕ} {text : List ℕ} {ts : List Token} → Spells at 
 tokens_plain (ends e) = refl
 tokens_plain {text = text} (blank n e rest) = tokens_plain rest
 tokens_plain {text = text} (token {tokens = ts} kind n e rest) =
-    both_are (is_plain_kind kind) (list_all is_plain_token ts) (subst IsPlainFront e (front_plain text))
+    and_from (is_plain_kind kind) (list_all is_plain_token ts) (subst IsPlainFront e (front_plain text))
     (tokens_plain rest)

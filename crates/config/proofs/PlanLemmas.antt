@@ -35,10 +35,10 @@ use Rattle.slot_code.specs.Reads.{ReadsAsAsked}
 use Rattle.plan.specs.declared.slots.SlotPlace.{SlotPlace}
 use Rattle.plan.specs.declared.task.ProgramInstance.{ProgramInstance}
 use Rattle.plan.specs.declared.task.Task.{Task}
-use Rattle.plan.specs.Owners.{AreToldApart}
+use Rattle.plan.specs.Owners.{AreDistinguished}
 use Rattle.plan.specs.PlanViews.{task_view, program_view}
 use Rattle.plan.specs.SlotPlaces.{slots_among}
-use Rattle.plan.specs.Sound.{has_line, are_different, is_of_resource, IsCodeOf}
+use Rattle.plan.specs.Sound.{has_line, is_of_resource, IsCodeOf}
 use Rattle.plan.specs.Sound.{PlanInvariant}
 use Rattle.plan.specs.Sources.{no_program, program_numbered, programs_of_tree}
 use Rattle.config.specs.declared.places.Place.{Place}
@@ -54,17 +54,22 @@ use Rattle.config.proofs.ApartNames.{names_apart}
 use Rattle.config.proofs.ConfiguredLemmas.{configured, few, instances, known, only, owners_of_text, resources, tasked, tasks_known}
 use Rattle.config.proofs.EnumerationLemmas.{names_are}
 use Rattle.config.proofs.LayoutLemmas.{in_one_part, parts_are_layout}
-use Rattle.config.proofs.ListLemmas.{some_is, both, all_get, get_map, mapped, length_map}
+use Rattle.config.proofs.ListLemmas.{all_get, mapped}
 use Rattle.config.proofs.NumberedLemmas.{numbered, slots_are}
 use Rattle.config.proofs.OwnerLemmas.{told_apart}
 use Rattle.config.proofs.PlaceLemmas.{owners_in, owners_of_places, places_counted, places_run, runs_in}
 use Rattle.config.proofs.SingleLemmas.{boolean_global}
 use Rattle.config.proofs.TaskLemmas.{resources_there, tasks_are_few}
 use Rattle.config.proofs.TriggerLemmas.{AllSingles, AreBoolean, AreSingles, singles_sound, tasks_viewed}
+use Rattle.st_types.proofs.OptionLemmas.{some_is}
+use Rattle.std.proofs.lemmas.Bool.{and_parts}
+use Rattle.st_types.proofs.ListLemmas.{length_map}
+use Rattle.std.proofs.lemmas.Option.{slice_get-map}
+use Rattle.layout.specs.Names.{are_different}
 
 -- ---- instances with their codes
 
--- what stands at a number
+-- the instance at a number
 record InstanceAt (n k : ℕ) (ps : List Place) (cs : List CodeView) (v : CodedInstance) : Type 0 where
   place : slice_get ps k ≡ Some v.place
   code : slice_get cs k ≡ Some v.code
@@ -183,7 +188,7 @@ module _ (source tree : Source) (slots : List LayoutSlot) (codes : List CodeView
       → AreSingles vs is layout_once ts
   booleans [] h = tt
   booleans (t ∷ ts) h =
-      let b = both (is_known_single text c.globals t.single)
+      let b = and_parts (is_known_single text c.globals t.single)
       (list_all (λ u. is_known_single text c.globals u.single) ts) h in
       (boolean t.single b.0, booleans ts b.1)
 
@@ -191,8 +196,8 @@ module _ (source tree : Source) (slots : List LayoutSlot) (codes : List CodeView
       → AllSingles vs is layout_once xs
   all_boolean [] h = tt
   all_boolean (r ∷ xs) h =
-      let b = both (is_known_resource text c.globals r) (list_all (is_known_resource text c.globals) xs) h in
-      let k = both (list_all (is_known_instance text r.tasks) r.instances)
+      let b = and_parts (is_known_resource text c.globals r) (list_all (is_known_resource text c.globals) xs) h in
+      let k = and_parts (list_all (is_known_instance text r.tasks) r.instances)
       (list_all (λ t. is_known_single text c.globals t.single) r.tasks) b.0 in
       (booleans r.tasks k.1, all_boolean xs b.1)
 
@@ -231,11 +236,11 @@ module _ (source tree : Source) (slots : List LayoutSlot) (codes : List CodeView
       → (k : ℕ) (p : ProgramInstance) → slice_get made k ≡ Some p → IsMade made k p
   made_at made h k p g =
       let at : slice_get (instances_from 0 (places_from 0 0 rs) codes) k ≡ Some (instance_view p) =
-      ap (λ xs. slice_get xs k) (sym h) ∙ get_map instance_view made k ∙ ap (option_map instance_view) g in
+      ap (λ xs. slice_get xs k) (sym h) ∙ slice_get-map instance_view made k ∙ ap (option_map instance_view) g in
       let i = instance_there 0 k (places_from 0 0 rs) codes (instance_view p) at in
       let owner : option_map (λ (x : Program). x.owner) (slice_get (programs_of_text source) k) ≡ Some p.owner =
-      sym (get_map (λ (x : Program). x.owner) (programs_of_text source) k) ∙ ap (λ xs. slice_get xs k) owners
-      ∙ get_map (λ (x : Place). x.owner) (places_from 0 0 rs) k ∙ ap (option_map (λ (x : Place). x.owner)) i.place in
+      sym (slice_get-map (λ (x : Program). x.owner) (programs_of_text source) k) ∙ ap (λ xs. slice_get xs k) owners
+      ∙ slice_get-map (λ (x : Place). x.owner) (places_from 0 0 rs) k ∙ ap (option_map (λ (x : Place). x.owner)) i.place in
       let q = mapped (λ (x : Program). x.owner) (slice_get (programs_of_text source) k) p.owner owner in
       let m = ready.codes_are k q.0 q.1 in
       let same : m.code ≡ code_view p.code.value = some_is (sym m.is ∙ i.code) in
@@ -301,10 +306,10 @@ module _ (source tree : Source) (slots : List LayoutSlot) (codes : List CodeView
   slots_once : IsLayout (slots_among (numbered_from 0 0 slots) vs is)
   slots_once = subst IsLayout (sym among) (text_layout source (parts_right source judged.well_typed).names.all)
 
-  -- its instances are told apart
+  -- its instances are distinguished
   instances_apart : (made : List ProgramInstance)
       → map instance_view made ≡ instances_from 0 (places_from 0 0 rs) codes
-      → AreToldApart (map (λ (p : ProgramInstance). p.owner) made)
+      → AreDistinguished (map (λ (p : ProgramInstance). p.owner) made)
   instances_apart made h i j o p more rest a b e =
       told_apart source c judged.well_typed judged.plain (only source judged.configured) i j o p more rest (there i o a)
       (there j p b) e
@@ -313,10 +318,10 @@ module _ (source tree : Source) (slots : List LayoutSlot) (codes : List CodeView
           → slice_get (owners_in c.resources) k ≡ Some x
       there k x g =
           let q = mapped (λ (p : ProgramInstance). p.owner) (slice_get made k) x
-          (sym (get_map (λ (p : ProgramInstance). p.owner) made k) ∙ g) in
+          (sym (slice_get-map (λ (p : ProgramInstance). p.owner) made k) ∙ g) in
           ap (λ (ys : List Resource). slice_get (owners_in ys) k) (sym (resources source judged.configured))
           ∙ ap (λ xs. slice_get xs k) (sym (owners_of_places 0 0 rs))
-          ∙ get_map (λ (y : Place). y.owner) (places_from 0 0 rs) k
+          ∙ slice_get-map (λ (y : Place). y.owner) (places_from 0 0 rs) k
           ∙ ap (option_map (λ (y : Place). y.owner)) (made_at made h k q.0 q.1).place ∙ ap Some q.2
 
   -- the plan is sound
@@ -408,7 +413,7 @@ module _ (source tree : Source) (slots : List LayoutSlot) (codes : List CodeView
             }) ticks;
       }
 
--- ---- what is made of the tree
+-- ---- the plan that is made of the tree
 
 module _ (source tree : Source) (slots : List LayoutSlot) (codes : List CodeView) (budget : ℕ)
     (ready : IsReady source tree slots codes budget) (conf : Configuration)
@@ -439,7 +444,7 @@ module _ (source tree : Source) (slots : List LayoutSlot) (codes : List CodeView
       ∙ ap (λ (ws : List PlanVariable). record_length (enumerations_of_text source) ws) ready.layout.variables in
       subst (λ m. MAX_RECORD_BODY < m) same lt
 
-  -- what was made, and how long its record is
+  -- the plan that was made, and how long its record is
   pub record IsFrom (types : Enumerations) (vs : List PlanVariable) (is : List PlanInput) (many : ℕ) (tasks : List Task)
       (made : List ProgramInstance) : Type 0 where
     pub types_are : types ≡ names_in_text tree

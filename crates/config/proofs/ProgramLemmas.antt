@@ -1,4 +1,4 @@
--- Instances where no place is left.
+-- Instances if no place is left.
 use Rattle.std.proofs.Common.{◌≡◌, ◌∙◌, ◌≤◌, ℕ, refl, sym, ap, arith, false, List, [], ◌∷◌, length, drop}
 use Rattle.std.specs.Prelude.{nat_lt}
 use Rattle.std.proofs.lemmas.Bool.Decides.{nat_tests}

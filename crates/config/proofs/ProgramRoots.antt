@@ -20,7 +20,7 @@ use Rattle.slot_trees.specs.TextLinks.{linked_resources}
 use Rattle.slot_trees.proofs.LibraryLinks.{linked_list}
 use Rattle.config.proofs.InstanceNames.{of_map}
 
--- what one more instance may put in front of linked bodies
+-- the linked bodies that one more instance may put in front
 record IsInFront (rest : Option (List SlotStmts)) (bodies : List SlotStmts) : Type 0 where
   others : List SlotStmts
   is : rest ≡ Some others

@@ -1,4 +1,4 @@
--- Quick code of a linked body answers as the instructions.
+-- Quick code of a linked body answers as the instructions do.
 use Rattle.std.proofs.Common.{◌≡◌, ◌≤◌, ◌+◌, ◌-◌, ℕ, List, Option, Some, None, IfOk, IfSome, Result, Ok, Err, length, sym}
 use Rattle.std.proofs.Common.{subst, arith}
 use Rattle.st_types.specs.declared.kind.Kind.{Kind}
@@ -16,7 +16,7 @@ use Rattle.slot_code.specs.declared.parts.PlacedParts.{PlacedParts}
 use Rattle.slot_code.specs.declared.parts.QuickParts.{QuickParts}
 use Rattle.slot_code.specs.Quick.{AnswersFor, IsAnswering, frame_of}
 
--- the law of quick code beside instructions
+-- the law of quick code next to instructions
 abbrev pub AnswersLaw : Type 0
 AnswersLaw =
     (library : SlotLibrary) (base calls depth extra : ℕ) (body : SlotStmts) (kinds : List Kind) (p : QuickParts)

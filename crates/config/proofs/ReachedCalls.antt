@@ -34,7 +34,7 @@ use Rattle.layout.specs.Libraries.{instances_among, body_of_unit, input_names}
 use Rattle.layout.specs.Names.{are_different, are_types_and_units_different, has_different_fields}
 use Rattle.layout.specs.Names.{has_different_variables, names_of_sites, variable_names}
 use Rattle.layout.specs.Types.{sites_of_blocks}
-use Rattle.layout.proofs.ListLemmas.{both, map_some, same_name, some_is}
+use Rattle.layout.proofs.ListLemmas.{same_name}
 use Rattle.layout.proofs.ResolvedLemmas.{taken_text, same_unit_named}
 use Rattle.st_link.specs.Homes.{IsAmong, here as first, further_on}
 use Rattle.st_link.proofs.Among.{Among, here, later, in_front, in_either, in_flat, in_map, none_passes}
@@ -53,38 +53,34 @@ use Rattle.slot_trees.specs.TextLinks.{linked_function_body, linked_functions}
 use Rattle.slot_trees.specs.TextLinks.{symbols_of_block, symbols_of_function}
 use Rattle.slot_trees.specs.TextNumbers.{block_names, numbered_from, numbers_of, own_codes, standard_codes}
 use Rattle.slot_trees.proofs.NamedLemmas.{named_behind, named_mapped, standard_code}
-use Rattle.slot_trees.proofs.OptionLemmas.{then_some}
 use Rattle.st_link.specs.LinkVariables.{LinkVariable, variables_of_blocks}
 use Rattle.st_link.specs.CalledFunctions.{IsReached, program, callee, block_called, callees_of}
 use Rattle.st_link.specs.CalledFunctions.{name_of_type, names_or_none, type_among}
 use Rattle.st_link.proofs.SiteLemmas.{sites_seen}
 use Rattle.config.proofs.Shallow.{function_part, is_function_there, none_at, own_shallow, parts_are}
-use Rattle.config.proofs.Shallow.{none_there, unit_not_standard}
+use Rattle.config.proofs.Shallow.{unit_not_standard}
 use Rattle.config.proofs.CallLengths.{stmts_calls, units_calls, function_calls, body_calls}
 use Rattle.config.proofs.LinkedCalls.{first_or, own_calls_it, block_calls_it, stmts_call_it}
 use Rattle.config.proofs.TakenCalls.{calls_taken}
 use Rattle.config.proofs.InstanceNames.{of_flat, of_map, type_part, instance_is, block_is}
 use Rattle.config.proofs.NumberedUnits.{function_at, block_at}
+use Rattle.st_types.proofs.TestLemmas.{without_zero, or_second}
+use Rattle.config.proofs.FittingUnits.{body_linked}
+use Rattle.st_types.proofs.OptionLemmas.{some_is, map_some, none_is, then_some}
+use Rattle.std.proofs.lemmas.Bool.{and_parts}
 
 pub of_among : {A : Type 0} {a : A} (xs : List A) → IsAmong a xs → Among a xs
 of_among [] i = elim i [ ]
 of_among (x ∷ xs) first = here
 of_among (x ∷ xs) (further_on i) = later (of_among xs i)
 
-second_false : (a b : Bool) → (a || b) ≡ false → b ≡ false
-second_false true b h = absurd (cc)
-second_false false b h = h
-
-no_base : (i j : ℕ) → i ≡ 0 + j → j ≡ i
-no_base i j h = omega (arith, h)
-
 only_own : (s : UnitSort) (u : OrganisationUnit) → are_different (variable_names s u) ≡ true
     → are_different (names_of_sites (sites_of_blocks u.blocks)) ≡ true
-only_own (sorts.Function t) u h = (both _ _ h).1
+only_own (sorts.Function t) u h = (and_parts _ _ h).1
 only_own sorts.FunctionBlock u h = h
 only_own sorts.Program u h = h
 
--- a call of an instance that a statement is
+-- a statement that is a call of an instance
 record IsBlockCall (vs : List LinkVariable) (z : Stmt) (x : Name) : Type 0 where
   instance : Identifier
   arguments : List Argument
@@ -119,13 +115,6 @@ block_call vs (statements.REPEAT body e) x h = elim h [ ]
 block_call vs (statements.EXIT at) x h = elim h [ ]
 block_call vs statements.RETURN x h = elim h [ ]
 
--- a function with instances is not linked
-body_linked : (o : List (Name × Name)) (text : Declared) (symbols : List Symbol) (xs : Stmts) (body : SlotStmts)
-    → linked_function_body text symbols o xs ≡ Some body
-    → linked_stmts (table_of (numbers_of text) symbols []) xs ≡ Some body
-body_linked [] text symbols xs body h = h
-body_linked (i ∷ is) text symbols xs body h = absurd (cc)
-
 -- the body of a linked function
 function_body : (text : Declared) (t : SimpleType) (u : OrganisationUnit) (f : SlotFunction)
     → linked_function text t u ≡ Some f
@@ -142,7 +131,7 @@ function_body text t u f h =
     let same : c.0 ≡ f.body = ap (λ (k : SlotFunction). k.body) c.2 in
     body_linked instances text symbols (stmts_of u.body) f.body (c.1 ∙ ap Some same)
 
--- what the calls of units are, one deeper
+-- the calls of units, one deeper
 function_calls_are : (library : SlotLibrary) (m i : ℕ) (f : SlotFunction) → slice_get library.functions i ≡ Some f
     → (units_calls library (suc m)).functions i ≡ i ∷ stmts_calls (units_calls library m) f.body
 unfolding units_calls
@@ -177,23 +166,23 @@ module _ (source : Source) (h : IsWellTyped source) (vs : List Owned) (library :
   names_differ : are_types_and_units_different whole ≡ true
   names_differ =
       taken_differ text
-      (both (are_different (map (λ t. t.name.name) text.types)) (are_types_and_units_different text)
+      (and_parts (are_different (map (λ t. t.name.name) text.types)) (are_types_and_units_different text)
       (differ source h)).1
 
   variables_differ : (u : OrganisationUnit) → Among u (units_in source)
       → has_different_variables (resolved text u) ≡ true
   variables_differ u among =
       all_at has_different_variables (in_map (resolved text) among)
-      (both (list_all (λ t. has_different_fields t.definition) whole.types)
+      (and_parts (list_all (λ t. has_different_fields t.definition) whole.types)
       (list_all has_different_variables whole.units) names_differ).1
 
   not_standard : (x : Name) (u : OrganisationUnit) → unit_named text.units x ≡ Some u → standard_of x ≡ None
   not_standard x u is =
       let found = unit_found text.units x u is in
       let name = in_flat names_of_element (unit_in source u found.among) here in
-      let free = second_false (is_some (block_of u.name.name)) (is_some (standard_of u.name.name))
+      let free = or_second (is_some (block_of u.name.name)) (is_some (standard_of u.name.name))
       (none_passes (λ y. is_standard y.name) name right.names.free) in
-      none_there (standard_of x) (subst (λ (y : Name). is_some (standard_of y) ≡ false)
+      none_is (standard_of x) (subst (λ (y : Name). is_some (standard_of y) ≡ false)
       (sym (same_name x u.name.name found.named)) free)
 
   -- a unit with the name of another is that unit
@@ -208,7 +197,7 @@ module _ (source : Source) (h : IsWellTyped source) (vs : List Owned) (library :
       ∙ ap (unit_named text.units) (sym name) ∙ is) in
       sym i.is ∙ ap (resolved text) same
 
-  -- the body of a unit, linked, where calls in it are so deep, and what it calls is found
+  -- the body of a unit, linked, if calls in it have this depth, and the units that it calls are found
   pub record IsHeld (u : OrganisationUnit) (n : ℕ) : Type 0 where
     pub symbols : List Symbol
     pub instances : List (Name × Name)
@@ -219,7 +208,7 @@ module _ (source : Source) (h : IsWellTyped source) (vs : List Owned) (library :
         ≡ Some body
     pub held : (g : ℕ) → Among g (stmts_calls (units_calls library n) body) → Found g
 
-  -- its parts that are functions or blocks begin no chain of so many parts
+  -- its parts that are functions or blocks begin no chain of `n + 1` parts
   abbrev IsDeep : OrganisationUnit → ℕ → Type 0
   IsDeep u n = (z : Name) (v : OrganisationUnit) → unit_named text.units z ≡ Some v
       → (((r : SimpleType) × (v.sort ≡ sorts.Function r)) ⊎ (v.sort ≡ sorts.FunctionBlock))
@@ -243,7 +232,7 @@ module _ (source : Source) (h : IsWellTyped source) (vs : List Owned) (library :
   abbrev All : Type 0
   All = (g : ℕ) → Found g
 
-  -- what one of its statements calls
+  -- the calls of one of its statements
   module _ (u : OrganisationUnit) (among_units : Among u (units_in source)) (n : ℕ) (unit : IsHeld u n) where
     lift_function : (x : Name) → standard_of x ≡ None → Among x (calls_of (resolved text u)) → (g : ℕ)
         → ((i : ℕ) → named_in (numbers_of whole).functions x ≡ Some i
@@ -327,7 +316,7 @@ module _ (source : Source) (h : IsWellTyped source) (vs : List Owned) (library :
             let chain = deep x v there (inl (k.result, sort)) part in
             let l = longer text n x chain in
             let slot : slice_get library.functions i ≡ Some k.linked =
-            ap (slice_get library.functions) (sym (no_base i k.position k.number)) ∙ k.there in
+            ap (slice_get library.functions) (sym (without_zero i k.position k.number)) ∙ k.there in
             let lift : (g : ℕ) → Among g (i ∷ stmts_calls (units_calls library l.0) k.linked.body) → Found g =
             λ g a. lift_function x (not_standard x v there) among g
             (λ j is. subst (λ e. Among g ((units_calls library n).functions e)) (some_is (sym number ∙ is))
@@ -369,7 +358,7 @@ module _ (source : Source) (h : IsWellTyped source) (vs : List Owned) (library :
             let chain = deep x v there (inr sort) (block_part x among) in
             let l = longer text n x chain in
             let slot : slice_get library.blocks i ≡ Some k.linked =
-            ap (slice_get library.blocks) (sym (no_base i k.position k.number)) ∙ k.there in
+            ap (slice_get library.blocks) (sym (without_zero i k.position k.number)) ∙ k.there in
             let lift : (g : ℕ) → Among g (stmts_calls (units_calls library l.0) k.linked) → Found g =
             λ g a. lift_block x no_standard among g
             (λ j is. subst (λ e. Among g ((units_calls library n).blocks (own_block e))) (some_is (sym number ∙ is))

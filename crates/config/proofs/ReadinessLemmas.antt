@@ -1,4 +1,4 @@
--- What is known of a text that is judged.
+-- The facts about a text that is judged.
 use Rattle.std.proofs.Common.{◌≡◌, refl, ◌≤◌, ℕ, List, Result, Ok, Err, IfOk, IfErr, map, true}
 use Rattle.std.specs.List.{list_all}
 use Rattle.st_types.specs.declared.limits.TheConstants.{MAX_BUDGET}
@@ -11,7 +11,7 @@ use Rattle.layout.specs.TextLayouts.{enumerations_of_text, plan_variables_of_tex
 use Rattle.st_link.proofs.GrammarFunctions.{functions_clean}
 use Rattle.config.specs.Texts.{IsTextOf}
 use Rattle.config.proofs.PlainGrammar.{plain_text}
-use Rattle.plan.specs.Sound.{are_different, has_line}
+use Rattle.plan.specs.Sound.{has_line}
 use Rattle.layout.specs.declared.slots.LayoutSlot.{LayoutSlot}
 use Rattle.layout.specs.KeptLayouts.{IsLayoutOf}
 use Rattle.slot_code.specs.Codes.{CodeView}
@@ -26,6 +26,7 @@ use Rattle.config.specs.Readiness.{IsJudged, IsReady}
 use Rattle.config.specs.Rooms.{LacksRoom}
 use Rattle.config.specs.Refusals.{LacksPlan, SourceLacksPlan}
 use Rattle.config.proofs.ConfiguredLemmas.{only}
+use Rattle.layout.specs.Names.{are_different}
 
 -- a parsed text that breaks no rule, with a sound configuration, is judged
 pub judged_from : (text : List ℕ) (source : Source) → IsTextOf text source → IsWellTyped source → IsConfigured source
@@ -42,7 +43,7 @@ judged_from text source of well sound lines apart spelled = record {
   plain = plain_text text source of;
 }
 
--- what it lacks is why it has no plan
+-- a well-typed text without a plan is a parsed text without one
 pub source_lacks : (source : Source) (e : BuildError) → IsWellTyped source → LacksPlan source e
     → SourceLacksPlan source e
 source_lacks source errors.Budget well h = absurd h
@@ -55,7 +56,7 @@ source_lacks source (errors.Code x) well h = (well, h)
 source_lacks source errors.RecordTooLong well h = (well, h)
 source_lacks source errors.Memory well h = h
 
--- of a code that is not made, only its size is told, where it has no room, or want of memory
+-- if code is not made, there is no room for it, or memory ran out
 pub code_lacks : (source : Source) (e : CompileError) → (e ≡ coding.NotLinked → ⊥)
     → (e ≡ coding.TooManyInstructions → LacksRoom source e) → (e ≡ coding.TooManyPlaces → LacksRoom source e)
     → LacksPlan source (errors.Code e)

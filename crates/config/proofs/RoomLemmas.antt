@@ -15,7 +15,7 @@ use Rattle.std.proofs.lemmas.List.{take-append-drop}
 use Rattle.st_link.specs.Homes.{IsAmong, here}
 use Rattle.st_link.proofs.HomeLemmas.{among_left, among_map, among_right}
 
--- Single calls of all functions that the text's programs call begin with more values than there are for each program.
+-- Single calls of all functions that the text's programs call begin with more values than allowed for each program.
 pub record HasManyValues (source : Source) : Type 0 where
   pub called : Name → Bool
   pub are_called : AreCalled source called
@@ -29,7 +29,7 @@ at_hand f xs i x more =
     among_map f xs (subst (IsAmong x) (take-append-drop (i + 1) xs) (among_left (take (i + 1) xs) (drop (i + 1) xs)
     (subst (IsAmong x) (sym more) (among_right (take i xs) (x ∷ []) here))))
 
--- more than what is held are more than there are
+-- if the capped number is over the limit, so is the number itself
 pub many_values : (limit held all : ℕ) → limit < held → held ≡ min all (2 ^ 64 - 1) → limit < all
 many_values limit held all more is = omega (arith, more, is)
 

@@ -13,25 +13,13 @@ use Rattle.st_rules.specs.NameScopes.{variables_of_text}
 use Rattle.st_rules.specs.Places.{places_where, repeats}
 use Rattle.st_rules.specs.Rules.{IsWellTyped, wrong_declarations, wrong_types, wrong_starts, wrong_bodies}
 use Rattle.st_rules.specs.TwiceDeclared.{is_standard, is_taken, twice_declared}
-
--- of what is joined to nothing
-first_nothing : {A : Type 0} (xs ys : List A) → xs ++ ys ≡ [] → xs ≡ []
-first_nothing [] ys h = refl
-first_nothing (x ∷ xs) ys h = absurd (cc)
-
-rest_nothing : {A : Type 0} (xs ys : List A) → xs ++ ys ≡ [] → ys ≡ []
-rest_nothing [] ys h = h
-rest_nothing (x ∷ xs) ys h = absurd (cc)
-
-mapped_nothing : {A B : Type 0} (f : A → B) (xs : List A) → map f xs ≡ [] → xs ≡ []
-mapped_nothing f [] h = refl
-mapped_nothing f (x ∷ xs) h = absurd (cc)
+use Rattle.st_types.proofs.ListLemmas.{append_first, append_second, none_mapped}
 
 flat_first : {A B : Type 0} (f : A → List B) (xs ys : List A) → flat_map f (xs ++ ys) ≡ [] → flat_map f xs ≡ []
-flat_first f xs ys h = first_nothing (flat_map f xs) (flat_map f ys) (sym (flat_map-append f xs ys) ∙ h)
+flat_first f xs ys h = append_first (flat_map f xs) (flat_map f ys) (sym (flat_map-append f xs ys) ∙ h)
 
 flat_rest : {A B : Type 0} (f : A → List B) (xs ys : List A) → flat_map f (xs ++ ys) ≡ [] → flat_map f ys ≡ []
-flat_rest f xs ys h = rest_nothing (flat_map f xs) (flat_map f ys) (sym (flat_map-append f xs ys) ∙ h)
+flat_rest f xs ys h = append_second (flat_map f xs) (flat_map f ys) (sym (flat_map-append f xs ys) ∙ h)
 
 only_one : {A : Type 0} (x y : A) (xs : List A) → (x ∷ xs) ≡ (y ∷ []) → x ≡ y
 only_one {A = A} x y xs h = ap (first x) h
@@ -42,7 +30,7 @@ only_one {A = A} x y xs h = ap (first x) h
 
 of_configuration : (c : Configuration) → flat_map repeats (scopes_of_element (configuration c)) ≡ []
     → repeats (globals_of c) ≡ []
-of_configuration c h = first_nothing (repeats (globals_of c)) (flat_map repeats (flat_map scopes_in_globals c.globals))
+of_configuration c h = append_first (repeats (globals_of c)) (flat_map repeats (flat_map scopes_in_globals c.globals))
     (flat_first repeats (globals_of c ∷ flat_map scopes_in_globals c.globals)
     (map (λ r. r.name) c.resources ∷ map names_in c.resources) h)
 
@@ -59,21 +47,21 @@ among_scopes (configuration d ∷ rest) c h one =
     (flat_first repeats (scopes_of_element (configuration d)) (flat_map scopes_of_element rest) h)
 
 first_of_five : {A : Type 0} (xs ys zs us vs : List A) → xs ++ ys ++ zs ++ us ++ vs ≡ [] → xs ≡ []
-first_of_five xs ys zs us vs h = first_nothing xs ys (first_nothing (xs ++ ys) zs
-    (first_nothing (xs ++ ys ++ zs) us (first_nothing (xs ++ ys ++ zs ++ us) vs h)))
+first_of_five xs ys zs us vs h = append_first xs ys (append_first (xs ++ ys) zs
+    (append_first (xs ++ ys ++ zs) us (append_first (xs ++ ys ++ zs ++ us) vs h)))
 
 pub globals_once : (source : Source) (c : Configuration) → IsWellTyped source → configurations_in source ≡ c ∷ []
     → repeats (globals_of c) ≡ []
 globals_once source c typed one =
-    let declared = first_nothing (wrong_declarations source) (wrong_types source)
-    (first_nothing (wrong_declarations source ++ wrong_types source) (wrong_starts source)
-    (first_nothing (wrong_declarations source ++ wrong_types source ++ wrong_starts source)
+    let declared = append_first (wrong_declarations source) (wrong_types source)
+    (append_first (wrong_declarations source ++ wrong_types source) (wrong_starts source)
+    (append_first (wrong_declarations source ++ wrong_types source ++ wrong_starts source)
     (wrong_bodies source) typed)) in
-    let twice = mapped_nothing (λ p. record { rule = DeclaredTwice; place = p }) (twice_declared source)
+    let twice = none_mapped (λ p. record { rule = DeclaredTwice; place = p }) (twice_declared source)
     (first_of_five (breaking DeclaredTwice (twice_declared source)) _ _ _ _ declared) in
     let names = names_of_text source in
-    let scopes = first_nothing (flat_map repeats (scopes_of source)) (places_where (λ x. is_standard x.name) names)
-    (first_nothing (flat_map repeats (scopes_of source) ++ places_where (λ x. is_standard x.name) names)
+    let scopes = append_first (flat_map repeats (scopes_of source)) (places_where (λ x. is_standard x.name) names)
+    (append_first (flat_map repeats (scopes_of source) ++ places_where (λ x. is_standard x.name) names)
     (places_where (is_taken names) (variables_of_text source)) twice) in
     among_scopes source c
-    (rest_nothing (repeats names) (flat_map repeats (flat_map scopes_of_element source)) scopes) one
+    (append_second (repeats names) (flat_map repeats (flat_map scopes_of_element source)) scopes) one

@@ -4,12 +4,7 @@ use Rattle.std.proofs.Common.{◌&&◌, List, [], ◌∷◌, map, drop, length, 
 use Rattle.std.specs.List.{list_all}
 use Rattle.std.proofs.Math.Seq.{drop-cons}
 use Rattle.std.proofs.Math.Numerals.{suc-eq-add-one}
-
--- from an item on
-pub item_then : {X : Type 0} (xs : List X) (i : ℕ) (x : X) → i < length xs → x ≡ slice_index_or xs i x
-    → drop i xs ≡ x ∷ drop (i + 1) xs
-item_then xs i x lt is =
-    drop-cons xs i x lt ∙ ap (λ y. y ∷ drop (suc i) xs) (sym is) ∙ ap (λ n. x ∷ drop n xs) (suc-eq-add-one i)
+use Rattle.st_types.proofs.ListLemmas.{drop_next}
 
 pub nothing_left : {X : Type 0} (xs : List X) (i : ℕ) → length xs ≤ i → drop i xs ≡ []
 nothing_left [] zero le = refl
@@ -22,11 +17,11 @@ module _ {X : Type 0} (p : X → Bool) where
   pub all_but : (xs : List X) (i : ℕ) (x : X) → i < length xs → x ≡ slice_index_or xs i x → true ≡ p x
       → list_all p xs ≡ list_all p (drop i xs) → list_all p xs ≡ list_all p (drop (i + 1) xs)
   all_but xs i x lt is passes so =
-      so ∙ ap (list_all p) (item_then xs i x lt is) ∙ ap (λ b. b && list_all p (drop (i + 1) xs)) (sym passes)
+      so ∙ ap (list_all p) (drop_next xs i x lt is) ∙ ap (λ b. b && list_all p (drop (i + 1) xs)) (sym passes)
 
   pub all_not : (xs : List X) (i : ℕ) (x : X) → i < length xs → x ≡ slice_index_or xs i x → false ≡ p x
       → list_all p xs ≡ list_all p (drop i xs) → false ≡ list_all p xs
-  all_not xs i x lt is fails so = sym (so ∙ ap (list_all p) (item_then xs i x lt is)
+  all_not xs i x lt is fails so = sym (so ∙ ap (list_all p) (drop_next xs i x lt is)
       ∙ ap (λ b. b && list_all p (drop (i + 1) xs)) (sym fails))
 
   pub all_passed : (xs : List X) (i : ℕ) → length xs ≤ i → list_all p xs ≡ list_all p (drop i xs)
@@ -37,13 +32,13 @@ module _ {X Y : Type 0} (p : X → Bool) (view : Y → X) where
   pub all_but_viewed : (ys : List Y) (i : ℕ) (y : Y) → i < length ys → y ≡ slice_index_or ys i y
       → true ≡ p (view y) → list_all p (map view ys) ≡ list_all p (map view (drop i ys))
       → list_all p (map view ys) ≡ list_all p (map view (drop (i + 1) ys))
-  all_but_viewed ys i y lt is passes so = so ∙ ap (λ v. list_all p (map view v)) (item_then ys i y lt is)
+  all_but_viewed ys i y lt is passes so = so ∙ ap (λ v. list_all p (map view v)) (drop_next ys i y lt is)
       ∙ ap (λ b. b && list_all p (map view (drop (i + 1) ys))) (sym passes)
 
   pub all_not_viewed : (ys : List Y) (i : ℕ) (y : Y) → i < length ys → y ≡ slice_index_or ys i y
       → false ≡ p (view y) → list_all p (map view ys) ≡ list_all p (map view (drop i ys))
       → false ≡ list_all p (map view ys)
-  all_not_viewed ys i y lt is fails so = sym (so ∙ ap (λ v. list_all p (map view v)) (item_then ys i y lt is)
+  all_not_viewed ys i y lt is fails so = sym (so ∙ ap (λ v. list_all p (map view v)) (drop_next ys i y lt is)
       ∙ ap (λ b. b && list_all p (map view (drop (i + 1) ys))) (sym fails))
 
   pub all_passed_viewed : (ys : List Y) (i : ℕ) → length ys ≤ i

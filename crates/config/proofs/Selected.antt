@@ -6,10 +6,11 @@ use Rattle.st_meaning.specs.Scopes.{Name}
 use Rattle.layout.specs.Shapes.{Parts, no_parts, part_then, size, sizes}
 use Rattle.slot_trees.specs.SlotEvaluation.{slot_at}
 use Rattle.slot_trees.specs.SlotTrees.{Anchor, own, absolute}
-use Rattle.slot_trees.specs.Tables.{Part, part_beyond, part_at, Symbol, symbol_of, moved}
-use Rattle.machine_code.specs.Sites.{Site}
+use Rattle.slot_trees.specs.Tables.{Part, part_after, part_at, Symbol, symbol_of, moved}
+use Rattle.machine_code.specs.UnitFrames.{UnitFrame}
 use Rattle.config.specs.Sound.{IsBounded, AreBounded, SymbolsWithin}
-use Rattle.config.proofs.Options.{either_some, map_some}
+use Rattle.config.proofs.Options.{either_some}
+use Rattle.st_types.proofs.OptionLemmas.{map_some}
 
 -- a part of a whole
 pub record PartWithin (ps : Parts) (e : Part) : Type 0 where
@@ -20,26 +21,26 @@ pub part_within : (ps : Parts) (x : Name) (e : Part) → part_at ps x ≡ Some e
 part_within no_parts x e h bounded = absurd (cc)
 part_within (part_then y sh ps) x e h bounded =
     let first : Part = record { offset = 0; shape = sh } in
-    elim (either_some (bytes_eq x y) (Some first) (option_map (part_beyond (size sh)) (part_at ps x)) e h) [
+    elim (either_some (bytes_eq x y) (Some first) (option_map (part_after (size sh)) (part_at ps x)) e h) [
       | inl q ↦
           let is : first ≡ e = cc in
           let here : PartWithin (part_then y sh ps) first = record { within = omega arith; bounded = bounded.0 } in
           subst (λ (z : Part). PartWithin (part_then y sh ps) z) is here
       | inr q ↦
-          let m = map_some (part_beyond (size sh)) (part_at ps x) e q in
+          let m = map_some (part_after (size sh)) (part_at ps x) e q in
           let w = part_within ps x m.0 m.1 bounded.1 in
           let within = w.within in
-          let there : PartWithin (part_then y sh ps) (part_beyond (size sh) m.0)
+          let there : PartWithin (part_then y sh ps) (part_after (size sh) m.0)
           = record { within = omega arith; bounded = w.bounded } in
           subst (λ (z : Part). PartWithin (part_then y sh ps) z) m.2 there
     ]
 
 -- a variable among the values of a unit
-pub record SymbolWithin (s : Site) (y : Symbol) : Type 0 where
+pub record SymbolWithin (s : UnitFrame) (y : Symbol) : Type 0 where
   pub within : slot_at s.base y.anchor + size y.shape ≤ s.size
   pub bounded : IsBounded y.shape
 
-pub symbol_within : (s : Site) (ys : List Symbol) (x : Name) (y : Symbol) → symbol_of ys x ≡ Some y
+pub symbol_within : (s : UnitFrame) (ys : List Symbol) (x : Name) (y : Symbol) → symbol_of ys x ≡ Some y
     → SymbolsWithin s ys → SymbolWithin s y
 symbol_within s [] x y h all = absurd (cc)
 symbol_within s (z ∷ zs) x y h all =
@@ -51,24 +52,9 @@ symbol_within s (z ∷ zs) x y h all =
       | inr q ↦ symbol_within s zs x y q all.2
     ]
 
-pub moved_on : (base : ℕ) (a : Anchor) (n : ℕ) → slot_at base (moved a n) ≡ slot_at base a + n
-moved_on base (own o) n = omega arith
-moved_on base (absolute k) n = refl
-
 -- elements before the last one, and the last one
 pub all_elements : (n k : ℕ) → 0 < n → (n - 1) * k + k ≡ n * k
 all_elements zero k lt = absurd (omega arith)
 all_elements (suc n) k lt =
     let e : suc n - 1 ≡ n = omega arith in
     rw e (grind arith)
-
--- an element takes no more room than all, and there are no more elements than slots
-pub element_within : (n k : ℕ) → 0 < n → k ≤ n * k
-element_within n k lt = let e = all_elements n k lt in omega arith
-
-pub elements_within : (n k : ℕ) → 0 < k → n ≤ n * k
-elements_within zero k lt = omega arith
-elements_within (suc n) k lt =
-    let h = elements_within n k lt in
-    let e : suc n * k ≡ n * k + k = grind arith in
-    omega arith

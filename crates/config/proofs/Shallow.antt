@@ -1,4 +1,4 @@
--- What a unit calls is not as deep as the unit.
+-- The units that a unit calls are not as deep as the unit.
 use Rattle.std.proofs.Common.{◌≡◌, refl, sym, ap, subst, ◌∙◌, ℕ, suc, ◌+◌, Bool, true, false, ◌||◌, if◌then◌else◌}
 use Rattle.std.proofs.Common.{List, [], ◌∷◌, ◌++◌, map, Option, Some, None}
 use Rattle.std.specs.Prelude.{bytes_eq, is_some}
@@ -35,20 +35,25 @@ use Rattle.st_rules.specs.Rules.{IsWellTyped}
 use Rattle.st_rules.specs.TwiceDeclared.{is_standard}
 use Rattle.st_meaning.specs.StandardFunctions.{standard_of}
 use Rattle.st_rules.specs.TypeRules.{may_be_instance}
-use Rattle.layout.proofs.ListLemmas.{neither, same_name, some_is}
-use Rattle.st_link.proofs.Alikes.{front_empty, back_empty}
+use Rattle.layout.proofs.ListLemmas.{same_name}
 use Rattle.st_link.proofs.Among.{Among, here, later, in_front, in_back, in_map, in_flat, none_of, none_passes}
-use Rattle.st_link.proofs.ApartNames.{names_apart, repeats_behind, turned, types_are_no_blocks}
+use Rattle.st_link.proofs.ApartNames.{names_apart, repeats_behind, turned, types_are_no_blocks, types_apart}
 use Rattle.st_link.proofs.BodyRunLaw.{own_block}
 use Rattle.st_link.proofs.FoundNames.{unit_found, unit_in, type_found, type_in_source}
 use Rattle.st_link.proofs.InstanceSections.{instance_variable, found_among, absent}
 use Rattle.st_link.proofs.WellTypedTexts.{PartsRight, parts_right}
 use Rattle.st_link.proofs.RunHomes.{no_type_by}
+use Rattle.st_link.proofs.BoundedArrays.{no_case}
+use Rattle.std.proofs.lemmas.Bool.{or_parts}
+use Rattle.st_types.proofs.OptionLemmas.{some_is, none_is}
+use Rattle.st_types.proofs.ListLemmas.{append_first, append_second}
+use Rattle.st_types.proofs.TestLemmas.{or_first}
+use Rattle.st_link.proofs.LibraryBodies.{local_is}
 
 -- none of a list passes
 pub none_at : {A : Type 0} (p : A → Bool) {a : A} {xs : List A} → Among a xs → list_any p xs ≡ false → p a ≡ false
-none_at p (here {a = a} {rest = rest}) h = (neither (p a) (list_any p rest) h).0
-none_at p (later {b = x} {rest = rest} k) h = none_at p k (neither (p x) (list_any p rest) h).1
+none_at p (here {a = a} {rest = rest}) h = (or_parts (p a) (list_any p rest) h).0
+none_at p (later {b = x} {rest = rest} k) h = none_at p k (or_parts (p x) (list_any p rest) h).1
 
 in_filter : {A : Type 0} (p : A → Bool) {a : A} {xs : List A} → Among a xs → p a ≡ true → Among a (filter p xs)
 in_filter p (here {a = a} {rest = rest}) h =
@@ -59,50 +64,14 @@ in_filter p {a = a} (later {b = x} {rest = rest} k) h = by_test (p x) (in_filter
     by_test true i = later i
     by_test false i = i
 
--- a type bears no name of a unit
+-- a type doesn't have the name of a unit
 abbrev name_of_type : TypeDeclaration → Identifier
 name_of_type t = t.name
-
-types_apart : (source : Source) {ts : List TypeDeclaration} {t : TypeDeclaration} {u : OrganisationUnit}
-    → repeats (names_of_text source) ≡ [] → Among (sources.types ts) source → Among t ts
-    → Among (sources.unit u) source
-    → bytes_eq t.name.name u.name.name ≡ true → ⊥
-types_apart [] h block type unit same = elim block [ ]
-types_apart (sources.types ts ∷ rest) h here type (later unit) same =
-    names_apart (map name_of_type ts) (names_of_text rest) h (in_map name_of_type type)
-    (in_flat names_of_element unit here) same
-types_apart (sources.unit u ∷ rest) {t = t} h (later block) type here same =
-    names_apart (u.name ∷ []) (names_of_text rest) h here (in_flat names_of_element block (in_map name_of_type type))
-    (turned t.name.name u.name.name same)
-types_apart (e ∷ rest) h (later block) type (later unit) same =
-    types_apart rest (repeats_behind (names_of_element e) (names_of_text rest) h) block type unit same
-
-no_case : (b : Bool) (at : ℕ) → in_case b at ≡ [] → b ≡ false
-no_case true at h = absurd (cc)
-no_case false at h = refl
 
 elementary_alone : (text : Declared) (x : Name) → parts_named text x ≡ elementary ∷ []
     → has_chain text 65 (named x) ≡ false
 unfolding has_chain
 elementary_alone text x h = ap (list_any (has_chain text 64)) h
-
-first_false : (a b : Bool) → (a || b) ≡ false → a ≡ false
-first_false true b h = absurd (cc)
-first_false false b h = refl
-
-pub none_there : {A : Type 0} (o : Option A) → is_some o ≡ false → o ≡ None
-none_there None h = refl
-none_there (Some a) h = absurd (cc)
-
--- an instance is a part of its unit
-local_is : (sort : UnitSort) (section : Section) → may_be_instance (variable_of sort section) ≡ true
-    → is_external section ≡ false
-local_is sort (sections.Local keep) h = refl
-local_is sort (sections.Input keep) h = absurd (cc)
-local_is sort (sections.Output keep) h = absurd (cc)
-local_is sort sections.Constant h = absurd (cc)
-local_is sort sections.External h = absurd (cc)
-local_is sort sections.ConstantExternal h = absurd (cc)
 
 block_part : (b : VariableBlock) (t : VariableType) (d : Declaration) → is_external b.section ≡ false
     → Among d b.declarations → d.declared ≡ t → Among (part_of_type t) (parts_of_block b)
@@ -135,7 +104,7 @@ part_there (b ∷ bs) x t s h k e =
         sym (ap (λ (c : Bool). if c then Some b.section else section_in bs x) (absent b.declarations x is)) ∙ l in
         in_back (parts_of_block b) (ih g other)
 
--- the units that a unit calls begin no chain of so many parts
+-- the units that a unit calls begin no chain of `m + 1` parts
 pub record IsShallow (source : Source) (u : OrganisationUnit) (m : ℕ) : Type 0 where
   pub functions : (f : Name) (g : OrganisationUnit) (r : SimpleType) → Among f (calls_of u)
       → unit_named (declared_in source).units f ≡ Some g → g.sort ≡ sorts.Function r
@@ -213,8 +182,8 @@ module _ (source : Source) (h : IsWellTyped source) where
   -- units of a text are at most 64 deep
   units_shallow : too_deep_units text ≡ []
   units_shallow =
-      back_empty (too_deep_types text) (too_deep_units text)
-      (front_empty (too_deep_types text ++ too_deep_units text)
+      append_second (too_deep_types text) (too_deep_units text)
+      (append_first (too_deep_types text ++ too_deep_units text)
       (flat_map (too_deep_array text) (unnamed_arrays_in source)) right.deep)
 
   pub own_shallow : (x : Name) (u : OrganisationUnit) → unit_named text.units x ≡ Some u → (s : UnitSort) → u.sort ≡ s
@@ -235,9 +204,9 @@ module _ (source : Source) (h : IsWellTyped source) where
   unit_not_standard x (Some u) is h =
       let found = unit_found text.units x u is in
       let name = in_flat names_of_element (unit_in source u found.among) here in
-      let free = first_false (is_some (block_of u.name.name)) (is_some (standard_of u.name.name))
+      let free = or_first (is_some (block_of u.name.name)) (is_some (standard_of u.name.name))
       (none_passes (λ y. is_standard y.name) name right.names.free) in
-      none_there (block_of x) (subst (λ (y : Name). is_some (block_of y) ≡ false)
+      none_is (block_of x) (subst (λ (y : Name). is_some (block_of y) ≡ false)
       (sym (same_name x u.name.name found.named)) free)
 
   unit_absent : (x : Name) (k : StandardBlock) → block_of x ≡ Some k → (o : Option OrganisationUnit)

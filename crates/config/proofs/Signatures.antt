@@ -1,4 +1,4 @@
--- The inputs and the result of a function stand among its values.
+-- The inputs and the result of a function are among its values.
 use Rattle.std.proofs.Common.{◌≡◌, refl, sym, ap, ◌∙◌, ℕ, suc, ◌<◌, arith, Bool, true, false, if◌then◌else◌}
 use Rattle.std.proofs.Common.{List, [], ◌∷◌, ◌++◌, length, map, None, length-append}
 use Rattle.std.proofs.Math.ListN.{length-map}
@@ -12,13 +12,13 @@ use Rattle.st_meaning.specs.Slots.{Slot}
 use Rattle.layout.specs.LayoutVariables.{Owned, owned_variable}
 use Rattle.layout.specs.Libraries.{fresh_values, input_names}
 use Rattle.layout.specs.Shapes.{size}
-use Rattle.layout.specs.Standing.{slot}
+use Rattle.layout.specs.VariableSlots.{slot}
 use Rattle.layout.specs.TextLayouts.{leaves_of_variable, slot_of_leaf, slots_of, slots_of_variable, variable_shape}
 use Rattle.layout.specs.Types.{NamedSite}
 use Rattle.layout.proofs.LeafLemmas.{length_leaves}
 use Rattle.layout.specs.Layouts.{layout_size}
 use Rattle.slot_trees.specs.Seeing.{IsSlotOf}
-use Rattle.slot_trees.specs.LinkedTexts.{InputsStand, values_of_fresh}
+use Rattle.slot_trees.specs.LinkedTexts.{InputsLieAt, values_of_fresh}
 use Rattle.slot_trees.proofs.FunctionLayouts.{fresh_layout}
 use Rattle.machine_code.specs.Fitting.{AllBelow}
 
@@ -59,7 +59,7 @@ inputs_counted text (b ∷ bs) = by_section (is_input b.section) (inputs_counted
 pub slot_below : (layout : List Slot) (x : Name) (k : ℕ) → IsSlotOf layout false (unowned x) k → k < length layout
 slot_below layout x k s = slice_get_within layout k (slot (unowned x) s.kind false) s.there
 
-pub inputs_below : (layout : List Slot) (xs : List Name) (ks : List ℕ) → InputsStand layout xs ks
+pub inputs_below : (layout : List Slot) (xs : List Name) (ks : List ℕ) → InputsLieAt layout xs ks
     → (length xs ≡ length ks) × AllBelow (length layout) ks
 inputs_below layout [] [] h = (refl, tt)
 inputs_below layout [] (k ∷ ks) h = absurd h

@@ -21,7 +21,7 @@ use Rattle.layout.specs.LayoutVariables.{site_of_global, variables_of_configurat
 use Rattle.layout.specs.LayoutVariables.{variables_of_resources}
 use Rattle.layout.specs.Names.{are_different, are_types_and_units_different, is_configuration_different}
 use Rattle.layout.specs.Shapes.{plain, position_of}
-use Rattle.layout.specs.Standing.{are_declared_once, variable_at, slot, path_to}
+use Rattle.layout.specs.VariableSlots.{are_declared_once, variable_at, slot, path_to}
 use Rattle.layout.specs.TextLayouts.{further, slots_of, slots_of_text, variable_shape}
 use Rattle.layout.specs.Types.{Site, composed_shape, defined_composition, of_kind, shape_within}
 use Rattle.layout.proofs.ListLemmas.{same_name}
@@ -32,7 +32,7 @@ use Rattle.st_link.proofs.DifferentNames.{names_differ, scopes_differ}
 use Rattle.st_link.proofs.GlobalVariables.{listed_variable, in_declarations, in_globals}
 use Rattle.st_link.proofs.HomeLemmas.{among_left, found_at}
 use Rattle.st_link.proofs.ListTests.{any_at}
-use Rattle.config.proofs.ListLemmas.{both}
+use Rattle.std.proofs.lemmas.Bool.{and_parts}
 
 -- a BOOL is one slot
 plain_within : (text : Declared) (n : ℕ) (t : VariableType) (k : Kind) → kind_among text.types t ≡ Some k
@@ -65,7 +65,7 @@ module _ (source : Source) (well : IsWellTyped source) (c : Configuration)
   once : are_declared_once text variables ≡ true
   once =
       let twice = (parts_right source well).names.all in
-      let units = both (are_different (map (λ t. t.name.name) text.types)) (are_types_and_units_different text)
+      let units = and_parts (are_different (map (λ t. t.name.name) text.types)) (are_types_and_units_different text)
       (names_differ source twice) in
       configuration_once text units.1 (Some c)
       (subst (λ o. is_configuration_different o ≡ true) only (scopes_differ source twice))
@@ -79,7 +79,7 @@ module _ (source : Source) (well : IsWellTyped source) (c : Configuration)
       let block = any_at (λ (b : GlobalBlock). list_any (is_boolean_global text x.name) b.declarations) c.globals known in
       let global = any_at (is_boolean_global text x.name) block.one.declarations block.passes in
       let g = global.one in
-      let facts = both (list_any (is_named x.name) (listed_names g.names))
+      let facts = and_parts (list_any (is_named x.name) (listed_names g.names))
       (is_of_kind Boolean (kind_among text.types g.declared)) global.passes in
       let z = any_at (is_named x.name) (listed_names g.names) facts.0 in
       let keep = retention_of_globals block.one.qualifier in

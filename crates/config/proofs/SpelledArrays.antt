@@ -20,13 +20,13 @@ use Rattle.st_rules.specs.DeclaredTypes.{declarings_of_block, declarings_of_glob
 use Rattle.st_rules.specs.DeclaredTypes.{declarings_in, array_of_definition, array_of_type, named_arrays_of_element}
 use Rattle.st_rules.specs.DeclaredTypes.{arrays_in}
 use Rattle.std.proofs.lemmas.List.Folds.{list_all-append}
-use Rattle.layout.proofs.ListLemmas.{both, both_are}
 use Rattle.config.specs.PlainDeclarations.{is_short, is_type_word, is_plain_number, is_plain_simple, is_plain_array}
 use Rattle.config.specs.PlainDeclarations.{is_plain_type, is_plain_field, is_plain_definition, is_word, are_words}
 use Rattle.config.specs.PlainDeclarations.{is_plain_type_declaration, is_plain_declaration, is_plain_block}
 use Rattle.config.specs.PlainDeclarations.{is_plain_unit, is_plain_global, is_plain_globals, is_plain_resource}
 use Rattle.config.specs.PlainDeclarations.{is_plain_element, is_plain}
 use Rattle.config.specs.Spelled.{IsKeyword, AreSpelledArrays}
+use Rattle.std.proofs.lemmas.Bool.{and_parts, and_from}
 
 -- no enumerated type before a `#`
 pub keyword_is : (o : Option Kind) → is_type_word o ≡ true → IsKeyword o
@@ -48,7 +48,7 @@ keyword_is (Some Boolean) h = tt
 keyword_is (Some (Enumerated names number)) h = absurd (cc)
 
 pub number_keyword : (n : Number) → is_plain_number n ≡ true → IsKeyword n.written
-number_keyword n h = keyword_is n.written (both (is_short n.magnitude) (is_type_word n.written) h).1
+number_keyword n h = keyword_is n.written (and_parts (is_short n.magnitude) (is_type_word n.written) h).1
 
 -- lists of arrays
 joined : (xs ys : List ArrayType) → AreSpelledArrays xs → AreSpelledArrays ys → AreSpelledArrays (xs ++ ys)
@@ -59,13 +59,13 @@ each : {A : Type 0} (p : A → Bool) (f : A → List ArrayType) → ((x : A) →
     → (xs : List A) → list_all p xs ≡ true → AreSpelledArrays (flat_map f xs)
 each p f one [] h = tt
 each p f one (x ∷ xs) h =
-    let b = both (p x) (list_all p xs) h in
+    let b = and_parts (p x) (list_all p xs) h in
     joined (f x) (flat_map f xs) (one x b.0) (each p f one xs b.1)
 
 array_spelled : (a : ArrayType) → is_plain_array a ≡ true → AreSpelledArrays (a ∷ [])
 array_spelled a h =
-    let b = both (is_plain_number a.lower && is_plain_number a.upper) (is_plain_simple a.element) h in
-    (number_keyword a.lower (both (is_plain_number a.lower) (is_plain_number a.upper) b.0).0, tt)
+    let b = and_parts (is_plain_number a.lower && is_plain_number a.upper) (is_plain_simple a.element) h in
+    (number_keyword a.lower (and_parts (is_plain_number a.lower) (is_plain_number a.upper) b.0).0, tt)
 
 -- arrays that are types of their own
 definition_spelled : (d : TypeDefinition) → is_plain_definition d ≡ true → AreSpelledArrays (array_of_definition d)
@@ -76,7 +76,7 @@ definition_spelled (declarations.enumeration names) h = tt
 named_spelled : (x : LibraryElement) → is_plain_element x ≡ true → AreSpelledArrays (named_arrays_of_element x)
 named_spelled (sources.types ts) h =
     each is_plain_type_declaration (λ t. array_of_definition t.definition)
-    (λ t g. definition_spelled t.definition (both (is_word t.name) (is_plain_definition t.definition) g).1) ts h
+    (λ t g. definition_spelled t.definition (and_parts (is_word t.name) (is_plain_definition t.definition) g).1) ts h
 named_spelled (sources.unit u) h = tt
 named_spelled (sources.configuration c) h = tt
 
@@ -91,29 +91,29 @@ is_plain_declaring d = is_plain_type d.declared
 all_joined : (xs ys : List Declaring) → list_all is_plain_declaring xs ≡ true → list_all is_plain_declaring ys ≡ true
     → list_all is_plain_declaring (xs ++ ys) ≡ true
 all_joined xs ys h g = list_all-append is_plain_declaring xs ys
-    ∙ both_are (list_all is_plain_declaring xs) (list_all is_plain_declaring ys) h g
+    ∙ and_from (list_all is_plain_declaring xs) (list_all is_plain_declaring ys) h g
 
 all_each : {A : Type 0} (p : A → Bool) (f : A → List Declaring)
     → ((x : A) → p x ≡ true → list_all is_plain_declaring (f x) ≡ true)
     → (xs : List A) → list_all p xs ≡ true → list_all is_plain_declaring (flat_map f xs) ≡ true
 all_each p f one [] h = refl
 all_each p f one (x ∷ xs) h =
-    let b = both (p x) (list_all p xs) h in
+    let b = and_parts (p x) (list_all p xs) h in
     all_joined (f x) (flat_map f xs) (one x b.0) (all_each p f one xs b.1)
 
 all_mapped : {A : Type 0} (p : A → Bool) (f : A → Declaring) → ((x : A) → p x ≡ true → is_plain_declaring (f x) ≡ true)
     → (xs : List A) → list_all p xs ≡ true → list_all is_plain_declaring (map f xs) ≡ true
 all_mapped p f one [] h = refl
 all_mapped p f one (x ∷ xs) h =
-    let b = both (p x) (list_all p xs) h in
-    both_are (is_plain_declaring (f x)) (list_all is_plain_declaring (map f xs)) (one x b.0) (all_mapped p f one xs b.1)
+    let b = and_parts (p x) (list_all p xs) h in
+    and_from (is_plain_declaring (f x)) (list_all is_plain_declaring (map f xs)) (one x b.0) (all_mapped p f one xs b.1)
 
 fields_plain : (d : TypeDefinition) → is_plain_definition d ≡ true
     → list_all is_plain_declaring (declarings_of_definition d) ≡ true
 fields_plain (declarations.array a) h = refl
 fields_plain (declarations.structure fields) h =
     all_mapped is_plain_field (λ f. record { role = field; declared = f.declared; initial = f.initial })
-    (λ f g. (both (is_word f.name) (is_plain_type f.declared) g).1) fields h
+    (λ f g. (and_parts (is_word f.name) (is_plain_type f.declared) g).1) fields h
 fields_plain (declarations.enumeration names) h = refl
 
 block_plain : (sort : UnitSort) (b : VariableBlock) → is_plain_block b ≡ true
@@ -121,25 +121,25 @@ block_plain : (sort : UnitSort) (b : VariableBlock) → is_plain_block b ≡ tru
 block_plain sort b h =
     all_mapped is_plain_declaration
     (λ d. record { role = variable_of sort b.section; declared = d.declared; initial = d.initial })
-    (λ d g. (both (list_all is_word d.names) (is_plain_type d.declared) g).1) b.declarations h
+    (λ d g. (and_parts (list_all is_word d.names) (is_plain_type d.declared) g).1) b.declarations h
 
 globals_plain : (b : GlobalBlock) → is_plain_globals b ≡ true
     → list_all is_plain_declaring (declarings_of_globals b) ≡ true
 globals_plain b h =
     all_mapped is_plain_global (λ d. record { role = global; declared = d.declared; initial = d.initial })
-    (λ d g. (both (are_words d.names) (is_plain_type d.declared) g).1) b.declarations h
+    (λ d g. (and_parts (are_words d.names) (is_plain_type d.declared) g).1) b.declarations h
 
 element_plain : (x : LibraryElement) → is_plain_element x ≡ true
     → list_all is_plain_declaring (declarings_of_element x) ≡ true
 element_plain (sources.types ts) h =
     all_each is_plain_type_declaration (λ t. declarings_of_definition t.definition)
-    (λ t g. fields_plain t.definition (both (is_word t.name) (is_plain_definition t.definition) g).1) ts h
+    (λ t g. fields_plain t.definition (and_parts (is_word t.name) (is_plain_definition t.definition) g).1) ts h
 element_plain (sources.unit u) h =
     all_each is_plain_block (declarings_of_block u.sort) (block_plain u.sort) u.blocks
-    (both (is_word u.name) (list_all is_plain_block u.blocks) h).1
+    (and_parts (is_word u.name) (list_all is_plain_block u.blocks) h).1
 element_plain (sources.configuration c) h =
     all_each is_plain_globals declarings_of_globals globals_plain c.globals
-    (both (list_all is_plain_globals c.globals) (list_all is_plain_resource c.resources) h).0
+    (and_parts (list_all is_plain_globals c.globals) (list_all is_plain_resource c.resources) h).0
 
 pub arrays_spelled : (source : Source) → is_plain source ≡ true → AreSpelledArrays (arrays_in source)
 arrays_spelled source h =

@@ -1,9 +1,9 @@
--- Of plain tokens the grammar makes bodies whose literals are as it gives them.
+-- From plain tokens the grammar makes bodies whose literals are as it gives them.
 use Rattle.std.proofs.Common.{◌≡◌, refl, sym, ap, subst, ℕ, pos, ◌^◌, ◌<◌, true, ◌&&◌, List, [], ◌∷◌, Option, Some}
 use Rattle.std.proofs.Common.{None, arith}
 use Rattle.std.specs.Prelude.{nat_lt}
 use Rattle.std.specs.List.{list_all}
-use Rattle.std.proofs.lemmas.Bool.{ltb-true}
+use Rattle.std.proofs.lemmas.Bool.{ltb-true, and_parts}
 use Rattle.std.proofs.lemmas.Int.{ints}
 use Rattle.st_types.specs.declared.kind.Kind.TheVariants.{Time}
 use Rattle.st_types.specs.declared.literal.Literal.{Literal}
@@ -39,7 +39,6 @@ use Rattle.st_parse.specs.Units as u
 use Rattle.st_parse.specs.Units.{IsUnit, IsFunctionSection, IsDeclaration}
 use Rattle.st_parse.specs.Sources as r
 use Rattle.st_parse.specs.Sources.{IsLibraryElement, IsSource}
-use Rattle.layout.proofs.ListLemmas.{both, some_is}
 use Rattle.st_link.proofs.RangeLemmas.{in_held}
 use Rattle.config.specs.Texts.{IsTextOf}
 use Rattle.config.specs.PlainDeclarations.{is_plain_number, is_plain_block}
@@ -54,6 +53,7 @@ use Rattle.config.specs.Spelled.{IsAny, IsSpelledLiteral, IsSpelledLabel, AreSpe
 use Rattle.config.specs.Spelled.{ExprsOf, VariableOf, SelectorsOf, StepOf, ArgumentsOf, StmtOf, StmtsOf, ArmsOf}
 use Rattle.config.specs.Spelled.{CaseArmsOf}
 use Rattle.config.proofs.SpelledArrays.{number_keyword}
+use Rattle.st_types.proofs.OptionLemmas.{some_is}
 
 -- literals
 time_holds : (d : ℕ) → nat_lt d (2 ^ 63) ≡ true → holds Time (pos d) ≡ true
@@ -75,7 +75,7 @@ literal_spelled_in (kinds.Address k) at l q h = absurd (cc)
 
 literal_spelled : {ts us : Tokens} {l : Literal} → Is literal ts l us → ArePlain ts → IsSpelledLiteral l
 literal_spelled {l = l} (is {t = t} {us = us} q) h =
-    literal_spelled_in t.kind t.start l q (both (is_plain_kind t.kind) (list_all is_plain_token us) h).0
+    literal_spelled_in t.kind t.start l q (and_parts (is_plain_kind t.kind) (list_all is_plain_token us) h).0
 
 abbrev Any : Expr → Type 0
 Any = ExprOf IsAny
@@ -123,7 +123,7 @@ mutual
       let behind = token_rest c.1 h in
       (expr_spelled i behind, more_arguments_spelled rest (expr_rest i behind))
 
--- what calls of blocks are given
+-- the arguments of calls of blocks
 argument_spelled : {ts us : Tokens} {a : Argument} (rest : List Argument) → IsArgument ts a us → ArePlain ts
     → ArgumentsOf IsAny rest → ArgumentsOf IsAny (a ∷ rest)
 argument_spelled rest (given x v n o i q) h more =

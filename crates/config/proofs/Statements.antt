@@ -38,14 +38,13 @@ use Rattle.st_rules.specs.Typings.{kind_of, settled, typing_of, typing_of_type}
 use Rattle.st_rules.proofs.TypingLaws.{kind_of_declared}
 use Rattle.st_link.specs.Soundness.{AreKnown}
 use Rattle.st_link.specs.StatementSoundness.{BodyRight}
-use Rattle.st_link.proofs.Alikes.{front_empty, back_empty}
 use Rattle.st_link.proofs.AssignmentLaw.{nodes_right}
 use Rattle.st_link.proofs.StatementParts.{statement_right, body_split, first_right, RootsRight, roots_right, first_root}
 use Rattle.st_link.proofs.TextParts.{invoked}
 use Rattle.st_link.proofs.ValueLaw.{inside}
 use Rattle.slot_trees.specs.Tables.{Table}
 use Rattle.machine_code.specs.Fitting.{UnitCall}
-use Rattle.machine_code.specs.Sites.{Site}
+use Rattle.machine_code.specs.UnitFrames.{UnitFrame}
 use Rattle.config.specs.Sound.{ExprSound, VariableSound, StepSound, ArgumentsSound, StmtSound, StmtsSound}
 use Rattle.config.specs.Sound.{ArmsSound}
 use Rattle.config.specs.Sound.{CaseArmsSound}
@@ -54,6 +53,7 @@ use Rattle.config.specs.Spelled.{HaveFewNames, ExprOf, VariableOf, StepOf, Argum
 use Rattle.config.specs.Spelled.{CaseArmsOf}
 use Rattle.config.proofs.Expressions.{expr_sound, selectors_sound}
 use Rattle.config.proofs.LiteralLemmas.{labels_right}
+use Rattle.st_types.proofs.ListLemmas.{append_first, append_second}
 
 demanded : (ty : Typing) → expected_of (demand_of_typing ty) ≡ kind_of ty
 demanded untyped = refl
@@ -70,10 +70,10 @@ cases_right env c x h =
     let v = wrong_invocation env x in
     let k = wrong_case env x in
     let f = wrong_for env c x in
-    let to_control = front_empty ((((n ++ t) ++ v) ++ k) ++ f) (wrong_exit c.in_loop x) h in
-    back_empty ((n ++ t) ++ v) k (front_empty (((n ++ t) ++ v) ++ k) f to_control)
+    let to_control = append_first ((((n ++ t) ++ v) ++ k) ++ f) (wrong_exit c.in_loop x) h in
+    append_second ((n ++ t) ++ v) k (append_first (((n ++ t) ++ v) ++ k) f to_control)
 
-module _ (C : UnitCall → Type 0) (s : Site) (env : Environment) (t : Table) (known : AreKnown env)
+module _ (C : UnitCall → Type 0) (s : UnitFrame) (env : Environment) (t : Table) (known : AreKnown env)
     (few : HaveFewNames (enumerations_of env.text.types)) (instances : AreInvocable C s env t) where
   -- an expression at a place of a declared type
   demanded_sound : (o : Option VariableType) (e : Expr) → wrong_expression env (demand_of_type env o) e ≡ []
@@ -119,9 +119,9 @@ module _ (C : UnitCall → Type 0) (s : Site) (env : Environment) (t : Table) (k
       let others = flat_map (nodes_of_place env) (targets_of_arguments rest) in
       let split : flat_map (wrong_node env) nodes ++ flat_map (wrong_node env) others ≡ [] =
       sym (flat_map-append (wrong_node env) nodes others) ∙ parts in (
-        variable_sound v (front_empty (flat_map (wrong_node env) nodes) (flat_map (wrong_node env) others) split) of.0,
+        variable_sound v (append_first (flat_map (wrong_node env) nodes) (flat_map (wrong_node env) others) split) of.0,
         arguments_sound x rest roots
-            (back_empty (flat_map (wrong_node env) nodes) (flat_map (wrong_node env) others) split) of.1,
+            (append_second (flat_map (wrong_node env) nodes) (flat_map (wrong_node env) others) split) of.1,
       )
 
   call_sound : (c : Context) (x : Identifier) (arguments : List Argument)
@@ -137,8 +137,8 @@ module _ (C : UnitCall → Type 0) (s : Site) (env : Environment) (t : Table) (k
       sym (flat_map-append (wrong_node env) roots parts) ∙ right.nodes in (
         instances x.name call.block call.named call.is,
         arguments_sound x arguments
-            (front_empty (flat_map (wrong_node env) roots) (flat_map (wrong_node env) parts) split)
-            (back_empty (flat_map (wrong_node env) roots) (flat_map (wrong_node env) parts) split) of,
+            (append_first (flat_map (wrong_node env) roots) (flat_map (wrong_node env) parts) split)
+            (append_second (flat_map (wrong_node env) roots) (flat_map (wrong_node env) parts) split) of,
       )
 
   -- a loop with a control variable
@@ -156,13 +156,13 @@ module _ (C : UnitCall → Type 0) (s : Site) (env : Environment) (t : Table) (k
       let both = sym (flat_map-append (wrong_label env.text q) ls (labels_of arms)) ∙ h in
       let one = flat_map (wrong_label env.text q) ls in
       let two = flat_map (wrong_label env.text q) (labels_of arms) in
-      (front_empty one two both, back_empty one two both)
+      (append_first one two both, append_second one two both)
 
   case_labels : (e : Expr) (arms : CaseArms) (otherwise : Stmts) → wrong_case env (text.CASE e arms otherwise) ≡ []
       → flat_map (wrong_label env.text (kind_of (settled None (typing_of env e)))) (labels_of arms) ≡ []
   case_labels e arms otherwise h =
       let q = kind_of (settled None (typing_of env e)) in
-      front_empty (flat_map (wrong_label env.text q) (labels_of arms))
+      append_first (flat_map (wrong_label env.text q) (labels_of arms))
       (breaking WrongLabel (wrong_spans (spans_of env.text q (labels_of arms)))) h
 
   mutual

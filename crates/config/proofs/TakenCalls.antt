@@ -1,4 +1,4 @@
--- A unit calls the same functions where its literals have their types.
+-- A unit calls the same functions if its literals have their types.
 use Rattle.std.proofs.Common.{◌≡◌, refl, sym, ap, ap₂, ◌∙◌, List, []}
 use Rattle.std.proofs.Common.{◌∷◌, ◌++◌, map, Option, Some, None, option_map}
 use Rattle.std.specs.List.{flat_map}

@@ -12,7 +12,8 @@ use Rattle.st_meaning.specs.declared.plan.PlanVariable.{PlanVariable}
 use Rattle.plan.specs.declared.task.Task.{Task}
 use Rattle.plan.specs.Sound.{tasks_of}
 use Rattle.config.specs.Tasks.{task_at, tasks_from}
-use Rattle.config.proofs.ListLemmas.{both_are, all_append}
+use Rattle.std.proofs.lemmas.Bool.{and_from}
+use Rattle.st_types.proofs.ListLemmas.{all_append}
 
 count_both : (q : ℕ) (xs ys : List Task) → tasks_of q (xs ++ ys) ≡ tasks_of q xs + tasks_of q ys
 count_both q [] ys = let e : 0 + tasks_of q ys ≡ tasks_of q ys = omega arith in sym e
@@ -36,7 +37,7 @@ module _ (vs : List PlanVariable) (is : List PlanInput) where
   apart : (q number : ℕ) → q < number → (number == q) ≡ false
   apart q number lt = grind (arith, nat_tests)
 
-  -- those behind a resource are none of its
+  -- those after a resource don't belong to it
   none_before : (q number : ℕ) (rs : List Resource) → q < number → tasks_of q (tasks_from vs is number rs) ≡ 0
   none_before q number [] lt = refl
   none_before q number (r ∷ rs) lt =
@@ -77,7 +78,7 @@ module _ (vs : List PlanVariable) (is : List PlanInput) where
   all_few tasks (t ∷ ts) few =
       let n = few t.resource in
       let le : nat_le (tasks_of t.resource tasks) MAX_TASKS ≡ true = grind (arith, nat_tests) in
-      both_are (nat_le (tasks_of t.resource tasks) MAX_TASKS)
+      and_from (nat_le (tasks_of t.resource tasks) MAX_TASKS)
       (list_all (λ u. nat_le (tasks_of u.resource tasks) MAX_TASKS) ts) le (all_few tasks ts few)
 
   pub tasks_are_few : (rs : List Resource) → list_any (λ r. nat_lt MAX_TASKS (length r.tasks)) rs ≡ false
@@ -85,13 +86,13 @@ module _ (vs : List PlanVariable) (is : List PlanInput) where
   tasks_are_few rs few =
       all_few (tasks_from vs is 0 rs) (tasks_from vs is 0 rs) (λ q. few_each q 0 rs few)
 
-  -- each is of a resource that is there
+  -- each belongs to a resource of the list
   of_own : (number limit : ℕ) → number < limit → (ts : List declared_task.Task)
       → list_all (λ t. nat_lt t.resource limit) (map (task_at vs is number) ts) ≡ true
   of_own number limit lt [] = refl
   of_own number limit lt (t ∷ ts) =
       let l : nat_lt number limit ≡ true = grind (arith, nat_tests) in
-      both_are (nat_lt number limit) (list_all (λ u. nat_lt u.resource limit) (map (task_at vs is number) ts)) l
+      and_from (nat_lt number limit) (list_all (λ u. nat_lt u.resource limit) (map (task_at vs is number) ts)) l
       (of_own number limit lt ts)
 
   pub resources_there : (number limit : ℕ) (rs : List Resource) → number + length rs ≤ limit

@@ -6,25 +6,23 @@ use Rattle.std.proofs.lemmas.List.{length-append}
 use Rattle.st_types.specs.Values.{Datum}
 use Rattle.st_types.specs.declared.fault.Fault.{Fault}
 use Rattle.st_types.specs.Sources.{Source}
-use Rattle.st_meaning.specs.Failures.{StandIns}
+use Rattle.st_meaning.specs.Failures.{StuckFaults}
 use Rattle.st_meaning.specs.Loops.{End}
-use Rattle.slot_trees.specs.Alike.{EndAlike}
+use Rattle.slot_trees.specs.Alike.{EndEqually}
 use Rattle.slot_trees.specs.SlotExecution.{SlotEnd}
 use Rattle.slot_trees.specs.SlotTrees.{SlotStmts}
 use Rattle.slot_trees.specs.TextLinks.{LinkedText, linked_source}
 use Rattle.machine_code.specs.Memories.{plain}
 use Rattle.machine_code.specs.Machine.{Ending, finished, failed, runs}
 use Rattle.machine_code.specs.Asking.{FailsWith}
-use Rattle.machine_code.specs.Programs.{program_code, ProgramFits, EndsSo}
+use Rattle.machine_code.specs.Programs.{program_code, ProgramFits, MachineEndsAs}
 use Rattle.slot_code.specs.Codes.{CodeView}
 use Rattle.slot_code.specs.Meanings.{code_run_where}
 use Rattle.config.specs.ProgramCodes.{IsCodeOf}
-
-same_value : {A : Type 0} (a b : A) → Some a ≡ Some b → a ≡ b
-same_value a b e = cc
+use Rattle.std.proofs.lemmas.Option.{same_Some}
 
 -- the run of the code is that of the linked body's
-pub same_run : (t : StandIns) (code : CodeView) (linked : LinkedText) (body : SlotStmts) (depth now n : ℕ)
+pub same_run : (t : StuckFaults) (code : CodeView) (linked : LinkedText) (body : SlotStmts) (depth now n : ℕ)
     (vs rest : List Datum) (budget : ℕ) → code.instrs ≡ program_code linked.library 0 n body depth → n ≡ length vs
     → (let xs = program_code linked.library 0 (length vs) body depth in
     runs plain t now xs (length xs) [] (vs ++ rest) budget) ≡ code_run_where t code now (vs ++ rest) budget
@@ -48,13 +46,13 @@ pub code_here : (source : Source) (n depth : ℕ) (linked linked' : LinkedText) 
     → slice_get linked.programs n ≡ Some body → slice_get linked'.programs n ≡ Some body'
     → IsCodeOf source linked body depth code → IsCodeOf source linked' body' depth code
 code_here source n depth linked linked' body body' code is is' there there' of =
-    let l = same_value _ _ (sym is ∙ is') in
-    let b = same_value _ _ (sym there ∙ ap (λ (x : LinkedText). slice_get x.programs n) l ∙ there') in
+    let l = same_Some _ _ (sym is ∙ is') in
+    let b = same_Some _ _ (sym there ∙ ap (λ (x : LinkedText). slice_get x.programs n) l ∙ there') in
     subst (λ x. IsCodeOf source linked' x depth code) b (subst (λ x. IsCodeOf source x body depth code) l of)
 
--- ends that are alike fail alike
+-- if the ends are equal, so are the faults
 pub fails_so : (size : ℕ) (R : End → SlotEnd → Type 0) (x : Result (End × ℕ) Fault) (y : Result (SlotEnd × ℕ) Fault)
-    (e : Ending (List Datum)) (f : Fault) → EndAlike R x y → EndsSo size y e → FailsWith f e → x ≡ Err f
+    (e : Ending (List Datum)) (f : Fault) → EndEqually R x y → MachineEndsAs size y e → FailsWith f e → x ≡ Err f
 fails_so size R (Err a) (Err b) (failed m g) f same ends fails = ap Err (same ∙ sym ends ∙ fails)
 fails_so size R (Ok a) (Ok b) (failed m g) f same ends fails = absurd ends
 fails_so size R (Ok a) (Err b) e f same ends fails = absurd same

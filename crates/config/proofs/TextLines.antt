@@ -16,21 +16,17 @@ use Rattle.st_meaning.specs.Layouts.{variable_slot, path_text}
 use Rattle.layout.specs.LayoutVariables.{configurations_in, only_configuration, variables_of_configuration}
 use Rattle.layout.specs.TextLayouts.{slots_of, slots_of_text, variable_slots, plan_variables_of_text}
 use Rattle.layout.specs.TextLayouts.{enumerations_of_text}
-use Rattle.layout.proofs.ListLemmas.{both, both_are}
-use Rattle.layout.proofs.ResolvedLemmas.{map_map}
-use Rattle.plan.specs.Sound.{are_different, has_spelling, has_line}
+use Rattle.plan.specs.Sound.{has_spelling, has_line}
 use Rattle.config.specs.PlainDeclarations.{is_plain}
 use Rattle.config.specs.WordPaths.{is_word_path}
 use Rattle.config.proofs.PlainPaths.{is_plain_slot, layout_plain}
 use Rattle.config.proofs.ApartTexts.{layout_apart, filtered_apart}
-use Rattle.config.proofs.EnumerationNames.{nothing_joined, enumeration_spelled, sound_names}
+use Rattle.config.proofs.EnumerationNames.{enumeration_spelled, sound_names}
 use Rattle.config.proofs.ResolvedNames.{names_taken}
 use Rattle.config.proofs.Lines.{elementary_spelled, variable_lines}
-
--- no enumerated type has too many names
-none_mapped : {A B : Type 0} (f : A → B) (xs : List A) → map f xs ≡ [] → xs ≡ []
-none_mapped f [] h = refl
-none_mapped f (x ∷ xs) h = absurd (cc)
+use Rattle.st_types.proofs.ListLemmas.{append_parts, map_map, none_mapped}
+use Rattle.std.proofs.lemmas.Bool.{and_parts, and_from}
+use Rattle.layout.specs.Names.{are_different}
 
 no_surplus : (source : Source) → IsWellTyped source → flat_map surplus_name (enumerations_in source) ≡ []
 no_surplus source h =
@@ -41,15 +37,15 @@ no_surplus source h =
     let results = flat_map (wrong_result text) (results_in source) in
     let bounds = flat_map wrong_bound_numbers (arrays_in source) in
     let priorities = breaking OutOfRange (flat_map wrong_priorities_of source) in
-    let a = nothing_joined ((wrong_declarations source ++ wrong_types source) ++ wrong_starts source)
+    let a = append_parts ((wrong_declarations source ++ wrong_types source) ++ wrong_starts source)
     (wrong_bodies source) h in
-    let b = nothing_joined (wrong_declarations source ++ wrong_types source) (wrong_starts source) a.0 in
-    let c = nothing_joined (wrong_declarations source) (wrong_types source) b.0 in
-    let d = nothing_joined ((((names ++ declarings) ++ elements) ++ results) ++ bounds) priorities c.1 in
-    let e = nothing_joined (((names ++ declarings) ++ elements) ++ results) bounds d.0 in
-    let f = nothing_joined ((names ++ declarings) ++ elements) results e.0 in
-    let g = nothing_joined (names ++ declarings) elements f.0 in
-    let i = nothing_joined names declarings g.0 in
+    let b = append_parts (wrong_declarations source ++ wrong_types source) (wrong_starts source) a.0 in
+    let c = append_parts (wrong_declarations source) (wrong_types source) b.0 in
+    let d = append_parts ((((names ++ declarings) ++ elements) ++ results) ++ bounds) priorities c.1 in
+    let e = append_parts (((names ++ declarings) ++ elements) ++ results) bounds d.0 in
+    let f = append_parts ((names ++ declarings) ++ elements) results e.0 in
+    let g = append_parts (names ++ declarings) elements f.0 in
+    let i = append_parts names declarings g.0 in
     none_mapped (λ p. record { rule = TooManyNames; place = p }) (flat_map surplus_name (enumerations_in source)) i.0
 
 -- the layout of a text as it is parsed
@@ -61,11 +57,11 @@ words_of : (good : Kind → Bool) (ls : List Slot) → list_all (is_plain_slot g
     → list_all (λ l. is_word_path l.path) ls ≡ true
 words_of good [] h = refl
 words_of good (l ∷ ls) h =
-    let b = both (is_plain_slot good l) (list_all (is_plain_slot good) ls) h in
-    both_are (is_word_path l.path) (list_all (λ l. is_word_path l.path) ls)
-    (both (is_word_path l.path) (good l.kind) b.0).0 (words_of good ls b.1)
+    let b = and_parts (is_plain_slot good l) (list_all (is_plain_slot good) ls) h in
+    and_from (is_word_path l.path) (list_all (λ l. is_word_path l.path) ls)
+    (and_parts (is_word_path l.path) (good l.kind) b.0).0 (words_of good ls b.1)
 
--- what the laws of layouts say of its slots
+-- the laws of layouts about its slots
 pub record HasSlots (source : Source) : Type 0 where
   pub parsed : slots_of_text source ≡ parsed_slots source
   pub variables : map variable_slot (plan_variables_of_text source) ≡ variable_slots (slots_of_text source)

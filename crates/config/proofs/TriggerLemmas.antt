@@ -1,4 +1,4 @@
--- What makes tasks due, where SINGLE is known.
+-- The triggers of tasks whose SINGLE is known.
 use Rattle.std.proofs.Common.{◌≡◌, ◌+◌, ◌<◌, ℕ, zero, suc, refl, sym, ap, ap₂, ◌∙◌, arith, Bool, true, false}
 use Rattle.std.proofs.Common.{if◌then◌else◌, List, [], ◌∷◌, ◌++◌, map, length, slice_get, Option, Some, None, option_map}
 use Rattle.std.specs.Prelude.{position}
@@ -20,9 +20,14 @@ use Rattle.plan.specs.PlanViews.{single_of as single_view, trigger_view, task_vi
 use Rattle.plan.specs.Sound.{is_boolean_input, is_boolean_variable, is_sound_trigger}
 use Rattle.config.specs.Tasks.{input_number, variable_number, trigger_by, trigger_at, task_at, tasks_from}
 use Rattle.config.specs.TextPlans.{single_named, single_of, task_of}
-use Rattle.config.proofs.ListLemmas.{some_is, both_are, all_append, map_append, get_map}
-use Rattle.config.proofs.ListLemmas.{get_left, get_right, mapped, position_step}
+use Rattle.config.proofs.ListLemmas.{get_right, mapped}
 use Rattle.config.proofs.LayoutLemmas.{found}
+use Rattle.st_types.proofs.OptionLemmas.{some_is}
+use Rattle.std.proofs.lemmas.Bool.{and_from}
+use Rattle.st_types.proofs.ListLemmas.{all_append, get_first}
+use Rattle.std.proofs.lemmas.List.{map-append}
+use Rattle.std.proofs.lemmas.Option.{slice_get-map}
+use Rattle.layout.proofs.Positions.{position_step}
 
 -- ---- positions are slots
 
@@ -68,7 +73,7 @@ found_in_both (x ∷ xs) ys p =
 
 -- ---- a BOOL among variables and inputs
 
--- a BOOL of this path stands among the slots
+-- a BOOL of this path is among the slots
 pub record IsBoolean (vs : List PlanVariable) (is : List PlanInput) (x : Name) : Type 0 where
   pub number : ℕ
   pub slot : Slot
@@ -102,10 +107,10 @@ module _ (vs : List PlanVariable) (is : List PlanInput) (once : IsLayout (layout
   of_variable : (k : ℕ) → slot_of ls p ≡ Some k → slot_of ms p ≡ None → IsKnown vs is x
   of_variable k e none =
       let f = found ls p k e in
-      let v = mapped variable_slot (slice_get vs k) f.slot (sym (get_map variable_slot vs k) ∙ f.at) in
+      let v = mapped variable_slot (slice_get vs k) f.slot (sym (slice_get-map variable_slot vs k) ∙ f.at) in
       let n : k ≡ known.number = some_is (sym (ap (λ o. in_both (length ls) o (slot_of ms p)) e) ∙ parts) in
       let here : slice_get (layout_of vs is) known.number ≡ Some f.slot =
-      ap (slice_get (layout_of vs is)) (sym n) ∙ get_left ls ms k f.slot f.at in
+      ap (slice_get (layout_of vs is)) (sym n) ∙ get_first ls ms k f.slot f.at in
       let same : f.slot ≡ known.slot = some_is (sym here ∙ known.at) in
       let kind : v.0.initial.kind ≡ Boolean = ap (λ s. s.kind) v.2 ∙ ap (λ s. s.kind) same ∙ known.kind in
       let path : v.0.path ≡ p = ap (λ s. s.path) v.2 ∙ sym f.path in
@@ -122,7 +127,7 @@ module _ (vs : List PlanVariable) (is : List PlanInput) (once : IsLayout (layout
   of_input : (k : ℕ) → slot_of ls p ≡ None → slot_of ms p ≡ Some k → IsKnown vs is x
   of_input k none e =
       let f = found ms p k e in
-      let v = mapped input_slot (slice_get is k) f.slot (sym (get_map input_slot is k) ∙ f.at) in
+      let v = mapped input_slot (slice_get is k) f.slot (sym (slice_get-map input_slot is k) ∙ f.at) in
       let n : length ls + k ≡ known.number =
       some_is (sym (ap₂ (λ a b. in_both (length ls) a b) none e) ∙ parts) in
       let here : slice_get (layout_of vs is) known.number ≡ Some f.slot =
@@ -137,7 +142,7 @@ module _ (vs : List PlanVariable) (is : List PlanInput) (once : IsLayout (layout
             ∙ sym (ap (λ a. single_named a x) i);
       }
 
-  -- what is an input is no variable
+  -- an input isn't a variable
   not_both : (k j : ℕ) → slot_of ls p ≡ Some k → slot_of ms p ≡ Some j → ⊥
   not_both k j e g =
       let f = found ms p j g in
@@ -197,7 +202,7 @@ module _ (vs : List PlanVariable) (is : List PlanInput) (once : IsLayout (layout
       → list_all (λ t. is_sound_trigger vs is t.single) (map (task_at vs is number) ts) ≡ true
   own_sound number [] h = refl
   own_sound number (t ∷ ts) h =
-      both_are (is_sound_trigger vs is (trigger_at vs is t.single))
+      and_from (is_sound_trigger vs is (trigger_at vs is t.single))
       (list_all (λ u. is_sound_trigger vs is u.single) (map (task_at vs is number) ts)) (sound_single t.single h.0)
       (own_sound number ts h.1)
 
@@ -224,6 +229,6 @@ module _ (vs : List PlanVariable) (is : List PlanInput) (once : IsLayout (layout
       → map (task_view vs) (tasks_from vs is number rs) ≡ map (task_of is) (flat_map (λ r. r.tasks) rs)
   tasks_viewed number [] h = refl
   tasks_viewed number (r ∷ rs) h =
-      map_append (task_view vs) (map (task_at vs is number) r.tasks) (tasks_from vs is (suc number) rs)
+      map-append (task_view vs) (map (task_at vs is number) r.tasks) (tasks_from vs is (suc number) rs)
       ∙ ap₂ (λ (xs ys : List plans.Task). xs ++ ys) (own_viewed number r.tasks h.0) (tasks_viewed (suc number) rs h.1)
-      ∙ sym (map_append (task_of is) r.tasks (flat_map (λ q. q.tasks) rs))
+      ∙ sym (map-append (task_of is) r.tasks (flat_map (λ q. q.tasks) rs))

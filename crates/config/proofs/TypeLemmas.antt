@@ -1,4 +1,4 @@
--- Types that are one, a level at a time.
+-- Types that are the same, a level at a time.
 use Rattle.std.proofs.Common.{◌≡◌, ◌<◌, ◌-◌, ℕ, zero, suc, refl, sym, ap, ◌∙◌, arith, Bool, true, false, ◌&&◌}
 use Rattle.std.proofs.Common.{Option, Some, None}
 use Rattle.st_types.specs.declared.data_type.ArrayType.{ArrayType}
@@ -9,19 +9,13 @@ use Rattle.st_types.specs.Declarations.{TypeDefinition, array, structure, enumer
 use Rattle.st_meaning.specs.NameTypes.{Declared, definition_of}
 use Rattle.st_rules.specs.ConfigurationRules.{same_bounds, same_over, same_within}
 use Rattle.config.specs.SameTypes.{array_in, same_plain}
-
-some_same : {A : Type 0} (x y : A) → Some x ≡ Some y → x ≡ y
-some_same {A = A} x y h = ap (or_else x) h
-  where
-    or_else : A → Option A → A
-    or_else d (Some z) = z
-    or_else d None = d
+use Rattle.std.proofs.lemmas.Option.{same_Some}
 
 module _ (same : SimpleType → SimpleType → Bool) where
   over_arrays : (d e : Option TypeDefinition) (t u : VariableType) (a b : ArrayType) → array_in d ≡ Some a
       → array_in e ≡ Some b → same_over same d e t u ≡ (same_bounds a b && same a.element b.element)
   over_arrays (Some (array x)) (Some (array y)) t u a b f g =
-      let p = some_same x a f in let q = some_same y b g in rw (p, q) refl
+      let p = same_Some x a f in let q = same_Some y b g in rw (p, q) refl
   over_arrays (Some (array x)) (Some (structure fields)) t u a b f g = absurd (cc)
   over_arrays (Some (array x)) (Some (enumeration names)) t u a b f g = absurd (cc)
   over_arrays (Some (array x)) None t u a b f g = absurd (cc)

@@ -13,17 +13,16 @@ use Rattle.st_meaning.specs.Scopes.{path_in, own_path, unowned}
 use Rattle.st_meaning.specs.Slots.{Slot}
 use Rattle.st_meaning.specs.StandardBlocks.{StandardBlock, BlockMember, members_of}
 use Rattle.st_meaning.specs.StandardBlocks as blocks
-use Rattle.layout.specs.Shapes.{Shape, plain, array, parts, Parts, Whole, Position, position_of, is_sound, leaves_of}
+use Rattle.layout.specs.Shapes.{Shape, plain, array, parts, Parts, PartsOwner, Position, position_of, is_sound, leaves_of}
 use Rattle.layout.specs.Shapes.{of_instance, sizes}
-use Rattle.layout.specs.Standing.{Stands, slot}
+use Rattle.layout.specs.VariableSlots.{LiesAt, slot}
 use Rattle.layout.specs.TextLayouts.{further}
 use Rattle.layout.proofs.LeafLemmas.{of_shape, length_leaves}
-use Rattle.layout.proofs.ListLemmas.{some_is}
 use Rattle.symbols.specs.Standard.{block_view}
 use Rattle.machine_code.specs.declared.instr.Instr.TheVariants.{Step}
 use Rattle.machine_code.specs.Asking.{IsOnlyLookedUp}
 use Rattle.slot_trees.specs.LinkedStatements.{control_of, plain_anchor, Instance, instance_at, instance_of_symbol}
-use Rattle.slot_trees.specs.LinkedStatements.{plain_offset, offset_of, code_of, linked_stmts}
+use Rattle.slot_trees.specs.LinkedStatements.{plain_offset, offset_of, block_code_of, linked_stmts}
 use Rattle.slot_trees.specs.LinkedTexts.{Numbers, table_of, parts_of_members, IsLibraryLink, IsProgramLink, EachInstance}
 use Rattle.slot_trees.specs.LinkedTexts.{IsBlockLink, HasBlock}
 use Rattle.slot_trees.specs.SlotEvaluation.{slot_at}
@@ -32,42 +31,33 @@ use Rattle.slot_trees.specs.SlotTrees.{SlotStmt, empty, assign, invoke, IF, CASE
 use Rattle.slot_trees.specs.SlotTrees.{SlotStmts, no_stmts, stmt_then, SlotArms, no_arms, arm_then, SlotCaseArms}
 use Rattle.slot_trees.specs.SlotTrees.{no_case_arms, case_arm_then, SlotFunction, SlotLibrary}
 use Rattle.slot_trees.specs.Tables.{Symbol, Table, symbol_of, named_in, Part, part_at}
-use Rattle.slot_trees.proofs.OptionLemmas.{not_some, then_some}
-use Rattle.slot_trees.proofs.Standings.{stands_member}
+use Rattle.slot_trees.proofs.OptionLemmas.{not_some}
+use Rattle.slot_trees.proofs.SlotLemmas.{stands_member}
 use Rattle.machine_code.specs.Calls.{called_code, body_code, instance_code, units_over, units_code}
-use Rattle.machine_code.specs.Codes.{CodeUnits, block_code, body_ways, stmts_code}
-use Rattle.machine_code.specs.declared.ways.Ways.{Ways}
+use Rattle.machine_code.specs.Codes.{CodeUnits, block_code, body_targets, stmts_code}
+use Rattle.machine_code.specs.declared.jump_targets.JumpTargets.{JumpTargets}
 use Rattle.machine_code.specs.Growing.{Code}
 use Rattle.machine_code.specs.Programs.{program_code}
-use Rattle.machine_code.specs.Sites.{Site, end_of, site_at, site_from}
+use Rattle.machine_code.specs.UnitFrames.{UnitFrame, end_of, instance_frame, call_frame}
 use Rattle.config.proofs.Taking.{unequal, Keeps, same_code, keeps_on, put, put_on}
 use Rattle.config.proofs.CodeReads.{stores_keep, resets_keep, CopiesAvoid, StmtAvoids, StmtsAvoid, ArmsAvoid}
 use Rattle.config.proofs.CodeReads.{CaseArmsAvoid, stmts_keep}
 use Rattle.config.proofs.Counters.{StmtsCount}
 use Rattle.config.proofs.KeptAway.{InstanceAvoids, stmts_avoid}
+use Rattle.config.proofs.FittingUnits.{members_long}
+use Rattle.st_types.proofs.OptionLemmas.{some_is, then_some}
+use Rattle.machine_code.proofs.Units.{block_is}
 
-block_is : (b : StandardBlock) → block_view (block_code b) ≡ b
-block_is blocks.SR = refl
-block_is blocks.RS = refl
-block_is blocks.R_TRIG = refl
-block_is blocks.F_TRIG = refl
-block_is blocks.CTU = refl
-block_is blocks.CTD = refl
-block_is blocks.CTUD = refl
-block_is blocks.TON = refl
-block_is blocks.TOF = refl
-block_is blocks.TP = refl
-
--- Units whose values stand behind the slot.
+-- Units whose values are after the slot.
 module _ (k : ℕ) where
   record FarKeep (units : CodeUnits) : Type 0 where
     functions : (f start : ℕ) → k < start → (c : Code) → Keeps k c (units.functions f start c)
-    blocks : (b : BlockCode) (s : Site) → k < s.start → (c : Code) → Keeps k c (units.blocks b s c)
+    blocks : (b : BlockCode) (s : UnitFrame) → k < s.start → (c : Code) → Keeps k c (units.blocks b s c)
 
   behind : (start n : ℕ) → k < start → start + n ≡ k → ⊥
   behind start n lt e = omega (arith, lt, e)
 
-  module _ (units : CodeUnits) (far : FarKeep units) (s : Site) (lt : k < s.start) where
+  module _ (units : CodeUnits) (far : FarKeep units) (s : UnitFrame) (lt : k < s.start) where
     far_copies : (at : ℕ) (xs : List SlotArgument) → CopiesAvoid k units s at xs
     far_copies at [] = tt
     far_copies at (given o e ∷ rest) = far_copies at rest
@@ -78,7 +68,7 @@ module _ (k : ℕ) where
       far_stmt empty = tt
       far_stmt (assign p e) = tt
       far_stmt (invoke a b xs) =
-          (far.blocks b (site_at s (slot_at s.base a)) lt, far_copies (slot_at s.base a) xs)
+          (far.blocks b (instance_frame s (slot_at s.base a)) lt, far_copies (slot_at s.base a) xs)
       far_stmt (IF arms otherwise) = (far_arms arms, far_stmts otherwise)
       far_stmt (CASE e arms otherwise) = (far_case arms, far_stmts otherwise)
       far_stmt (FOR a start limit step body) = (behind s.start (slot_at s.base a) lt, far_stmts body)
@@ -99,7 +89,7 @@ module _ (k : ℕ) where
       far_case no_case_arms = tt
       far_case (case_arm_then labels body arms) = (far_stmts body, far_case arms)
 
-    far_body : (xs : SlotStmts) (w : Ways) (c : Code) → Keeps k c (stmts_code units s xs w c)
+    far_body : (xs : SlotStmts) (w : JumpTargets) (c : Code) → Keeps k c (stmts_code units s xs w c)
     far_body xs w c = stmts_keep k units s (λ f c. far.functions f (end_of s) (omega (arith, lt)) c) xs w c (far_stmts xs)
 
   module _ (library : SlotLibrary) (units : CodeUnits) (far : FarKeep units) where
@@ -108,18 +98,18 @@ module _ (k : ℕ) where
     far_called (Some f) start lt c =
         put_on k _ refl (keeps_on k
         (keeps_on k (put k c _ (unequal (start + f.result) k (behind start f.result lt)))
-        (far_body units far (site_from start (length f.fresh)) lt f.body _ _))
+        (far_body units far (call_frame start (length f.fresh)) lt f.body _ _))
         (keeps_on k (stores_keep k start f.inputs _) (resets_keep k start f.fresh _)))
     far_called None start lt c = same_code k c
 
-    far_one : (o : Option SlotStmts) (s : Site) → k < s.start → (c : Code) → Keeps k c (body_code units o s c)
+    far_one : (o : Option SlotStmts) (s : UnitFrame) → k < s.start → (c : Code) → Keeps k c (body_code units o s c)
     far_one (Some body) s lt c = far_body units far s lt body _ c
     far_one None s lt c = same_code k c
 
     far_step : (j n : ℕ) → k < j → (nat_le j k && nat_lt k (j + n)) ≡ false
     far_step j n lt = grind (arith, nat_tests)
 
-    far_instance : (b : BlockCode) (s : Site) → k < s.start → (c : Code)
+    far_instance : (b : BlockCode) (s : UnitFrame) → k < s.start → (c : Code)
         → Keeps k c (instance_code library units b s c)
     far_instance (standard_block b) s lt c =
         put k c _ (far_step (s.start + s.base) (length (members_of (block_view (block_code b)))) (omega (arith, lt)))
@@ -149,10 +139,6 @@ there_within [] i h = absurd (omega arith)
 there_within (x ∷ xs) zero h = (x, refl)
 there_within (x ∷ xs) (suc i) h = there_within xs i (omega arith)
 
-members_long : (ms : List BlockMember) → sizes (parts_of_members ms) ≡ length ms
-members_long [] = refl
-members_long (m ∷ ms) = let rest = members_long ms in omega (arith, rest)
-
 sound_members : (b : StandardBlock) → is_sound (parts of_instance (parts_of_members (members_of b))) ≡ true
 sound_members blocks.SR = refl
 sound_members blocks.RS = refl
@@ -178,20 +164,20 @@ module _ (layout : List Slot) (k : ℕ) (l : Slot) (at : slice_get layout k ≡ 
       cc
 
   stands_apart : (input : Bool) (p : Path) (sh : Shape) (first : ℕ) (xs : List _) (o : Position)
-      → Stands layout input p sh first → IsOwned p → position_of sh xs ≡ Some o → first + o.number ≡ k → ⊥
+      → LiesAt layout input p sh first → IsOwned p → position_of sh xs ≡ Some o → first + o.number ≡ k → ⊥
   stands_apart input p sh first xs o stands owned is same =
       apart (first + o.number) (slot (further p xs) o.kind input) (stands.at xs o is)
       (record { owner = owned.owner; is = owned.is }) same
 
-  plain_apart : (input : Bool) (p : Path) (kind : Kind) (first : ℕ) → Stands layout input p (plain kind) first
+  plain_apart : (input : Bool) (p : Path) (kind : Kind) (first : ℕ) → LiesAt layout input p (plain kind) first
       → IsOwned p → first ≡ k → ⊥
   plain_apart input p kind first stands owned same =
       stands_apart input p (plain kind) first [] (record { number = 0; kind = kind }) stands owned refl
       (omega (arith, same))
 
   -- each member of a standard block
-  step_apart : (p : Path) (w : Whole) (b : StandardBlock) (first : ℕ)
-      → Stands layout false p (parts w (parts_of_members (members_of b))) first → IsOwned p
+  step_apart : (p : Path) (w : PartsOwner) (b : StandardBlock) (first : ℕ)
+      → LiesAt layout false p (parts w (parts_of_members (members_of b))) first → IsOwned p
       → (nat_le first k && nat_lt k (first + length (members_of b))) ≡ false
   step_apart p w b first stands owned = by_test (nat_le first k && nat_lt k (first + length (members_of b))) refl
     where
@@ -213,26 +199,26 @@ module _ (layout : List Slot) (k : ℕ) (l : Slot) (at : slice_get layout k ≡ 
   record StandsOwned (t : Table) (base : ℕ) (x : Name) (y : Symbol) : Type 0 where
     path : Path
     owned : IsOwned path
-    stands : Stands layout y.is_input path y.shape (slot_at base y.anchor)
+    stands : LiesAt layout y.is_input path y.shape (slot_at base y.anchor)
 
   control_apart : (t : Table) (base : ℕ) (x : Name) (y : Symbol) (sh : Shape) (a : Anchor) → StandsOwned t base x y
       → sh ≡ y.shape → plain_anchor y.anchor sh ≡ Some a → slot_at base a ≡ k → ⊥
   control_apart t base x y (plain kind) a found is h same =
       let e : y.anchor ≡ a = some_is h in
       plain_apart y.is_input found.path kind (slot_at base y.anchor)
-      (subst (λ sh. Stands layout y.is_input found.path sh (slot_at base y.anchor)) (sym is) found.stands) found.owned
+      (subst (λ sh. LiesAt layout y.is_input found.path sh (slot_at base y.anchor)) (sym is) found.stands) found.owned
       (ap (slot_at base) e ∙ same)
   control_apart t base x y (array lower count sh) a found is h same = absurd (cc)
   control_apart t base x y (parts w ps) a found is h same = absurd (cc)
 
-  output_apart : (p : Path) (w : Whole) (ps : Parts) (first : ℕ) (x : Name) (e : Part) (sh : Shape) (o : ℕ)
-      → Stands layout false p (parts w ps) first → IsOwned p → part_at ps x ≡ Some e → sh ≡ e.shape
+  output_apart : (p : Path) (w : PartsOwner) (ps : Parts) (first : ℕ) (x : Name) (e : Part) (sh : Shape) (o : ℕ)
+      → LiesAt layout false p (parts w ps) first → IsOwned p → part_at ps x ≡ Some e → sh ≡ e.shape
       → plain_offset e.offset sh ≡ Some o → first + o ≡ k → ⊥
   output_apart p w ps first x e (plain kind) o stands owned there is h same =
       let n : e.offset ≡ o = some_is h in
       let member = stands_member layout false p w ps first x e there stands in
       plain_apart false (member_at p x) kind (first + e.offset)
-      (subst (λ sh. Stands layout false (member_at p x) sh (first + e.offset)) (sym is) member)
+      (subst (λ sh. LiesAt layout false (member_at p x) sh (first + e.offset)) (sym is) member)
       (record { owner = owned.owner; is = owned.is }) (ap (λ m. first + m) n ∙ same)
   output_apart p w ps first x e (array lower count sh) o stands owned there is h same = absurd (cc)
   output_apart p w ps first x e (parts v qs) o stands owned there is h same = absurd (cc)
@@ -241,16 +227,16 @@ module _ (layout : List Slot) (k : ℕ) (l : Slot) (at : slice_get layout k ≡ 
       (links : IsLibraryLink layout library code numbers)
       (keep : (b : Name) (named : Block) → block_in library.blocks b ≡ Some named → KeepsOwn named.body)
       (size : ℕ) (below : k < size) where
-    abbrev near : ℕ → Site
+    abbrev near : ℕ → UnitFrame
     near base = record { start = 0; base = base; size = size }
 
     -- blocks of instances that somebody owns
     record NearKeep (units : CodeUnits) : Type 0 where
-      blocks : (b : BlockCode) (x : Name) (ps : Parts) (w : Whole) (p : Path) (base : ℕ)
+      blocks : (b : BlockCode) (x : Name) (ps : Parts) (w : PartsOwner) (p : Path) (base : ℕ)
           → named_in numbers.blocks x ≡ Some b → named_in numbers.members x ≡ Some ps → IsOwned p
-          → Stands layout false p (parts w ps) base → (c : Code) → Keeps k c (units.blocks b (near base) c)
+          → LiesAt layout false p (parts w ps) base → (c : Code) → Keeps k c (units.blocks b (near base) c)
 
-    -- a body, by what its names stand for
+    -- a body, by the meanings of its names
     module _ (units : CodeUnits) (far : FarKeep k units) (kept : NearKeep units) (body : Body) (symbols : List Symbol)
         (base : ℕ) (own_names : KeepsOwn body)
         (found : (x : Name) (y : Symbol) → contains_name body.externals x ≡ false → symbol_of symbols x ≡ Some y
@@ -267,7 +253,7 @@ module _ (layout : List Slot) (k : ℕ) (l : Slot) (at : slice_get layout k ≡ 
           (not_some m.0.is_input (plain_anchor m.0.anchor m.0.shape) a m.2).1 same
 
       invoked : (x : Name) (i : Instance) (b : BlockCode)
-          → option_and_then instance_of_symbol (symbol_of symbols x) ≡ Some i → code_of table x ≡ Some b
+          → option_and_then instance_of_symbol (symbol_of symbols x) ≡ Some i → block_code_of table x ≡ Some b
           → InstanceAvoids k units (near base) i b
       invoked x i b h coded =
           let n = then_some (named_in numbers.blocks) (block_named body.instances x) b coded in
@@ -278,9 +264,9 @@ module _ (layout : List Slot) (k : ℕ) (l : Slot) (at : slice_get layout k ≡ 
           ap (λ (c : Bool). if c then None else instance_at y.0.anchor y.0.shape) e.is_variable
           ∙ ap (instance_at y.0.anchor) e.shape in
           let same : record { anchor = y.0.anchor; members = e.members } ≡ i = some_is (sym made ∙ y.2) in
-          let stands : Stands layout false f.path (parts e.whole e.members) (slot_at base y.0.anchor) =
-          subst (λ sh. Stands layout false f.path sh (slot_at base y.0.anchor)) e.shape
-          (subst (λ input. Stands layout input f.path y.0.shape (slot_at base y.0.anchor)) e.is_variable f.stands) in
+          let stands : LiesAt layout false f.path (parts e.whole e.members) (slot_at base y.0.anchor) =
+          subst (λ sh. LiesAt layout false f.path sh (slot_at base y.0.anchor)) e.shape
+          (subst (λ input. LiesAt layout input f.path y.0.shape (slot_at base y.0.anchor)) e.is_variable f.stands) in
           let avoids : InstanceAvoids k units (near base) (record { anchor = y.0.anchor; members = e.members }) b =
           record {
             block = kept.blocks b n.0 e.members e.whole f.path (slot_at base y.0.anchor) n.2 e.known f.owned stands;
@@ -291,7 +277,7 @@ module _ (layout : List Slot) (k : ℕ) (l : Slot) (at : slice_get layout k ≡ 
           } in
           subst (λ j. InstanceAvoids k units (near base) j b) same avoids
 
-      body_keeps : (xs : SlotStmts) → linked_stmts table body.statements ≡ Some xs → (w : Ways) (c : Code)
+      body_keeps : (xs : SlotStmts) → linked_stmts table body.statements ≡ Some xs → (w : JumpTargets) (c : Code)
           → Keeps k c (stmts_code units (near base) xs w c)
       body_keeps xs h w c =
           stmts_keep k units (near base) (λ f d. far.functions f (end_of (near base)) (omega (arith, below)) d) xs w c
@@ -300,8 +286,8 @@ module _ (layout : List Slot) (k : ℕ) (l : Slot) (at : slice_get layout k ≡ 
 
     module _ (units : CodeUnits) (far : FarKeep k units) (kept : NearKeep units) where
       linked_block : (ps : Parts) (b : Block) (xs : SlotStmts) → IsBlockLink layout numbers ps b xs → KeepsOwn b.body
-          → (w : Whole) (p : Path) (base : ℕ) → IsOwned p → Stands layout false p (parts w ps) base
-          → (v : Ways) (c : Code) → Keeps k c (stmts_code units (near base) xs v c)
+          → (w : PartsOwner) (p : Path) (base : ℕ) → IsOwned p → LiesAt layout false p (parts w ps) base
+          → (v : JumpTargets) (c : Code) → Keeps k c (stmts_code units (near base) xs v c)
       linked_block ps b xs link own_names w p base owned stands =
           body_keeps units far kept b.body link.symbols base own_names
           (λ x y free is.
@@ -311,29 +297,29 @@ module _ (layout : List Slot) (k : ℕ) (l : Slot) (at : slice_get layout k ≡ 
           record {
             path = member_at p x;
             owned = record { owner = owned.owner; is = owned.is };
-            stands = subst (λ a. Stands layout y.is_input (member_at p x) y.shape (slot_at base a)) (sym part.anchor)
-                (subst (λ i. Stands layout i (member_at p x) y.shape (base + part.offset)) (sym part.is_variable)
+            stands = subst (λ a. LiesAt layout y.is_input (member_at p x) y.shape (slot_at base a)) (sym part.anchor)
+                (subst (λ i. LiesAt layout i (member_at p x) y.shape (base + part.offset)) (sym part.is_variable)
                 member);
           }) link.instances xs link.body
 
-      numbered_block : (i : ℕ) (x : Name) (ps : Parts) (w : Whole) (p : Path) (base : ℕ)
-          → HasBlock layout library code numbers x i ps → IsOwned p → Stands layout false p (parts w ps) base
+      numbered_block : (i : ℕ) (x : Name) (ps : Parts) (w : PartsOwner) (p : Path) (base : ℕ)
+          → HasBlock layout library code numbers x i ps → IsOwned p → LiesAt layout false p (parts w ps) base
           → (c : Code) → Keeps k c (body_code units (slice_get code.blocks i) (near base) c)
       numbered_block i x ps w p base has owned stands c =
           subst (λ o. Keeps k c (body_code units o (near base) c)) (sym has.numbered)
           (linked_block ps has.named has.linked has.link (keep x has.named has.there) w p base owned stands
-          (body_ways (length c)) c)
+          (body_targets (length c)) c)
 
-      over_blocks : (b : BlockCode) (x : Name) (ps : Parts) (w : Whole) (p : Path) (base : ℕ)
+      over_blocks : (b : BlockCode) (x : Name) (ps : Parts) (w : PartsOwner) (p : Path) (base : ℕ)
           → named_in numbers.blocks x ≡ Some b → named_in numbers.members x ≡ Some ps → IsOwned p
-          → Stands layout false p (parts w ps) base → (c : Code)
+          → LiesAt layout false p (parts w ps) base → (c : Code)
           → Keeps k c (instance_code code units b (near base) c)
       over_blocks (standard_block b) x ps w p base coded known owned stands c =
           let members = (links.standards x b ps coded known).members in
           put k c (Step (block_code b) (0 + base))
           (subst (λ m. (nat_le (0 + base) k && nat_lt k (0 + base + length (members_of m))) ≡ false) (sym (block_is b))
           (subst (λ j. (nat_le j k && nat_lt k (j + length (members_of b))) ≡ false) (no_start base (0 + base) refl)
-          (step_apart p w b base (subst (λ qs. Stands layout false p (parts w qs) base) members stands) owned)))
+          (step_apart p w b base (subst (λ qs. LiesAt layout false p (parts w qs) base) members stands) owned)))
       over_blocks (own_block i) x ps w p base coded known owned stands c =
           numbered_block i x ps w p base (links.blocks x i ps coded known) owned stands c
 
@@ -348,7 +334,7 @@ module _ (layout : List Slot) (k : ℕ) (l : Slot) (at : slice_get layout k ≡ 
     -- a program
     program_keeps : (program : Program) (symbols : List Symbol) (xs : SlotStmts) (n : ℕ) → KeepsOwn program.body
         → ((x : Name) (y : Symbol) → symbol_of symbols x ≡ Some y
-        → Stands layout y.is_input (path_in (of_program program.owner) program.body x) y.shape (slot_at 0 y.anchor))
+        → LiesAt layout y.is_input (path_in (of_program program.owner) program.body x) y.shape (slot_at 0 y.anchor))
         → EachInstance numbers symbols program.body.instances
         → linked_stmts (table_of numbers symbols program.body.instances) program.body.statements ≡ Some xs
         → IsOnlyLookedUp (program_code code 0 size xs n) k
@@ -358,13 +344,13 @@ module _ (layout : List Slot) (k : ℕ) (l : Slot) (at : slice_get layout k ≡ 
         (λ x y free is. record {
           path = own_path (of_program program.owner) x;
           owned = record { owner = program.owner; is = refl };
-          stands = subst (λ b. Stands layout y.is_input
+          stands = subst (λ b. LiesAt layout y.is_input
               (if b then unowned x else own_path (of_program program.owner) x) y.shape (slot_at 0 y.anchor)) free
               (names x y is);
-        }) each xs linked (body_ways 0) []).by refl
+        }) each xs linked (body_targets 0) []).by refl
 
--- In code that is made of a linked program no instruction takes a global or an input as it is, where all bodies keep to
--- their own names.
+-- In code that is made of a linked program no instruction takes a global or an input as it is, if all bodies keep to their
+-- own names.
 pub looked_up : (layout : List Slot) (p : Program) (code : SlotLibrary) (body : SlotStmts) (n k : ℕ) (l : Slot)
     → IsProgramLink layout p 0 code body → KeepsOwn p.body
     → ((b : Name) (named : Block) → block_in p.library.blocks b ≡ Some named → KeepsOwn named.body)

@@ -24,7 +24,7 @@ use Rattle.layout.specs.TextLayouts.{leaves_of_variable, slot_of_leaf}
 use Rattle.layout.specs.TextLayouts.{slots_of, slots_of_variable, variable_shape}
 use Rattle.layout.specs.Types.{NamedSite, shape_of_type}
 use Rattle.layout.proofs.LeafLemmas.{length_leaves}
-use Rattle.layout.proofs.ListLemmas.{map_some, name_itself}
+use Rattle.layout.proofs.ListLemmas.{name_itself}
 use Rattle.st_link.proofs.Among.{Among, here, later, in_flat}
 use Rattle.st_link.proofs.ApartNames.{names_apart, repeats_behind, turned}
 use Rattle.st_link.proofs.FoundNames.{unit_in}
@@ -36,7 +36,6 @@ use Rattle.slot_trees.specs.TextLinks.{linked_function_then, linked_functions, s
 use Rattle.slot_trees.specs.TextNumbers.{function_name_then, function_names, numbered_from}
 use Rattle.slot_trees.proofs.FunctionLayouts.{fresh_layout}
 use Rattle.slot_trees.proofs.LibraryLinks.{linked_list}
-use Rattle.slot_trees.proofs.OptionLemmas.{then_some}
 use Rattle.st_link.specs.FirstSlots.{slots_taken}
 use Rattle.st_link.specs.LinkVariables.{of_site, result_of, variables_of_blocks}
 use Rattle.st_link.specs.CalledFunctions.{if_room, values_by, values_of_call, values_of_units}
@@ -44,6 +43,8 @@ use Rattle.st_link.proofs.SiteLemmas.{sites_seen}
 use Rattle.config.proofs.CallSums.{sum_from, sum_further, sum_beside}
 use Rattle.config.proofs.CallLengths.{values_at, values_of_function}
 use Rattle.config.proofs.InstanceNames.{of_map}
+use Rattle.st_types.proofs.OptionLemmas.{map_some, then_some}
+use Rattle.std.proofs.lemmas.Bool.{false_from_ne_true}
 
 -- a call has a value for each slot of its variables
 slots_long : (text : Declared) (ds : List NamedSite)
@@ -84,14 +85,10 @@ at_most_all n = by_room (nat_lt MAX_PATHS n)
     by_room true = omega arith
     by_room false = omega arith
 
--- no two units have one name
+-- no two units have the same name
 abbrev pub Differ : List OrganisationUnit → Type 0
 Differ [] = Unit {0}
 Differ (v ∷ us) = ((u : OrganisationUnit) → Among u us → bytes_eq u.name.name v.name.name ≡ false) × Differ us
-
-not_true : (b : Bool) → (b ≡ true → ⊥) → b ≡ false
-not_true true h = absurd (h refl)
-not_true false h = refl
 
 pub units_differ : (source : Source) → repeats (names_of_text source) ≡ [] → Differ (units_in source)
 units_differ [] h = tt
@@ -99,7 +96,7 @@ units_differ (sources.types ts ∷ rest) h =
     units_differ rest (repeats_behind (names_of_element (sources.types ts)) (names_of_text rest) h)
 units_differ (sources.configuration c ∷ rest) h = units_differ rest h
 units_differ (sources.unit v ∷ rest) h = (
-  λ u among. not_true (bytes_eq u.name.name v.name.name) (λ same.
+  λ u among. false_from_ne_true (bytes_eq u.name.name v.name.name) (λ same.
       names_apart (v.name ∷ []) (names_of_text rest) h here
       (in_flat names_of_element (unit_in rest u among) here) (turned u.name.name v.name.name same)),
   units_differ rest (repeats_behind (v.name ∷ []) (names_of_text rest) h),
@@ -115,7 +112,7 @@ taken_units_differ text (v ∷ us) h = (
 )
 
 module _ (called : Name → Bool) (text : Declared) (library : SlotLibrary) (calls : List ℕ) where
-  -- the functions of a list stand in the library from this number on
+  -- the functions of a list are in the library from this number on
   abbrev Stand : ℕ → List SlotFunction → Type 0
   Stand k fs = (p : ℕ) (f : SlotFunction) → slice_get fs p ≡ Some f → slice_get library.functions (k + p) ≡ Some f
 

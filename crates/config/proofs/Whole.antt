@@ -18,10 +18,9 @@ use Rattle.layout.specs.LayoutVariables.{owned_variable, owner_in, program_sites
 use Rattle.layout.specs.LayoutVariables.{variables_of_configuration, variables_of_globals, variables_of_instances}
 use Rattle.layout.specs.LayoutVariables.{variables_of_resources}
 use Rattle.layout.specs.Names.{are_different, are_types_and_units_different, is_configuration_different}
-use Rattle.layout.specs.Standing.{are_declared_once}
+use Rattle.layout.specs.VariableSlots.{are_declared_once}
 use Rattle.layout.specs.TextLayouts.{slots_of, slots_of_text}
 use Rattle.layout.specs.Types.{sites_of_blocks}
-use Rattle.layout.proofs.ListLemmas.{both, map_some}
 use Rattle.layout.proofs.NameLemmas.{configuration_once}
 use Rattle.layout.proofs.ResolvedLemmas.{configuration_taken, same_unit_named, taken_configuration, taken_layout}
 use Rattle.layout.proofs.ResolvedLemmas.{taken_text}
@@ -35,7 +34,6 @@ use Rattle.slot_trees.specs.TextLinks.{linked_instances, linked_program, linked_
 use Rattle.slot_trees.specs.TextLinks.{linked_programs, linked_resources}
 use Rattle.slot_trees.proofs.BlockLinks.{HasVariables}
 use Rattle.slot_trees.proofs.LibraryLinks.{linked_list}
-use Rattle.slot_trees.proofs.OptionLemmas.{then_some}
 use Rattle.slot_trees.proofs.ProgramLinks as links
 use Rattle.slot_trees.proofs.ProgramLinks.{among_left, among_right, site_among, variable_found}
 use Rattle.slot_trees.specs.LibraryViews.{KeptLibrary}
@@ -48,6 +46,8 @@ use Rattle.config.specs.Compiled.{AreCompiled}
 use Rattle.config.specs.Spelled.{IsSpelled}
 use Rattle.config.proofs.BoundedShapes.{arrays_bounded, few_names}
 use Rattle.config.proofs.FittingUnits.{program_compiled}
+use Rattle.std.proofs.lemmas.Bool.{and_parts}
+use Rattle.st_types.proofs.OptionLemmas.{map_some, then_some}
 
 module _ (source : Source) (h : IsWellTyped source) (spelled : IsSpelled source) (c : Configuration)
     (only : only_configuration (configurations_in source) ≡ Some c) (size : ℕ)
@@ -67,7 +67,7 @@ module _ (source : Source) (h : IsWellTyped source) (spelled : IsSpelled source)
   names_differ : are_types_and_units_different whole ≡ true
   names_differ =
       taken_differ text
-      (both (are_different (map (λ t. t.name.name) text.types)) (are_types_and_units_different text)
+      (and_parts (are_different (map (λ t. t.name.name) text.types)) (are_types_and_units_different text)
       (differ source h)).1
 
   scopes : is_configuration_different (Some c) ≡ true

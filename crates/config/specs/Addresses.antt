@@ -1,4 +1,4 @@
--- Addresses as numbers: those in their range are below 4,096, each another.
+-- Addresses as numbers: those in their range are below 4,096, and all are different.
 use Rattle.std.specs.Prelude.{◌≡◌, ℕ, ◌+◌, List, Bool, true, slice_get, Some}
 use Rattle.std.specs.List.{list_any}
 use Rattle.st_types.specs.declared.configuration.Address.{Address}
@@ -20,7 +20,7 @@ first_of_width widths.Word = 1024
 abbrev pub number_of_address : Address → ℕ
 number_of_address a = first_of_direction a.direction + (first_of_width a.width + a.number)
 
--- it is among those that are marked just where it is one of the list
+-- it is among those that are marked exactly if it is in the list
 abbrev pub Marks : List Bool → List Address → Type 0
 Marks marked others = (a : Address) → is_in_range a.width a.number ≡ true
     → slice_get marked (number_of_address a) ≡ Some (list_any (same_address a) others)

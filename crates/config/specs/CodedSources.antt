@@ -1,4 +1,4 @@
--- What runs of a text's programs have in common with those of their code.
+-- Runs of the code of a text's programs, which end as the programs do.
 use Rattle.std.specs.Prelude.{◌≡◌, ℕ, List, [], ◌++◌, length, Some, slice_get}
 use Rattle.st_types.specs.Values.{Datum}
 use Rattle.st_types.specs.Sources.{Source}
@@ -14,14 +14,14 @@ use Rattle.machine_code.specs.Machine.{Ending, runs}
 use Rattle.machine_code.specs.Endings.{outcome_at_end, values_at_end}
 use Rattle.machine_code.specs.Programs.{program_code, ProgramFits}
 
--- the run of a linked program's code over the values of its slots and the memory behind them, with calls so deep
+-- the run of a linked program's code over the values of its slots and the memory after them, with calls of this depth
 abbrev pub coded_run : LinkedText → SlotStmts → ℕ → ℕ → List Datum → List Datum → ℕ → Ending (List Datum)
 coded_run linked body depth now vs rest budget =
     let code = program_code linked.library 0 (length vs) body depth in
     runs plain in_runs now code (length code) [] (vs ++ rest) budget
 
--- A program of the text has a linked body. Where this fits a memory, a run of its code over any values of the layout's
--- slots ends as the program does and leaves the same variables, whatever stands behind them.
+-- A program of the text has a linked body. If this fits a memory, a run of its code over any values of the layout's slots
+-- ends as the program does and leaves the same variables, whatever is in the memory after them.
 pub record HasCodeRuns (source : Source) (n : ℕ) (p : Program) : Type 0 where
   pub linked : LinkedText
   pub is : linked_source source ≡ Some linked

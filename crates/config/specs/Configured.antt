@@ -31,7 +31,7 @@ BreaksRule source c errors.WithoutTask = have_tasks c ≡ false
 BreaksRule source c errors.NotOne = has_one_configuration source ≡ false
 BreaksRule source c errors.OutOfMemory = Unit {0}
 
--- Why a text is not configured: the number applies. Out of memory says nothing of it.
+-- Why a text is not configured: the number applies. Nothing is said if memory ran out.
 abbrev pub IsMisconfigured : Source → ConfigurationError → Type 0
 IsMisconfigured source errors.NotOne = has_one_configuration source ≡ false
 IsMisconfigured source errors.OutOfMemory = Unit {0}

@@ -29,7 +29,7 @@ global_view g = record { is_fixed = g.is_fixed; declared = place_type_view g.dec
 abbrev pub named_global_view : NamedGlobal → Name × Global
 named_global_view g = (g.name.now, global_view g.global)
 
--- what a declaration says of each of its names
+-- the global that a declaration gives to each of its names
 abbrev pub global_of : Option GlobalQualifier → GlobalDeclaration → Global
 global_of q d = record { is_fixed = is_fixed_global q d.names; declared = d.declared }
 
@@ -54,7 +54,7 @@ pub record ServesGlobals (index : Index code.Global) (blocks : List GlobalBlock)
   pub once : repeats (flat_map globals_of_block blocks) ≡ []
   pub named : (x : Name) → Agree (λ g h. global_view g ≡ h) (found index x) (global_named (globals_in blocks) x)
 
--- a global of this type, which no program may assign just where the external is CONSTANT
+-- a global of this type, which no program may assign exactly if the external is CONSTANT
 abbrev pub is_global_for : Declared → Bool → VariableType → Option Global → Bool
 is_global_for text constant t None = false
 is_global_for text constant t (Some g) =

@@ -1,5 +1,5 @@
--- Declarations as the grammar has them: each name is a word, each bound of an array has at most 64 bits, a type that is
--- no name is elementary, before a `#` too, and an enumerated type has names.
+-- Declarations as the grammar gives them: each name is a word, each bound of an array has at most 64 bits, a type that isn't
+-- a name is elementary, before a `#` too, and an enumerated type has names.
 use Rattle.std.specs.Prelude.{ℕ, ◌^◌, ◌&&◌, Bool, true, false, length, nat_lt, Option, Some, None}
 use Rattle.std.specs.List.{list_all}
 use Rattle.st_types.specs.declared.identifier.Identifier.{Identifier}
@@ -25,12 +25,12 @@ use Rattle.st_types.specs.Sources.{LibraryElement, Source}
 abbrev pub is_short : ℕ → Bool
 is_short n = nat_lt n (2 ^ 64)
 
--- no enumerated type
+-- not an enumerated type
 abbrev pub is_elementary : Kind → Bool
 is_elementary (Enumerated names number) = false
 is_elementary k = true
 
--- what stands before a `#`
+-- the type before a `#`
 abbrev pub is_type_word : Option Kind → Bool
 is_type_word None = true
 is_type_word (Some k) = is_elementary k

@@ -7,7 +7,7 @@ use Rattle.slot_trees.specs.TextLinks.{LinkedText}
 use Rattle.machine_code.specs.Programs.{program_code, ProgramFits}
 use Rattle.slot_code.specs.Codes.{CodeView}
 
--- The code is that of a linked body over the text's layout, with calls so deep; its types are those of the layout, and
+-- The code is that of a linked body over the text's layout, with calls of this depth; its types are those of the layout, and
 -- the program fits its memory.
 pub record IsCodeOf (source : Source) (linked : LinkedText) (body : SlotStmts) (depth : ℕ)
     (code : CodeView) : Type 0 where

@@ -4,7 +4,7 @@ use Rattle.st_types.specs.declared.limits.TheConstants.{MAX_BUDGET, MAX_RECORD_B
 use Rattle.st_types.specs.Sources.{Source}
 use Rattle.st_lex.specs.declared.token.Token.{Token}
 use Rattle.st_lex.specs.declared.fault.LexError.TheVariants as lexing
-use Rattle.st_lex.specs.Texts.{IsSpelledBy, LexErrorApplies}
+use Rattle.st_lex.specs.Texts.{Lexes, LexErrorApplies}
 use Rattle.st_parse.specs.declared.fault.ParseError.TheVariants as grammar
 use Rattle.st_parse.specs.Answers.{Refused}
 use Rattle.st_rules.specs.Rules.{broken, IsWellTyped}
@@ -25,8 +25,8 @@ use Rattle.plan.specs.PlanViews.{plan_view}
 use Rattle.config.specs.declared.build_error.BuildError.{BuildError}
 use Rattle.config.specs.declared.build_error.BuildError.TheVariants as errors
 
--- Why a well-typed text has no plan: its configuration is not sound, it is too large, or the code of its programs has
--- no room. Of want of memory nothing is said.
+-- Why a well-typed text has no plan: its configuration is not sound, it is too large, or the code of its programs has no
+-- room. Nothing is said if memory ran out.
 abbrev pub LacksPlan : Source → BuildError → Type 0
 LacksPlan source (errors.Configuration e) = IsMisconfigured source e
 LacksPlan source (errors.Layout e) = Exceeds (length (slots_of_text source)) (instances_of_text source) e
@@ -47,24 +47,23 @@ SourceLacksPlan source e = IsWellTyped source × LacksPlan source e
 abbrev pub TextLacksPlan : List ℕ → ℕ → BuildError → Type 0
 TextLacksPlan text budget errors.Budget = (budget ≡ 0) ⊎ (MAX_BUDGET < budget)
 TextLacksPlan text budget (errors.Words e) = LexErrorApplies text e
-TextLacksPlan text budget (errors.Grammar e) = (tokens : List Token) × IsSpelledBy text tokens × Refused tokens e
+TextLacksPlan text budget (errors.Grammar e) = (tokens : List Token) × Lexes text tokens × Refused tokens e
 TextLacksPlan text budget errors.Memory = Unit {0}
 TextLacksPlan text budget e = (source : Source) × IsTextOf text source × SourceLacksPlan source e
 
--- what may refuse a text that has a plan: want of memory, by whomever it is told, or of room for its code where there
--- is none
-abbrev pub IsWant : Source → BuildError → Type 0
-IsWant source errors.Memory = Unit {0}
-IsWant source (errors.Words lexing.Memory) = Unit {0}
-IsWant source (errors.Grammar grammar.Memory) = Unit {0}
-IsWant source (errors.Rule checking.OutOfMemory) = Unit {0}
-IsWant source (errors.Configuration configurations.OutOfMemory) = Unit {0}
-IsWant source (errors.Layout layouts.OutOfMemory) = Unit {0}
-IsWant source (errors.Code coding.NotLinked) = ⊥
-IsWant source (errors.Code e) = LacksRoom source e
-IsWant source _ = ⊥
+-- the errors that may refuse a text that has a plan: out of memory, whichever layer reports it, or no room for its code
+abbrev pub IsLackOfRoom : Source → BuildError → Type 0
+IsLackOfRoom source errors.Memory = Unit {0}
+IsLackOfRoom source (errors.Words lexing.Memory) = Unit {0}
+IsLackOfRoom source (errors.Grammar grammar.Memory) = Unit {0}
+IsLackOfRoom source (errors.Rule checking.OutOfMemory) = Unit {0}
+IsLackOfRoom source (errors.Configuration configurations.OutOfMemory) = Unit {0}
+IsLackOfRoom source (errors.Layout layouts.OutOfMemory) = Unit {0}
+IsLackOfRoom source (errors.Code coding.NotLinked) = ⊥
+IsLackOfRoom source (errors.Code e) = LacksRoom source e
+IsLackOfRoom source _ = ⊥
 
--- this plan, unless something is wanting
+-- this plan, unless memory runs out or its code has no room
 abbrev pub GivesPlan : Source → Result Plan BuildError → plans.Plan → Type 0
 GivesPlan source (Ok found) plan = plan_view found ≡ plan
-GivesPlan source (Err e) plan = IsWant source e
+GivesPlan source (Err e) plan = IsLackOfRoom source e

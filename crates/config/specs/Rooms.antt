@@ -1,4 +1,4 @@
--- Texts of whose programs there is no code, since it has no room.
+-- Texts whose programs have no code, since there is no room for it.
 use Rattle.std.specs.Prelude.{◌≡◌, ℕ, ◌+◌, ◌<◌, List, length, Bool, Some, true}
 use Rattle.machine_code.specs.declared.limits.TheConstants.{MAX_INSTRUCTIONS}
 use Rattle.st_types.specs.Sources.{Source}
@@ -20,11 +20,11 @@ use Rattle.st_link.specs.Accepted.{IsLinked}
 use Rattle.st_link.specs.CalledFunctions.{IsCalled}
 use Rattle.st_link.specs.KeptTexts.{KeptText}
 
--- a program's code over so many slots has more instructions than there may be
-abbrev pub IsLong : SlotLibrary → ℕ → SlotStmts → Type 0
-IsLong library size body = MAX_INSTRUCTIONS < length (program_code library 0 size body 64)
+-- a program's code over `size` slots has more instructions than allowed
+abbrev pub HasTooManyInstructions : SlotLibrary → ℕ → SlotStmts → Type 0
+HasTooManyInstructions library size body = MAX_INSTRUCTIONS < length (program_code library 0 size body 64)
 
--- a program does not fit a memory with as many places behind its slots as functions may take
+-- a program does not fit a memory with as many places after its slots as functions may take
 abbrev pub IsCrowded : KeptLibrary → ℕ → SlotStmts → Type 0
 IsCrowded library size body = ¬ (ProgramFits (size + FUNCTION_PLACES) (filled library) 0 size body 64)
 
@@ -44,19 +44,19 @@ pub record AreCalled (source : Source) (called : Name → Bool) : Type 0 where
 pub record HasLongCode (source : Source) : Type 0 where
   pub linked : LinkedText
   pub is : linked_source source ≡ Some linked
-  pub long : HasOne (IsLong linked.library (length (slots_of_text source))) linked.programs
+  pub long : HasOne (HasTooManyInstructions linked.library (length (slots_of_text source))) linked.programs
 
--- One of the text's programs, linked with just the functions that are called, wants too many places for their values.
-pub record WantsPlaces (source : Source) : Type 0 where
+-- One of the text's programs, linked with just the functions that are called, needs too many places for their values.
+pub record NeedsTooManyPlaces (source : Source) : Type 0 where
   pub called : Name → Bool
   pub are_called : AreCalled source called
   pub kept : KeptText
   pub linked : IsLinked source called kept
   pub crowded : HasOne (IsCrowded kept.library (length (slots_of_text source))) kept.programs
 
--- Why there is no code, where the error says that it has no room; of other errors nothing is said.
+-- Why there is no code, if the error says that there is no room for it; nothing is said of other errors.
 abbrev pub LacksRoom : Source → CompileError → Type 0
 LacksRoom source errors.TooManyInstructions = HasLongCode source
-LacksRoom source errors.TooManyPlaces = WantsPlaces source
+LacksRoom source errors.TooManyPlaces = NeedsTooManyPlaces source
 LacksRoom source errors.OutOfMemory = Unit {0}
 LacksRoom source errors.NotLinked = Unit {0}

@@ -1,4 +1,4 @@
--- What is asked of two types that are one, a level at a time.
+-- The requirements on two types that are the same, a level at a time.
 use Rattle.std.specs.Prelude.{Bool, false, Option, Some, None}
 use Rattle.st_types.specs.declared.data_type.ArrayType.{ArrayType}
 use Rattle.st_types.specs.declared.data_type.VariableType.{VariableType}
@@ -6,7 +6,7 @@ use Rattle.st_types.specs.declared.data_type.VariableType.TheVariants as types
 use Rattle.st_types.specs.Declarations.{TypeDefinition, array, structure, enumeration}
 use Rattle.st_rules.specs.ConfigurationRules.{same_simple}
 
--- the array that a definition is
+-- the array that a definition declares
 abbrev pub array_in : Option TypeDefinition → Option ArrayType
 array_in (Some (array a)) = Some a
 array_in (Some (structure fields)) = None

@@ -1,4 +1,4 @@
--- What is asked of a body with names, so that code is made of its linked form.
+-- The requirements on a body with names, so that code is made of its linked form.
 use Rattle.std.specs.Prelude.{◌≡◌, ℕ, suc, ◌+◌, ◌<◌, ◌≤◌, List, [], ◌∷◌, Option, Some, None}
 use Rattle.std.specs.Prelude.{option_and_then}
 use Rattle.st_types.specs.Expressions as named
@@ -13,12 +13,12 @@ use Rattle.layout.specs.TextLayouts.{variable_shape}
 use Rattle.st_meaning.specs.Scopes.{Name}
 use Rattle.st_meaning.specs.StandardFunctions.{Standard, standard_of}
 use Rattle.layout.specs.Shapes.{Shape, plain, array, parts, Parts, no_parts, part_then, size}
-use Rattle.slot_trees.specs.LinkedStatements.{Instance, instance_of_symbol, code_of}
+use Rattle.slot_trees.specs.LinkedStatements.{Instance, instance_of_symbol, block_code_of}
 use Rattle.slot_trees.specs.SlotEvaluation.{slot_at}
 use Rattle.slot_trees.specs.SlotTrees.{BlockCode}
 use Rattle.slot_trees.specs.Tables.{Symbol, Table, symbol_of, named_in}
 use Rattle.machine_code.specs.Fitting.{UnitCall, of_function, of_block, IsValue}
-use Rattle.machine_code.specs.Sites.{Site, end_of, site_at}
+use Rattle.machine_code.specs.UnitFrames.{UnitFrame, end_of, instance_frame}
 use Rattle.st_compile.specs.Linked.{IsNumber, AreLabels}
 
 -- each array has an element, and a lower bound that instructions hold
@@ -38,7 +38,7 @@ AreBoundedVariables text [] = Unit {0}
 AreBoundedVariables text (v ∷ vs) = IsBounded (variable_shape text v) × AreBoundedVariables text vs
 
 -- variables lie among the values of a unit
-abbrev pub SymbolsWithin : Site → List Symbol → Type 0
+abbrev pub SymbolsWithin : UnitFrame → List Symbol → Type 0
 SymbolsWithin site [] = Unit {0}
 SymbolsWithin site (y ∷ ys) =
     (slot_at site.base y.anchor + size y.shape ≤ site.size) × IsBounded y.shape × SymbolsWithin site ys
@@ -48,9 +48,9 @@ abbrev pub number_of_exprs : Exprs → ℕ
 number_of_exprs named.no_exprs = 0
 number_of_exprs (named.expr_then e es) = suc (number_of_exprs es)
 
-module _ (CallLinked : UnitCall → Type 0) (site : Site) (t : Table) where
-  -- a standard function has as few arguments as instructions hold, and code is made of the function of the text that
-  -- a name stands for, with so many arguments
+module _ (CallLinked : UnitCall → Type 0) (site : UnitFrame) (t : Table) where
+  -- a standard function has as few arguments as instructions hold, and code is made of the text's function of this name,
+  -- with `count` arguments
   abbrev pub CallSound : Option Standard → Name → ℕ → Type 0
   CallSound (Some standard) f count = count < 65536
   CallSound None f count = (i : ℕ) → named_in t.functions f ≡ Some i → CallLinked (of_function i (end_of site) count)
@@ -85,11 +85,11 @@ module _ (CallLinked : UnitCall → Type 0) (site : Site) (t : Table) where
   ArgumentsSound (text.given x e ∷ rest) = ExprSound e × ArgumentsSound rest
   ArgumentsSound (text.copied x v ∷ rest) = VariableSound v × ArgumentsSound rest
 
-  -- code is made of the block of an instance, wherever the instance stands
+  -- code is made of the block of an instance, wherever the instance is
   abbrev pub InstanceSound : Name → Type 0
-  InstanceSound x = (code : BlockCode) (i : Instance) → code_of t x ≡ Some code
+  InstanceSound x = (code : BlockCode) (i : Instance) → block_code_of t x ≡ Some code
       → option_and_then instance_of_symbol (symbol_of t.symbols x) ≡ Some i
-      → CallLinked (of_block code (site_at site (slot_at site.base i.anchor)))
+      → CallLinked (of_block code (instance_frame site (slot_at site.base i.anchor)))
 
   abbrev mutual
     pub StmtSound : Stmt → Type 0

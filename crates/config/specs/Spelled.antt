@@ -26,7 +26,7 @@ abbrev pub HaveFewNames : List Enumeration → Type 0
 HaveFewNames [] = Unit {0}
 HaveFewNames (e ∷ es) = (length e.names ≤ MAX_NAMES) × HaveFewNames es
 
--- before a `#` stands no enumerated type
+-- no enumerated type is before a `#`
 abbrev pub IsKeyword : Option Kind → Type 0
 IsKeyword (Some (Enumerated names number)) = ⊥
 IsKeyword _ = Unit {0}

@@ -1,4 +1,4 @@
--- The tasks of a configuration, with what makes them due.
+-- The tasks of a configuration, with their triggers.
 use Rattle.std.specs.Prelude.{ℕ, suc, List, [], ◌∷◌, ◌++◌, map, Option, Some, None, position}
 use Rattle.std.specs.Option.{unwrap_or}
 use Rattle.st_types.specs.declared.identifier.Identifier.{Identifier}

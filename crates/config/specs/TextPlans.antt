@@ -47,7 +47,7 @@ task_of inputs t = record {
   priority = t.priority.number;
 }
 
--- a program where it runs
+-- a program in its place
 abbrev pub instance_at : Place → runs.Program → ProgramInstance
 instance_at p program = record { resource = p.resource; task = p.task; code = program }
 
@@ -69,7 +69,7 @@ plan_of_text source budget = record {
 }
 
 -- A text that has a plan: it breaks no rule, its configuration is sound, and it is not too large. This is its plan for a
--- budget that there may be.
+-- budget in its range.
 pub record IsPlanOf (source : Source) (budget : ℕ) (plan : Plan) : Type 0 where
   pub well_typed : IsWellTyped source
   pub configured : IsConfigured source

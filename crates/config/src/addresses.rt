@@ -28,7 +28,7 @@ fn has_width(width: AddressWidth, kind: Kind) -> bool
     }
 }
 
-/// Whether a variable of the type may stand at an address of the width; only elementary types may.
+/// Whether a variable of the type may have an address of the width; only elementary types may.
 #[tactic(auto, using(crate::proofs::AddressLemmas::width_of_declared))]
 fn holds_type(width: AddressWidth, declaration: &GlobalDeclaration) -> bool
     ensures { (text : Declared) → result
@@ -49,7 +49,7 @@ fn is_in_range(address: Address) -> bool
     }
 }
 
-/// Whether the address of a declaration, where it has one, is sound.
+/// Whether the address of a declaration, if it has one, is sound.
 fn is_sound(qualifier: Option<GlobalQualifier>, declaration: &GlobalDeclaration) -> bool
     ensures { (text : Declared) → result ≡ is_sound_address text qualifier (global_declaration_view declaration.now)
         (global_names_view declaration.now.names) }
@@ -134,7 +134,7 @@ fn number_of_address(address: Address) -> usize
     first + (behind + address.number as usize)
 }
 
-/// Whether no address stands twice.
+/// Whether no address occurs twice.
 fn are_single(alloc: Global, addresses: &[Address]) -> Result<bool, AllocError>
     requires { list_all (λ a. is_in_range a.width a.number) addresses.now ≡ true }
     ensures { IfOk result (λ single. single ≡ are_single addresses.now) }
@@ -152,7 +152,7 @@ fn are_single(alloc: Global, addresses: &[Address]) -> Result<bool, AllocError>
     Ok(true)
 }
 
-/// Whether each address is sound where it stands, and none stands twice.
+/// Whether each address is sound in its place, and none occurs twice.
 pub fn has_sound_addresses(alloc: Global, configuration: &Configuration) -> Result<bool, AllocError>
     ensures { IfOk result (λ sound. (text : Declared)
         → sound ≡ has_sound_addresses text (configuration_view configuration.now)) }

@@ -13,7 +13,7 @@ use st_parse::ParseError;
 use std::alloc::{AllocError, AllocFailed};
 use thiserror::Error;
 
-/// Why a text has no plan. It shows as its number, with the place in the text where there is one.
+/// Why a text has no plan. It shows as its number, with the place in the text if there is one.
 #[derive(Clone, Copy, Debug, PartialEq, Eq, Error)]
 pub enum BuildError {
     /// The budget is not 1 to 1,000,000 ticks.

@@ -22,7 +22,7 @@ ghost use Rattle.st_compile.specs.Linked.{ProgramLinked};
 ghost use Rattle.config.specs.Compiled.{AreCompiled};
 ghost use Rattle.config.specs.Spelled.{IsSpelled};
 ghost use Rattle.config.specs.Codes.{AreCodesOf, AreCodesOver, IsCodeOver};
-ghost use Rattle.config.specs.Rooms.{HasOne, IsCrowded, IsLong, LacksRoom};
+ghost use Rattle.config.specs.Rooms.{HasOne, IsCrowded, HasTooManyInstructions, LacksRoom};
 
 use crate::fitting_laws::accepted_texts_are_compiled;
 use crate::look_ups::codes_of_accepted_texts_look_globals_up;
@@ -42,7 +42,7 @@ use st_types::{Kind, Source};
 use std::alloc::{AllocError, Global};
 use std::sync::Arc;
 
-/// Whether there may be room for the values that calls of these functions begin with: each takes two instructions of a
+/// Whether there may be room for the values with which calls of these functions begin: each takes two instructions of a
 /// program.
 fn may_have_room(called: &CalledFunctions<'_>) -> bool
     ensures { result ≡ false → program_count called.now * (MAX_INSTRUCTIONS / 2) < value_count called.now }
@@ -71,7 +71,7 @@ fn linked_text(
     }
 }
 
-/// Quick code of a linked body over slots of these types, if it has some: it answers as the instructions.
+/// Quick code of a linked body over slots of these types, if it has some: it answers as the instructions do.
 fn quick_of(
     alloc: Global,
     library: &SlotLibrary,
@@ -106,7 +106,7 @@ fn code_of(
         64)) }
     ensures long { IfErr result (λ e. e ≡ CompileError.TooManyInstructions
         → (whole : tree.SlotLibrary) → IsKeptOf (slot_library_view library.now) whole
-        → IsLong whole (length kinds.now.value.items) (slot_stmts_view body.now)) }
+        → HasTooManyInstructions whole (length kinds.now.value.items) (slot_stmts_view body.now)) }
     ensures crowded { IfErr result (λ e. e ≡ CompileError.TooManyPlaces
         → IsCrowded (slot_library_view library.now) (length kinds.now.value.items) (slot_stmts_view body.now)) }
 {
@@ -139,7 +139,7 @@ fn codes_of_programs(
         (map (λ b. slot_stmts_view b.items) programs.now))) }
     ensures long { IfErr result (λ e. e ≡ CompileError.TooManyInstructions
         → (whole : tree.SlotLibrary) → IsKeptOf (slot_library_view library.now) whole
-        → HasOne (IsLong whole (length kinds.now.value.items)) (map (λ b. slot_stmts_view b.items) programs.now)) }
+        → HasOne (HasTooManyInstructions whole (length kinds.now.value.items)) (map (λ b. slot_stmts_view b.items) programs.now)) }
     ensures crowded { IfErr result (λ e. e ≡ CompileError.TooManyPlaces
         → HasOne (IsCrowded (slot_library_view library.now) (length kinds.now.value.items))
         (map (λ b. slot_stmts_view b.items) programs.now)) }
@@ -155,14 +155,14 @@ fn codes_of_programs(
 /// The code of each program of an accepted text, in the order of the configuration's instances, over the text's layout.
 /// The text is given by its tree in which each literal has its type.
 ///
-/// Each code means its program: over any values of the layout's slots the machine ends as the program does, with the
-/// same outcome, and leaves the same variables. What its runs read of globals and inputs the program asks for. There are
-/// as many codes as the text has programs.
+/// Each code means its program: over any values of the layout's slots the machine ends as the program does, with the same
+/// outcome, and leaves the same variables. The program asks for all globals and inputs that its runs read. There are as many
+/// codes as the text has programs.
 ///
-/// M1 where calls of functions take more than 4,096 places in one program. M2 where the code of a program has more
-/// than 16,384 instructions; that is known before it is made where single calls of all functions that are called begin
-/// with more than 8,192 values for each program. M3 out of memory. Of an accepted text over its layout, with its
-/// literals as the grammar gives them, no other error comes.
+/// M1 if calls of functions take more than 4,096 places in one program. M2 if the code of a program has more than 16,384
+/// instructions; that is known before it is made if single calls of all called functions begin with more than 8,192 values
+/// for each program. M3 out of memory. An accepted text over its layout, with its literals as the grammar gives them, gets
+/// no other error.
 pub fn codes_of_text(
     alloc: Global,
     source: &Source,

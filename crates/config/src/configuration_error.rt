@@ -12,11 +12,11 @@ pub enum ConfigurationError {
     /// There is no CONFIGURATION, or a second one.
     #[error("G2")]
     NotOne,
-    /// A task, the type of a program or a global is unknown; or a VAR_EXTERNAL has another type than its global, or
-    /// isn't CONSTANT just where the global is CONSTANT or an input; or a SINGLE isn't a BOOL global.
+    /// A task, the type of a program or a global is unknown; or a VAR_EXTERNAL has a type other than its global's, or isn't
+    /// CONSTANT exactly when the global is CONSTANT or an input; or a SINGLE isn't a BOOL global.
     #[error("G3")]
     Unknown,
-    /// An address is doubled, out of range or of another width; or an input has an initial value; or AT stands with
+    /// An address is doubled, out of range or of another width; or an input has an initial value; or AT occurs with
     /// CONSTANT.
     #[error("G4")]
     WrongAddress,

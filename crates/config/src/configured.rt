@@ -68,7 +68,7 @@ fn are_known<'a>(
     Ok(have_known_externals(names, units) && are_known_resources(names, &configuration.resources))
 }
 
-/// Judges a configuration: first how much it has, so that nothing else is looked for among too many.
+/// Judges a configuration: first the numbers of its parts, so that nothing else is looked for among too many.
 fn judge<'a>(
     alloc: Global,
     source: &'a Source,
@@ -99,10 +99,9 @@ fn judge<'a>(
     Ok(())
 }
 
-/// Judges the configuration of a text that breaks no rule of the language, as it is parsed: there is one (G2), what it
-/// names is there and of the right type (G3), addresses are sound (G4), it has not too many parts (G5), and each
-/// program has a task (G8). Of several numbers that apply any may come, G2 before all others. Of other texts nothing is
-/// said.
+/// Judges the configuration of a text that breaks no rule of the language, as it is parsed: there is one (G2), its names are
+/// known and of the right type (G3), addresses are sound (G4), it has not too many parts (G5), and each program has a task
+/// (G8). If several numbers apply any may come, G2 before all others. Nothing is said of other texts.
 pub fn configure(alloc: Global, source: &Source) -> Result<(), ConfigurationError>
     ensures configured { OnOk result
         (IsWellTyped (source_view source.now) → IsConfigured (source_view source.now)) }

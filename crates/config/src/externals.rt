@@ -17,7 +17,7 @@ use crate::same_types::same_type;
 use st_types::{Declaration, Name, Section, Unit, VariableBlock};
 use symbols::{Index, PlaceType, TextNames, place_type};
 
-/// What the names of a text stand for: its types, and the globals of its configuration.
+/// The meanings of the names of a text: its types, and the globals of its configuration.
 #[derive(Clone, Copy)]
 pub struct Names<'t, 'a> {
     pub text: &'t TextNames<'a>,

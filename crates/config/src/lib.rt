@@ -1,6 +1,6 @@
 //! From a text in Structured Text to its plan: tokens, tree, rules, configuration, layout and codes, one after another.
 //!
-//! It owns the rules on a text's configuration. A text that has a plan is given it, each refusal applies to its text,
+//! This crate owns the rules on a text's configuration. A text that has a plan gets it, each refusal applies to its text,
 //! and code is made of each text that breaks no rule.
 #![tactic(auto)]
 
@@ -44,10 +44,10 @@ pub use linked_bodies::names_lie_among_values;
 pub use literals::literals_of_texts_are_spelled;
 pub use look_ups::codes_of_accepted_texts_look_globals_up;
 pub use path_laws::{
-    declarations_of_texts_are_plain, paths_of_texts_are_of_words, paths_of_texts_are_written_apart,
-    word_paths_are_written_apart,
+    declarations_of_texts_are_plain, paths_of_texts_are_of_words,
+    paths_of_texts_have_distinct_spellings, word_paths_have_distinct_spellings,
 };
 pub use plan::Plan;
-pub use plan_laws::{instances_of_plans_are_told_apart, tasks_are_as_declared};
+pub use plan_laws::{instances_of_plans_are_distinguished, tasks_are_as_declared};
 pub use source_plan::build;
 pub use st_compile::CompileError;

@@ -16,9 +16,9 @@ ghost use Rattle.st_link.specs.Accepted.{IsAccepted};
 use slot_trees::linked_texts_have_their_programs;
 use st_link::texts_that_break_no_rule_are_linked;
 
-/// In the code of a program of an accepted text no instruction takes the value of a global or an input as it is, for
-/// what is taken so belongs to an instance: the control variable of a FOR, the members of a standard block, and the
-/// outputs that a call copies.
+/// In the code of a program of an accepted text no instruction takes the value of a global or an input as it is: a value
+/// taken so belongs to an instance, as the control variable of a FOR, the members of a standard block, and the outputs that
+/// a call copies do.
 pub fn codes_of_accepted_texts_look_globals_up()
     ensures { (source : Source) (linked : LinkedText) (n : ℕ) (p : Program) (body : SlotStmts) (depth : ℕ)
         (code : CodeView) (k : ℕ) (l : Slot) → IsAccepted source → linked_source source ≡ Some linked

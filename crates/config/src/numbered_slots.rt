@@ -7,7 +7,7 @@ use layout::Layout;
 use plan::SlotPlace;
 use std::alloc::{AllocError, Global};
 
-/// What stands in the slots of a layout: variables and inputs, each numbered as it stands.
+/// The variables and inputs in the slots of a layout, each numbered in its order.
 pub fn numbered_slots(alloc: Global, layout: &Layout) -> Result<Vec<SlotPlace>, AllocError>
     ensures { IfOk result (λ places. places.items ≡ numbered_from 0 0 layout.now.slots) }
 {

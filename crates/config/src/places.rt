@@ -46,7 +46,7 @@ fn task_number(tasks: &[Task], task: &Option<Identifier>) -> Option<usize>
     }
 }
 
-/// Where an instance on a resource runs, whose first task has this number among those of all resources.
+/// The place of an instance on a resource whose first task has this number among those of all resources.
 fn place_of(
     alloc: Global,
     number: usize,

@@ -15,9 +15,9 @@ ghost use Rattle.config.specs.CodedSources.{HasCodeRuns};
 use machine_code::code_does_what_its_program_does;
 use st_link::programs_of_accepted_texts_run_by_slots;
 
-/// Each program of a text that breaks no rule, with one configuration in which all names are known, has code in each
-/// memory that it fits. Over any values of the slots of the text's layout, whatever stands in the memory behind them,
-/// the machine ends on it as the program does, and leaves the same variables. The grammar gives no function externals.
+/// Each program of a text that breaks no rule, with one configuration in which all names are known, has code in each memory
+/// that it fits. Over any values of the slots of the text's layout, whatever is in the memory after them, the machine ends
+/// on it as the program does, and leaves the same variables. The grammar gives no function externals.
 pub fn code_of_accepted_texts_does_what_their_programs_do()
     ensures { (source : Source) (c : Configuration) (n : ℕ) (p : Program) → IsWellTyped source
         → HaveFunctionsNoExternals source → only_configuration (configurations_in source) ≡ Some c

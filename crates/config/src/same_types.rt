@@ -1,4 +1,4 @@
-//! Types that are one.
+//! Types that are the same.
 
 ghost use Rattle.std.specs.Prelude.{◌≡◌, ◌+◌, Option, Some, None, option_map};
 ghost use Rattle.st_meaning.specs.NameTypes.{Declared, definition_of};
@@ -13,7 +13,7 @@ use st_rules::limits::MAX_TYPE_DEPTH;
 use st_types::{ArrayType, SimpleType, TypeDefinition};
 use symbols::{PlaceType, TextNames};
 
-/// Whether two simple types are one: an elementary type, or one declaration.
+/// Whether two simple types are the same: an elementary type, or one declaration.
 fn same_simple(this: &SimpleType, that: &SimpleType) -> bool
     ensures { result ≡ same_simple this.now that.now }
 {
@@ -52,7 +52,7 @@ fn array_in<'a>(names: &TextNames<'a>, declared: PlaceType<'a>) -> Option<&'a Ar
     }
 }
 
-/// Whether two types that are not both arrays are one.
+/// Whether two types that are not both arrays are the same.
 fn same_plain(this: PlaceType, that: PlaceType) -> bool
     ensures { result ≡ same_plain (place_type_view this.entry) (place_type_view that.entry) }
 {
@@ -71,7 +71,7 @@ fn same_plain(this: PlaceType, that: PlaceType) -> bool
     }
 }
 
-/// Whether two types are one, through at most so many arrays.
+/// Whether two types are the same, through at most `depth` arrays.
 #[tactic(auto, using(crate::proofs::TypeLemmas::same_none, crate::proofs::TypeLemmas::same_arrays, crate::proofs::TypeLemmas::other_bounds, crate::proofs::TypeLemmas::same_first, crate::proofs::TypeLemmas::same_second))]
 fn same_within<'a>(
     names: &TextNames<'a>,
@@ -102,7 +102,7 @@ fn same_within<'a>(
     )
 }
 
-/// Whether two types are one: arrays are where their bounds and the types of their elements are.
+/// Whether two types are the same: arrays are if their bounds and the types of their elements are.
 pub fn same_type<'a>(names: &TextNames<'a>, this: PlaceType<'a>, that: PlaceType<'a>) -> bool
     ensures { (text : Declared) → ServesText names.now text
         → result ≡ same_type text (place_type_view this.entry) (place_type_view that.entry) }

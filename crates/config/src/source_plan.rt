@@ -16,7 +16,7 @@ use crate::build_error::BuildError;
 use crate::codes::codes_of_text;
 use crate::configured::configure;
 use crate::literals::literals_of_texts_are_spelled;
-use crate::path_laws::paths_of_texts_are_written_apart;
+use crate::path_laws::paths_of_texts_have_distinct_spellings;
 use crate::text_plan::plan_from;
 use layout::Layout;
 use plan::Plan;
@@ -42,7 +42,7 @@ fn plan_of_tree(alloc: Global, tree: Source, budget: u32) -> Result<Plan, BuildE
     plan_from(alloc, tree, layout, codes, budget)
 }
 
-/// The plan of a parsed text, which the configuration's rules may refuse only where no rule of the language does.
+/// The plan of a parsed text, which the configuration's rules may refuse only if no rule of the language does.
 fn plan_of(alloc: Global, source: Source, budget: u32) -> Result<Plan, BuildError>
     requires text { (text : List ℕ) × IsTextOf text (source_view source) }
     requires some_ticks { 1 ≤ budget }
@@ -50,7 +50,7 @@ fn plan_of(alloc: Global, source: Source, budget: u32) -> Result<Plan, BuildErro
     ensures plan { IfOk result (λ plan. IsPlanOf (source_view source) budget (plan_view plan)) }
     ensures refused { IfErr result (λ e. SourceLacksPlan (source_view source) e) }
 {
-    paths_of_texts_are_written_apart();
+    paths_of_texts_have_distinct_spellings();
     literals_of_texts_are_spelled();
     let configured = configure(alloc, &source);
     let checked = check(alloc, source)?;
@@ -62,15 +62,14 @@ fn plan_of(alloc: Global, source: Source, budget: u32) -> Result<Plan, BuildErro
 /// instance, its resources and tasks.
 ///
 /// G7 comes first, then the lexer's, the parser's and the checker's refusals, then G2; of the others any that applies may
-/// come. A text that has a plan is refused only where memory runs out, or where there is no room for a program's code
-/// (M1, M2).
+/// come. A text that has a plan is refused only if memory runs out, or if there is no room for a program's code (M1, M2).
 pub fn build(alloc: Global, text: &[u8], budget: u32) -> Result<Plan, BuildError>
     // The budget is judged before all else.
     ensures budget { (budget ≡ 0) ⊎ (MAX_BUDGET < budget) → IsErrOf result BuildError.Budget }
     // The plan is that of a tree that the bytes spell.
     ensures plan { IfOk result
         (λ plan. (source : trees.Source) × IsTextOf text.now source × IsPlanOf source budget (plan_view plan)) }
-    // A text of which there is such a plan is given it, unless something is wanting.
+    // A text that has a plan gets it, unless memory runs out or its code has no room.
     ensures only { (source : trees.Source) (plan : plans.Plan) → IsTextOf text.now source → IsPlanOf source budget plan
         → GivesPlan source result plan }
     // A refusal applies.

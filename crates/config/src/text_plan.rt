@@ -25,8 +25,8 @@ use st_types::limits::MAX_RECORD_BODY;
 use std::alloc::Global;
 use std::sync::Arc;
 
-/// The plan of a text that breaks no rule, from its tree in which each literal has its type. It is refused only where a
-/// record would be too long (G6) and where memory runs out.
+/// The plan of a text that breaks no rule, from its tree in which each literal has its type. It is refused only if a record
+/// would be too long (G6) or memory runs out.
 pub fn plan_from(
     alloc: Global,
     tree: Source,

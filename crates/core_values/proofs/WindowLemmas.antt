@@ -7,13 +7,7 @@ use Rattle.quick_trees.proofs.Lists.{within_there}
 use Rattle.plan.specs.declared.slots.SlotPlace.{SlotPlace}
 use Rattle.plan.specs.declared.slots.SlotPlace.TheVariants.{Variable, Input}
 use Rattle.plan.specs.SlotPlaces.{are_numbered, merged}
-use Rattle.plan.proofs.SlotLemmas.{AreNumbered, from_first}
-
--- numbers only rise
-rising : (ps : List SlotPlace) (v i n m : ℕ) → AreNumbered v i ps n m → (v ≤ n) × (i ≤ m)
-rising [] v i n m h = (omega (arith, h.0), omega (arith, h.1))
-rising (Variable k ∷ ps) v i n m h = let r = rising ps (suc v) i n m h.1 in (omega (arith, r.0), r.1)
-rising (Input k ∷ ps) v i n m h = let r = rising ps v (suc i) n m h.1 in (r.0, omega (arith, r.1))
+use Rattle.plan.proofs.SlotLemmas.{AreNumbered, from_first, rising}
 
 merged_long : (ps : List SlotPlace) (v i n m : ℕ) (vs xs : List Datum) → n ≡ v + length vs → m ≡ i + length xs
     → AreNumbered v i ps n m → length (merged ps vs xs) ≡ length ps

@@ -2,8 +2,8 @@
 
 ghost use Rattle.std.specs.Prelude.{◌≡◌, length, map, slice_get, true};
 ghost use Rattle.st_meaning.specs.Slots.{agrees, is_value as is_value_of};
-ghost use Rattle.plan.specs.SlotPlaces.{are_numbered, merged, value_in, written_variables};
-ghost use Rattle.slot_memory.specs.Cells.{cut};
+ghost use Rattle.plan.specs.SlotPlaces.{are_numbered, merged, value_at_place, written_variables};
+ghost use Rattle.slot_memory.specs.Cells.{cell_view};
 
 use plan::SlotPlace;
 use slot_memory::Cell;
@@ -20,7 +20,7 @@ fn item(values: &[Value], number: usize) -> Option<Value>
 
 /// The value in a place, of these variables and inputs.
 fn value_in(values: &[Value], image: &[Value], place: Option<SlotPlace>) -> Option<Value>
-    ensures { result ≡ value_in values.now image.now place }
+    ensures { result ≡ value_at_place values.now image.now place }
 {
     match place {
         Some(SlotPlace::Variable(number)) => item(values, number),
@@ -61,10 +61,10 @@ fn is_value(found: Option<Value>, value: Value) -> bool
     }
 }
 
-/// Whether each cell's value stands in its slot.
-pub fn stand(places: &[SlotPlace], values: &[Value], image: &[Value], cells: &[Cell]) -> bool
+/// Whether each cell's value is in its slot.
+pub fn are_current(places: &[SlotPlace], values: &[Value], image: &[Value], cells: &[Cell]) -> bool
     requires { are_numbered 0 0 places.now (length values.now) (length image.now) ≡ true }
-    ensures { result ≡ agrees (merged places.now values.now image.now) (map cut cells.now) }
+    ensures { result ≡ agrees (merged places.now values.now image.now) (map cell_view cells.now) }
 {
     for cell in cells {
         if !is_value(value_at(places, values, image, cell.slot), cell.value) {
@@ -76,7 +76,7 @@ pub fn stand(places: &[SlotPlace], values: &[Value], image: &[Value], cells: &[C
 
 /// Writes each cell's value to its variable. A cell of another slot changes nothing.
 pub fn write_all(places: &[SlotPlace], values: &mut Vec<Value>, cells: &[Cell])
-    ensures { values.new.items ≡ written_variables places.now values.old.items (map cut cells.now) }
+    ensures { values.new.items ≡ written_variables places.now values.old.items (map cell_view cells.now) }
 {
     for cell in cells {
         if let Some(SlotPlace::Variable(number)) = place_at(places, cell.slot) {

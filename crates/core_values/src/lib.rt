@@ -1,5 +1,4 @@
-//! What a core does with its parts, each by itself: values of slots, rows of a log, what variables start with after a
-//! restart.
+//! The parts of a core's work, each by itself: values of slots, rows of a log, the values of variables after a restart.
 #![tactic(auto)]
 
 mod cells;
@@ -7,7 +6,7 @@ mod restoring;
 mod rows;
 mod windows;
 
-pub use cells::{stand, write_all};
+pub use cells::{are_current, write_all};
 pub use restoring::restore;
 pub use rows::{fits, is_later, row_of};
 pub use windows::window_values;

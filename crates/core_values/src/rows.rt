@@ -13,7 +13,7 @@ use st_meaning::PlanInput;
 use st_types::limits::MOMENT_LIMIT;
 use st_types::{Entry, Row, Value};
 
-/// The row of this number, by where each row stands in the log.
+/// The row of this number, by the place of each row in the log.
 pub fn row_of<'a>(log: &'a [Entry], rows: &[usize], k: usize) -> &'a Row
     requires there { k < length rows.now }
     requires row { (latch : Latch) × (slice_get log.now (slice_index rows.now k) ≡ Some (row_entry latch)) }

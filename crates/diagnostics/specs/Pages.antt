@@ -1,4 +1,4 @@
--- What may reach a terminal.
+-- The bytes that may reach a terminal.
 use Rattle.std.specs.Prelude.{ℕ, ◌==◌, nat_le, Bool, ◌&&◌, ◌||◌}
 
 -- a character that prints as it is: 32 to 126

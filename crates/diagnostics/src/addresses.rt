@@ -1,9 +1,9 @@
-//! What is said of addresses (G4).
+//! Findings on addresses (G4).
 
 use crate::finding::Finding;
 use crate::position::position_of;
+use crate::sentences::said_at;
 use crate::spelling::Text;
-use crate::telling::said_at;
 use st_lex::Token;
 use st_meaning::lookup::kind_of_type;
 use st_types::limits::{BIT_ADDRESSES, WORD_ADDRESSES};
@@ -22,7 +22,7 @@ struct Located<'a> {
     declaration: &'a GlobalDeclaration,
 }
 
-/// Why an address may not stand where it does, whatever the others are.
+/// Why a global may not have its address, whatever the others are.
 #[derive(Clone, Copy)]
 enum Misplaced {
     /// Its number is over this one, the greatest.
@@ -90,7 +90,7 @@ fn why_misplaced(located: Located) -> Option<Misplaced> {
     None
 }
 
-fn of_misplaced(
+fn misplaced_address_reason(
     alloc: Global,
     name: &str,
     address: &str,
@@ -98,7 +98,7 @@ fn of_misplaced(
 ) -> Result<String, AllocError> {
     match why {
         Misplaced::OutOfRange(last) => {
-            format!(in alloc; "`{address}` is out of its range: 0 to {last}")
+            format!(in alloc; "`{address}` is out of range: 0 to {last}")
         }
         Misplaced::OtherWidth(AddressWidth::Bit) => {
             format!(in alloc; "`{address}` is one bit: `{name}` has to be BOOL")
@@ -107,15 +107,15 @@ fn of_misplaced(
             format!(in alloc; "`{address}` has 16 bits: `{name}` has to be INT, UINT or WORD")
         }
         Misplaced::Constant => {
-            format!(in alloc; "`{name}` has the address `{address}` and stands under CONSTANT")
+            format!(in alloc; "`{name}` has the address `{address}` and is declared CONSTANT")
         }
         Misplaced::Initial => {
-            format!(in alloc; "`{address}` is an input: `{name}` may have no initial value")
+            format!(in alloc; "`{address}` is an input: `{name}` can't have an initial value")
         }
     }
 }
 
-/// The first of some globals that may not stand at its address.
+/// The first of some globals that may not have its address.
 fn first_misplaced<'a>(located: &[Located<'a>]) -> Option<(Located<'a>, Misplaced)> {
     for one in located {
         if let Some(why) = why_misplaced(*one) {
@@ -125,7 +125,7 @@ fn first_misplaced<'a>(located: &[Located<'a>]) -> Option<(Located<'a>, Misplace
     None
 }
 
-/// The first of some globals that stands at an address.
+/// The first of some globals that has an address.
 fn first_at<'a>(located: &[Located<'a>], address: Address) -> Option<Located<'a>> {
     for one in located {
         if one.address == address {
@@ -135,8 +135,8 @@ fn first_at<'a>(located: &[Located<'a>], address: Address) -> Option<Located<'a>
     None
 }
 
-/// The first of some globals whose address an earlier one has, and that one. All are in their ranges, in which there
-/// are 2,560 addresses: so few are looked at.
+/// The first of some globals whose address an earlier one has, and that one. All are in their ranges, in which there are
+/// only 2,560 addresses: no more are looked at.
 fn first_doubled<'a>(located: &[Located<'a>]) -> Option<(Located<'a>, Located<'a>)> {
     for one in located {
         match first_at(located, one.address) {
@@ -147,42 +147,55 @@ fn first_doubled<'a>(located: &[Located<'a>]) -> Option<(Located<'a>, Located<'a
     None
 }
 
-fn of_doubled(text: &Text, address: &Token, first: &Identifier) -> Result<String, AllocError> {
+fn doubled_address_reason(
+    text: &Text,
+    address: &Token,
+    first: &Identifier,
+) -> Result<String, AllocError> {
     let (spelled, name) = (text.spelled_token(address), text.spelled(first));
     let line = position_of(text.bytes, first.place).line;
-    format!(in text.alloc; "`{spelled}` is used twice: `{name}` in line {line} has it already")
+    format!(in text.alloc; "`{spelled}` is used twice: `{name}` on line {line} already has it")
 }
 
-fn of_first_misplaced(
+fn first_misplaced_address_reason(
     text: &Text,
     name: &Identifier,
     why: Misplaced,
 ) -> Result<Option<Finding>, AllocError> {
-    let Some(address) = text.address_behind(name) else {
+    let Some(address) = text.address_after(name) else {
         return Ok(None);
     };
     let (name, spelled) = (text.spelled(name), text.spelled_token(address));
-    said_at(address.start, of_misplaced(text.alloc, name, spelled, why))
+    said_at(
+        address.start,
+        misplaced_address_reason(text.alloc, name, spelled, why),
+    )
 }
 
-fn of_first_doubled(text: &Text, located: &[Located]) -> Result<Option<Finding>, AllocError> {
+fn first_doubled_address_reason(
+    text: &Text,
+    located: &[Located],
+) -> Result<Option<Finding>, AllocError> {
     let Some((second, first)) = first_doubled(located) else {
         return Ok(None);
     };
-    match text.address_behind(second.name) {
-        Some(address) => said_at(address.start, of_doubled(text, address, first.name)),
+    match text.address_after(second.name) {
+        Some(address) => said_at(
+            address.start,
+            doubled_address_reason(text, address, first.name),
+        ),
         None => Ok(None),
     }
 }
 
-/// What is said of an address that may not stand where it does, or that stands twice.
-pub fn of_addresses(
+/// The finding on an address that its global may not have, or that occurs twice.
+pub fn addresses_reason(
     text: &Text,
     configuration: &Configuration,
 ) -> Result<Option<Finding>, AllocError> {
     let located = located_in(text.alloc, configuration)?;
     match first_misplaced(&located) {
-        Some((one, why)) => of_first_misplaced(text, one.name, why),
-        None => of_first_doubled(text, &located),
+        Some((one, why)) => first_misplaced_address_reason(text, one.name, why),
+        None => first_doubled_address_reason(text, &located),
     }
 }

@@ -1,11 +1,11 @@
-//! What is said of the arguments of blocks (C10).
+//! Findings on the arguments of blocks (C10).
 
+use crate::broken_place::Site;
 use crate::finding::Finding;
-use crate::members::{of_missing_side, variable_type};
-use crate::sites::Site;
+use crate::members::{missing_side_reason, variable_type};
+use crate::sentences::{may_help, said, said_with};
 use crate::spot::{Spot, is_mark};
 use crate::spots::{name_at, spelled_name};
-use crate::telling::{may_help, said, said_with};
 use st_lex::{Mark, TokenKind};
 use st_types::{Identifier, Name, SimpleType};
 use std::alloc::AllocError;
@@ -19,7 +19,7 @@ struct Call<'a> {
     is_repeated: bool,
 }
 
-/// On which side of its block an argument is as it is written.
+/// The side of its block for which an argument is written.
 fn side_at(spot: &Spot) -> Option<Side> {
     if is_mark(spot.next(), Mark::Assign) {
         Some(Side::Input)
@@ -82,21 +82,21 @@ fn has(site: &Site, instance: &Name, side: Side, name: &Name) -> bool {
     }
 }
 
-/// What may help where an argument stands on this side, and its block has it on the other.
+/// A hint if an argument is written for this side, and its block has it on the other.
 fn help_for(site: &Site, side: Side) -> Result<Option<String>, AllocError> {
     let spelled = site.spot.spelled();
     match side {
         Side::Input => {
-            may_help(format!(in site.alloc; "an output is copied: `{spelled} => variable`"))
+            may_help(format!(in site.alloc; "copy an output with `{spelled} => variable`"))
         }
         Side::Output => {
-            may_help(format!(in site.alloc; "an input is given a value: `{spelled} := value`"))
+            may_help(format!(in site.alloc; "set an input with `{spelled} := value`"))
         }
     }
 }
 
 /// An output that is given a value, or an input that is copied.
-fn of_other_side(
+fn other_side_reason(
     site: &Site,
     block: &Identifier,
     side: Side,
@@ -112,8 +112,8 @@ fn of_other_side(
     )
 }
 
-/// An argument that stands once in its call.
-fn of_wrong<'a>(
+/// The finding on an argument that occurs once in its call.
+fn wrong_argument_reason<'a>(
     site: &Site<'a>,
     instance: &Name,
     side: Side,
@@ -125,14 +125,14 @@ fn of_wrong<'a>(
     };
     match block_of(site, instance) {
         Some(_) if has(site, instance, side, name) => Ok(None),
-        Some(block) if has(site, instance, other, name) => of_other_side(site, block, side),
-        Some(block) => of_missing_side(site, block, side, name),
+        Some(block) if has(site, instance, other, name) => other_side_reason(site, block, side),
+        Some(block) => missing_side_reason(site, block, side, name),
         None => Ok(None),
     }
 }
 
-/// What is said of an argument of a block that it has not, or that is given twice; nothing where the place is at none.
-pub fn of_argument(site: &Site) -> Result<Option<Finding>, AllocError> {
+/// The finding on an argument that its block doesn't have, or that is given twice; none if the place is at no argument.
+pub fn argument_reason(site: &Site) -> Result<Option<Finding>, AllocError> {
     let (Some(side), Some(name)) = (side_at(&site.spot), name_at(&site.spot)) else {
         return Ok(None);
     };
@@ -141,7 +141,7 @@ pub fn of_argument(site: &Site) -> Result<Option<Finding>, AllocError> {
             let spelled = site.spot.spelled();
             said(format!(in site.alloc; "`{spelled}` is given twice"))
         }
-        Some(call) => of_wrong(site, call.instance, side, name),
+        Some(call) => wrong_argument_reason(site, call.instance, side, name),
         None => Ok(None),
     }
 }

@@ -1,7 +1,7 @@
-//! What is said of the bounds of arrays (C8).
+//! Findings on the bounds of arrays (C8).
 
 use crate::finding::Finding;
-use crate::telling::said;
+use crate::sentences::said;
 use st_decl::{declarings_in, named_arrays, unnamed_arrays};
 use st_meaning::number_of;
 use st_rules::limits::MAX_ELEMENTS;
@@ -56,25 +56,25 @@ pub fn elements_of(array: &ArrayType) -> i128 {
         .saturating_add(1)
 }
 
-fn of_array(alloc: Global, array: &ArrayType) -> Result<String, AllocError> {
+fn array_reason(alloc: Global, array: &ArrayType) -> Result<String, AllocError> {
     let (lower, upper) = (number_of(&array.lower), number_of(&array.upper));
     if upper < lower {
         return format!(in alloc; "the bounds {lower}..{upper} are reversed");
     }
     let count = elements_of(array);
     format!(in alloc;
-        "an array of {lower}..{upper} has {count} elements, at most {MAX_ELEMENTS} are allowed"
+        "an array [{lower}..{upper}] has {count} elements; at most {MAX_ELEMENTS} are allowed"
     )
 }
 
-/// What is said of bounds that are reversed or too wide.
-pub fn of_bounds(
+/// The finding on bounds that are reversed or too wide.
+pub fn bounds_reason(
     alloc: Global,
     place: usize,
     source: &Source,
 ) -> Result<Option<Finding>, AllocError> {
     match array_bounded_at(alloc, source, place)? {
-        Some(array) => said(of_array(alloc, array)),
+        Some(array) => said(array_reason(alloc, array)),
         None => Ok(None),
     }
 }

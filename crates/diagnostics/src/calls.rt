@@ -1,16 +1,16 @@
-//! What is said of calls of functions with too many or too few arguments (C10).
+//! Findings on calls of functions with too many or too few arguments (C10).
 
+use crate::broken_place::Site;
 use crate::finding::Finding;
-use crate::sites::Site;
+use crate::sentences::said;
 use crate::spot::{Spot, is_mark};
 use crate::spots::name_at;
-use crate::telling::said;
 use st_lex::{Mark, Token, TokenKind};
 use st_types::Name;
 use std::alloc::AllocError;
 use symbols::{Callee, Standard};
 
-/// How many arguments stand behind an opening parenthesis, up to where it closes.
+/// How many arguments come after an opening parenthesis, up to where it closes.
 fn count(tokens: &[Token]) -> usize {
     let mut open: usize = 1;
     let mut commas: usize = 0;
@@ -50,8 +50,8 @@ fn taken(site: &Site, function: &Name) -> Option<usize> {
     }
 }
 
-/// What is said of a function at the place that is called with too many or too few arguments.
-pub fn of_count(site: &Site) -> Result<Option<Finding>, AllocError> {
+/// The finding on a function at the place that is called with too many or too few arguments.
+pub fn count_reason(site: &Site) -> Result<Option<Finding>, AllocError> {
     let taken = match name_at(&site.spot) {
         Some(function) if is_mark(site.spot.next(), Mark::Open) => taken(site, function),
         _ => None,
@@ -60,5 +60,5 @@ pub fn of_count(site: &Site) -> Result<Option<Finding>, AllocError> {
         return Ok(None);
     };
     let (name, given) = (site.spot.spelled(), given(&site.spot));
-    said(format!(in site.alloc; "the number of arguments is {given}, `{name}` takes {taken}"))
+    said(format!(in site.alloc; "the number of arguments is {given}; `{name}` takes {taken}"))
 }

@@ -1,16 +1,16 @@
-//! What is said of a text that is refused as a whole, as far as its tree tells.
+//! Findings on a text that is refused as a whole, as far as its tree allows.
 
-use crate::addresses::of_addresses;
-use crate::counts::{of_counts, of_second, of_tasks};
-use crate::explaining::of_whole;
-use crate::externals::of_externals;
+use crate::addresses::addresses_reason;
+use crate::counts::{counts_reason, second_configuration_reason, tasks_reason};
+use crate::explaining::whole_text_reason;
+use crate::externals::externals_reason;
 use crate::fault::WholeFault;
 use crate::finding::Finding;
 use crate::globals::{Names, index_of};
-use crate::resources::of_resources;
-use crate::sizes::{of_instructions, of_paths, of_record};
+use crate::resources::resources_reason;
+use crate::sentences::said;
+use crate::sizes::{record_size_reason, too_many_instructions_reason, too_many_paths_reason};
 use crate::spelling::Text;
-use crate::telling::said;
 use st_types::{Configuration, LibraryElement, Source};
 use std::alloc::AllocError;
 use symbols::TextNames;
@@ -29,8 +29,8 @@ fn first_two(source: &Source) -> (Option<&Configuration>, Option<&Configuration>
     (first, None)
 }
 
-/// A global, a task or a program that is unknown, or another than it is used as.
-fn of_unknown<'a>(
+/// The finding on a global, a task or a program that is unknown or doesn't fit its use.
+fn unknown_reason<'a>(
     text: &Text<'a>,
     configuration: &'a Configuration,
 ) -> Result<Option<Finding>, AllocError> {
@@ -40,44 +40,47 @@ fn of_unknown<'a>(
         declared: &declared,
         globals: &globals,
     };
-    match of_externals(text, names) {
-        Ok(None) => of_resources(text, names, configuration),
+    match externals_reason(text, names) {
+        Ok(None) => resources_reason(text, names, configuration),
         told => told,
     }
 }
 
-fn of_one<'a>(
+fn one_configuration_reason<'a>(
     text: &Text<'a>,
     configuration: &'a Configuration,
     fault: WholeFault,
 ) -> Result<Option<Finding>, AllocError> {
     match fault {
-        WholeFault::Unknown => of_unknown(text, configuration),
-        WholeFault::WrongAddress => of_addresses(text, configuration),
-        WholeFault::TooMany => of_counts(text, configuration),
-        WholeFault::WithoutTask => of_tasks(text, configuration),
-        WholeFault::RecordTooLong => of_record(text, configuration),
-        WholeFault::TooManyPaths => of_paths(text, configuration),
-        WholeFault::TooManyInstructions => of_instructions(text),
+        WholeFault::Unknown => unknown_reason(text, configuration),
+        WholeFault::WrongAddress => addresses_reason(text, configuration),
+        WholeFault::TooMany => counts_reason(text, configuration),
+        WholeFault::WithoutTask => tasks_reason(text, configuration),
+        WholeFault::RecordTooLong => record_size_reason(text, configuration),
+        WholeFault::TooManyPaths => too_many_paths_reason(text, configuration),
+        WholeFault::TooManyInstructions => too_many_instructions_reason(text),
         _ => Ok(None),
     }
 }
 
-fn of_all(text: &Text, fault: WholeFault) -> Result<Option<Finding>, AllocError> {
+fn unknown_configuration_names_reason(
+    text: &Text,
+    fault: WholeFault,
+) -> Result<Option<Finding>, AllocError> {
     match (first_two(text.source), fault) {
         ((None, _), WholeFault::NotOne) => {
-            said(String::from_str(text.alloc, "the text has no CONFIGURATION"))
+            said(String::from_str(text.alloc, "the source has no CONFIGURATION"))
         }
-        ((_, Some(second)), WholeFault::NotOne) => of_second(text, second),
-        ((Some(configuration), None), _) => of_one(text, configuration, fault),
+        ((_, Some(second)), WholeFault::NotOne) => second_configuration_reason(text, second),
+        ((Some(configuration), None), _) => one_configuration_reason(text, configuration, fault),
         _ => Ok(None),
     }
 }
 
-/// What is said of a text that is refused as a whole.
-pub fn of_configuration(text: &Text, fault: WholeFault) -> Result<Finding, AllocError> {
-    match of_all(text, fault)? {
+/// The finding on a text that is refused as a whole.
+pub fn configuration_reason(text: &Text, fault: WholeFault) -> Result<Finding, AllocError> {
+    match unknown_configuration_names_reason(text, fault)? {
         Some(finding) => Ok(finding),
-        None => of_whole(text.alloc, fault),
+        None => whole_text_reason(text.alloc, fault),
     }
 }

@@ -1,19 +1,21 @@
-//! What is said of how many configurations, resources, tasks and programs there are (G2, G5), and of programs without a
-//! task (G8).
+//! Findings on the numbers of configurations, resources, tasks and programs (G2, G5), and on programs without a task (G8).
 
 use crate::finding::Finding;
+use crate::sentences::said_at;
 use crate::spelling::Text;
-use crate::telling::said_at;
 use st_types::limits::{MAX_PROGRAMS, MAX_RESOURCES, MAX_TASKS};
 use st_types::{Configuration, Instance, Resource, Task};
 use std::alloc::AllocError;
 
-/// What is said where a text has a second CONFIGURATION.
-pub fn of_second(text: &Text, second: &Configuration) -> Result<Option<Finding>, AllocError> {
+/// The finding on a second CONFIGURATION.
+pub fn second_configuration_reason(
+    text: &Text,
+    second: &Configuration,
+) -> Result<Option<Finding>, AllocError> {
     let name = text.spelled(&second.name);
     said_at(
         second.name.place,
-        format!(in text.alloc; "`{name}` is a second CONFIGURATION, a text has one"),
+        format!(in text.alloc; "`{name}` is a second CONFIGURATION; a source has one"),
     )
 }
 
@@ -49,18 +51,21 @@ fn task_too_many(configuration: &Configuration) -> Option<(&Resource, &Task)> {
     None
 }
 
-fn of_programs(text: &Text, configuration: &Configuration) -> Result<Option<Finding>, AllocError> {
+fn programs_reason(
+    text: &Text,
+    configuration: &Configuration,
+) -> Result<Option<Finding>, AllocError> {
     let Some(instance) = program_too_many(configuration) else {
         return Ok(None);
     };
     let count = programs(configuration);
     said_at(
         instance.name.place,
-        format!(in text.alloc; "there are {count} programs, at most {MAX_PROGRAMS} are allowed"),
+        format!(in text.alloc; "there are {count} programs; at most {MAX_PROGRAMS} are allowed"),
     )
 }
 
-fn of_many_tasks(
+fn many_tasks_reason(
     text: &Text,
     resource: &Resource,
     task: &Task,
@@ -69,12 +74,12 @@ fn of_many_tasks(
     said_at(
         task.name.place,
         format!(in text.alloc;
-            "the resource `{name}` has {count} tasks, at most {MAX_TASKS} are allowed"
+            "the resource `{name}` has {count} tasks; at most {MAX_TASKS} are allowed"
         ),
     )
 }
 
-fn of_many_resources(
+fn many_resources_reason(
     text: &Text,
     configuration: &Configuration,
     resource: &Resource,
@@ -82,12 +87,12 @@ fn of_many_resources(
     let count = configuration.resources.len();
     said_at(
         resource.name.place,
-        format!(in text.alloc; "there are {count} resources, at most {MAX_RESOURCES} are allowed"),
+        format!(in text.alloc; "there are {count} resources; at most {MAX_RESOURCES} are allowed"),
     )
 }
 
-/// What is said where there are too many resources, tasks or programs.
-pub fn of_counts(
+/// The finding on too many resources, tasks or programs.
+pub fn counts_reason(
     text: &Text,
     configuration: &Configuration,
 ) -> Result<Option<Finding>, AllocError> {
@@ -95,9 +100,9 @@ pub fn of_counts(
         configuration.resources.get(MAX_RESOURCES),
         task_too_many(configuration),
     ) {
-        (Some(resource), _) => of_many_resources(text, configuration, resource),
-        (None, Some((resource, task))) => of_many_tasks(text, resource, task),
-        (None, None) => of_programs(text, configuration),
+        (Some(resource), _) => many_resources_reason(text, configuration, resource),
+        (None, Some((resource, task))) => many_tasks_reason(text, resource, task),
+        (None, None) => programs_reason(text, configuration),
     }
 }
 
@@ -113,15 +118,18 @@ fn without_task(configuration: &Configuration) -> Option<&Instance> {
     None
 }
 
-/// What is said of a program without a task.
-pub fn of_tasks(text: &Text, configuration: &Configuration) -> Result<Option<Finding>, AllocError> {
+/// The finding on a program without a task.
+pub fn tasks_reason(
+    text: &Text,
+    configuration: &Configuration,
+) -> Result<Option<Finding>, AllocError> {
     let Some(instance) = without_task(configuration) else {
         return Ok(None);
     };
     let name = text.spelled(&instance.name);
     Ok(Some(Finding {
         sentence: format!(in text.alloc; "the program `{name}` has no task")?,
-        help: Some(format!(in text.alloc; "write WITH and the name of a task behind `{name}`")?),
+        help: Some(format!(in text.alloc; "write WITH and the name of a task after `{name}`")?),
         place: Some(instance.name.place),
     }))
 }

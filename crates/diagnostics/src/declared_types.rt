@@ -1,11 +1,11 @@
-//! Types that certainly differ, and what types are called.
+//! Types that certainly differ, and the names of types.
 
 use crate::spelling::Text;
 use st_meaning::number_of;
 use st_types::{ArrayType, SimpleType, TypeDefinition, VariableType};
 use symbols::TextNames;
 
-/// What a type is called.
+/// The name of a type.
 pub fn type_name<'a>(text: &Text<'a>, declared: &VariableType) -> &'a str {
     match declared {
         VariableType::Simple(SimpleType::Elementary(kind, _)) => kind.row().keyword,
@@ -52,13 +52,13 @@ fn simple_differ(names: &TextNames, this: &SimpleType, that: &SimpleType) -> boo
 /// How two types differ.
 #[derive(Clone, Copy, PartialEq, Eq)]
 pub enum Difference {
-    /// They are no arrays, or one of them is none.
+    /// They are not arrays, or one of them isn't.
     Type,
     /// They are arrays of other bounds or elements.
     Array,
 }
 
-/// How two types differ, where they certainly do.
+/// How two types differ, if they certainly do.
 pub fn how_differ<'a>(
     names: &TextNames<'a>,
     this: &'a VariableType,

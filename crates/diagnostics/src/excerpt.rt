@@ -10,7 +10,7 @@ use std::alloc::AllocError;
 /// The most bytes of a line that are shown.
 const MAX_SHOWN: usize = 100;
 
-/// The part of a line that is shown: the offsets of its first byte and behind its last one.
+/// The part of a line that is shown: the offset of its first byte, and the offset after its last one.
 #[derive(Clone, Copy)]
 struct Window {
     from: usize,
@@ -43,7 +43,7 @@ fn without_return(line: &[u8]) -> &[u8] {
     }
 }
 
-/// Appends the part of a line that is shown, with `...` for what is cut off before and behind it.
+/// Appends the part of a line that is shown, with `...` for the parts cut off before and after it.
 fn put_source(page: &mut Page, line: &[u8], shown: Window) -> Result<(), AllocError>
     requires { shown.to ≤ length line.now }
 {
@@ -79,7 +79,7 @@ fn put_margin(page: &mut Page, number: &[u8]) -> Result<(), AllocError> {
     page.put(b" |")
 }
 
-/// Appends a line as it is shown, with a caret under one of its bytes or behind its last one.
+/// Appends a line as it is shown, with a caret under one of its bytes or after its last one.
 fn put_line(page: &mut Page, line: &[u8], place: usize, number: &[u8]) -> Result<(), AllocError>
     requires { place ≤ length line.now }
 {
@@ -92,7 +92,7 @@ fn put_line(page: &mut Page, line: &[u8], place: usize, number: &[u8]) -> Result
     put_caret(page, line, shown, place)
 }
 
-/// Appends the line of a place under an empty row, and under it a caret. The line has this number.
+/// Appends the line of a place under an empty row, and a caret under it. The line has this number.
 pub fn put_excerpt(
     page: &mut Page,
     text: &[u8],

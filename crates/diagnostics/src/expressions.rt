@@ -1,12 +1,12 @@
-//! What is said of operators and functions in expressions that have wrong types (C3).
+//! Findings on operators and functions in expressions that have wrong types (C3).
 
+use crate::broken_place::Site;
 use crate::finding::Finding;
 use crate::part::shown;
-use crate::sites::Site;
-use crate::telling::said;
+use crate::sentences::said;
 use st_rules::{Demand, Sorts, Typing};
 use st_types::{BinaryOperator, Expr, Identifier, UnaryOperator};
-use st_typing::{meets, settled, typing};
+use st_typing::{allows, settled, typing};
 use std::alloc::AllocError;
 use symbols::{Callee, UnitNames};
 
@@ -18,7 +18,7 @@ pub fn typing_in(names: &UnitNames, expression: &Expr) -> Typing {
     }
 }
 
-/// An operator with what it takes on both sides.
+/// The sign of an operator, and the values that it takes on both sides.
 fn operator_of(operator: BinaryOperator) -> (&'static str, &'static str) {
     match operator {
         BinaryOperator::Or => ("OR", "BOOLs or bit strings"),
@@ -30,15 +30,15 @@ fn operator_of(operator: BinaryOperator) -> (&'static str, &'static str) {
         BinaryOperator::Greater => (">", "numbers, bit strings or TIMEs"),
         BinaryOperator::LessOrEqual => ("<=", "numbers, bit strings or TIMEs"),
         BinaryOperator::GreaterOrEqual => (">=", "numbers, bit strings or TIMEs"),
-        BinaryOperator::Add => ("+", "whole numbers or TIMEs"),
-        BinaryOperator::Subtract => ("-", "whole numbers or TIMEs"),
-        BinaryOperator::Multiply => ("*", "whole numbers"),
-        BinaryOperator::Divide => ("/", "whole numbers"),
-        BinaryOperator::Modulo => ("MOD", "whole numbers"),
+        BinaryOperator::Add => ("+", "integers or TIMEs"),
+        BinaryOperator::Subtract => ("-", "integers or TIMEs"),
+        BinaryOperator::Multiply => ("*", "integers"),
+        BinaryOperator::Divide => ("/", "integers"),
+        BinaryOperator::Modulo => ("MOD", "integers"),
     }
 }
 
-fn of_binary(
+fn binary_reason(
     site: &Site,
     operator: BinaryOperator,
     left: Typing,
@@ -47,25 +47,29 @@ fn of_binary(
     let (name, taken) = operator_of(operator);
     let (first, second) = (site.typing_name(left), site.typing_name(right));
     if left == right {
-        format!(in site.alloc; "`{name}` takes {taken}, the operands are {first}")
+        format!(in site.alloc; "`{name}` takes {taken}; the operands are {first}")
     } else {
         format!(in site.alloc;
-            "the operands of `{name}` are {first} and {second}: they have to be of one type"
+            "the operands of `{name}` are {first} and {second}: they must have the same type"
         )
     }
 }
 
-fn of_unary(site: &Site, operator: UnaryOperator, operand: Typing) -> Result<String, AllocError> {
+fn unary_reason(
+    site: &Site,
+    operator: UnaryOperator,
+    operand: Typing,
+) -> Result<String, AllocError> {
     let asked = match operator {
-        UnaryOperator::Negate => "`-` takes a number with a sign",
+        UnaryOperator::Negate => "`-` takes a signed number",
         UnaryOperator::Not => "NOT takes a BOOL or a bit string",
     };
     let given = site.typing_name(operand);
-    format!(in site.alloc; "{asked}, the operand is {given}")
+    format!(in site.alloc; "{asked}; the operand is {given}")
 }
 
-/// The first argument of a function of the text that is of another type than its input: its number from 1, its type and
-/// the input's.
+/// The first argument of a function of the text that has a type other than its input's: its number from 1, its type and that
+/// of the input.
 fn first_wrong(
     names: &UnitNames,
     function: &Identifier,
@@ -77,7 +81,7 @@ fn first_wrong(
     for (number, (input, argument)) in signature.inputs.iter().zip(arguments).enumerate() {
         let given = typing_in(names, argument);
         if let Some(kind) = *input {
-            if !meets(Demand::Asked(*input, Sorts::Any), settled(*input, given)) {
+            if !allows(Demand::Asked(*input, Sorts::Any), settled(*input, given)) {
                 return Some((number.saturating_add(1), given, Typing::Elementary(kind)));
             }
         }
@@ -97,11 +101,11 @@ fn listed(site: &Site, names: &UnitNames, arguments: &[Expr]) -> Result<String, 
     Ok(list)
 }
 
-fn of_listed(site: &Site, name: &str, given: &str) -> Result<String, AllocError> {
-    format!(in site.alloc; "`{name}` takes arguments of other types than {given}")
+fn listed_reason(site: &Site, name: &str, given: &str) -> Result<String, AllocError> {
+    format!(in site.alloc; "`{name}` doesn't take {given}")
 }
 
-fn of_call(
+fn call_reason(
     site: &Site,
     names: &UnitNames,
     function: &Identifier,
@@ -111,14 +115,14 @@ fn of_call(
     match first_wrong(names, function, arguments) {
         Some((number, given, wanted)) => {
             let (is, input) = (site.typing_name(given), site.typing_name(wanted));
-            format!(in site.alloc; "argument {number} of `{name}` is {is}, its input is {input}")
+            format!(in site.alloc; "argument {number} of `{name}` is {is}; the input is {input}")
         }
-        None => of_listed(site, name, &listed(site, names, arguments)?),
+        None => listed_reason(site, name, &listed(site, names, arguments)?),
     }
 }
 
-/// What is said of an expression with a wrong type whose parts are right; nothing where it is no operation and no call.
-pub fn of_expression(
+/// The finding on an expression with a wrong type whose parts are right; none if it is neither an operation nor a call.
+pub fn expression_reason(
     site: &Site,
     names: &UnitNames,
     expression: &Expr,
@@ -126,13 +130,13 @@ pub fn of_expression(
     match expression {
         Expr::Binary(operator, left, right) => {
             let (left, right) = (typing_in(names, left), typing_in(names, right));
-            said(of_binary(site, *operator, left, right))
+            said(binary_reason(site, *operator, left, right))
         }
         Expr::Unary(operator, _, operand) => {
             let operand = typing_in(names, operand);
-            said(of_unary(site, *operator, operand))
+            said(unary_reason(site, *operator, operand))
         }
-        Expr::Call(function, arguments) => said(of_call(site, names, function, arguments)),
+        Expr::Call(function, arguments) => said(call_reason(site, names, function, arguments)),
         _ => Ok(None),
     }
 }

@@ -1,10 +1,10 @@
-//! What is said of the externals of units, which stand for globals (G3).
+//! Findings on the externals of units, which stand for globals (G3).
 
 use crate::declared_types::{Difference, how_differ, type_name};
 use crate::finding::Finding;
 use crate::globals::{Names, Origin};
+use crate::sentences::said_at;
 use crate::spelling::Text;
-use crate::telling::said_at;
 use st_types::{
     Declaration, Identifier, LibraryElement, Section, Source, Unit, UnitSort, VariableType,
 };
@@ -18,7 +18,7 @@ struct External<'a> {
     declared: &'a VariableType,
 }
 
-/// What is wrong with an external.
+/// A fault of an external.
 #[derive(Clone, Copy)]
 enum Wrong<'a> {
     NoGlobal,
@@ -116,7 +116,7 @@ fn first_in_source<'a>(
     None
 }
 
-/// What a unit is.
+/// The name of a sort of units.
 pub fn sort_name(sort: &UnitSort) -> &'static str {
     match sort {
         UnitSort::Function(_) => "function",
@@ -125,7 +125,7 @@ pub fn sort_name(sort: &UnitSort) -> &'static str {
     }
 }
 
-fn of_other_type(
+fn other_type_reason(
     text: &Text,
     external: External,
     difference: Difference,
@@ -139,12 +139,12 @@ fn of_other_type(
     let sort = sort_name(&external.unit.sort);
     if difference == Difference::Array {
         return format!(in alloc;
-            "the VAR_EXTERNAL `{name}` of {sort} `{unit}` has other bounds or elements than the global"
+            "the VAR_EXTERNAL `{name}` of {sort} `{unit}` differs from the global in bounds or element type"
         );
     }
     let (here, there) = (type_name(text, external.declared), type_name(text, other));
     format!(in alloc;
-        "the VAR_EXTERNAL `{name}` of {sort} `{unit}` is {here}, the global is {there}"
+        "the VAR_EXTERNAL `{name}` of {sort} `{unit}` is {here}; the global is {there}"
     )
 }
 
@@ -156,7 +156,7 @@ fn sentence_of(text: &Text, external: External, wrong: Wrong) -> Result<String, 
                 sort_name(&external.unit.sort),
                 text.spelled(&external.unit.name),
             );
-            format!(in alloc; "the global `{name}` of {sort} `{unit}` is unknown")
+            format!(in alloc; "the {sort} `{unit}` uses the unknown global `{name}`")
         }
         Wrong::NotConstant => format!(in alloc;
             "the global `{name}` is CONSTANT: its VAR_EXTERNAL has to be CONSTANT"
@@ -167,12 +167,12 @@ fn sentence_of(text: &Text, external: External, wrong: Wrong) -> Result<String, 
         Wrong::Constant => format!(in alloc;
             "the global `{name}` is neither CONSTANT nor an input: its VAR_EXTERNAL can't be CONSTANT"
         ),
-        Wrong::Type(difference, other) => of_other_type(text, external, difference, other),
+        Wrong::Type(difference, other) => other_type_reason(text, external, difference, other),
     }
 }
 
-/// What is said of the first external whose global is unknown or another than it is used as.
-pub fn of_externals<'a>(
+/// The finding on the first external whose global is unknown or doesn't fit its use.
+pub fn externals_reason<'a>(
     text: &Text<'a>,
     names: Names<'_, 'a>,
 ) -> Result<Option<Finding>, AllocError> {

@@ -4,7 +4,7 @@ use st_lex::LexError;
 use st_parse::ParseError;
 use st_rules::Broken;
 
-/// Why a source is refused, as the layer that refuses it tells.
+/// Why a source is refused, as the layer that refuses it reports.
 #[derive(Clone, Copy)]
 pub enum SourceFault {
     /// The text has no tokens: L1 to L6.
@@ -26,9 +26,9 @@ pub enum WholeFault {
     Budget,
     /// There is no CONFIGURATION, or a second one (G2).
     NotOne,
-    /// A task, a program or a global is unknown, or is another than it is used as (G3).
+    /// A task, a program or a global is unknown or doesn't fit its use (G3).
     Unknown,
-    /// An address may not stand where it does (G4).
+    /// A global may not have its address (G4).
     WrongAddress,
     /// There are too many resources, tasks or programs (G5).
     TooMany,
@@ -49,7 +49,7 @@ pub enum WholeFault {
 }
 
 impl SourceFault {
-    /// The offset of the byte at fault, where there is one. A text that is too long is at fault as a whole.
+    /// The offset of the byte at fault, if there is one. A text that is too long is at fault as a whole.
     pub fn place(self) -> Option<usize> {
         match self {
             SourceFault::Words(LexError::Fault(_, place)) => Some(place),

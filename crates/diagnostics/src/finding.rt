@@ -1,14 +1,14 @@
-//! What is said of a fault.
+//! The finding on a fault.
 
 use std::alloc::{AllocError, Global};
 
-/// What is said of a fault.
+/// The finding on a fault.
 pub struct Finding {
-    /// What is wrong, in a sentence without its full stop.
+    /// A sentence that says what is wrong, without its full stop.
     pub sentence: String,
-    /// What may help.
+    /// A hint.
     pub help: Option<String>,
-    /// The offset of the byte that is shown, where another one is than that of the fault, which may have none.
+    /// The offset of the byte that is shown, if it isn't that of the fault, which may have none.
     pub place: Option<usize>,
 }
 
@@ -23,7 +23,7 @@ impl Drop for Finding {
 }
 
 impl Finding {
-    /// A sentence, and nothing that may help.
+    /// A sentence without a hint.
     pub fn new(sentence: String) -> Finding {
         Finding {
             sentence,
@@ -37,13 +37,13 @@ impl Finding {
         Ok(Finding::new(String::from_str(alloc, sentence)?))
     }
 
-    /// The same with what may help.
+    /// The same with a hint.
     pub fn with_help(self, alloc: Global, help: &str) -> Result<Finding, AllocError> {
         let help = String::from_str(alloc, help)?;
         Ok(self.helped(help))
     }
 
-    /// The same with what may help.
+    /// The same with a hint.
     pub fn helped(mut self, help: String) -> Finding {
         self.help = Some(help);
         self

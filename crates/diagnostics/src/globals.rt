@@ -24,7 +24,7 @@ pub struct Global<'a> {
     pub declared: &'a VariableType,
 }
 
-/// What the names of a text stand for: its types and units, and the globals of its configuration.
+/// The meanings of the names of a text: its types and units, and the globals of its configuration.
 #[derive(Clone, Copy)]
 pub struct Names<'t, 'a> {
     pub declared: &'t TextNames<'a>,

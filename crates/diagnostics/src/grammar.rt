@@ -1,4 +1,4 @@
-//! What is said of texts that are not of the grammar (P1, P2).
+//! Findings on texts that are not of the grammar (P1, P2).
 
 use crate::finding::Finding;
 use crate::open::{innermost_open, missing_word};
@@ -7,7 +7,7 @@ use st_lex::{Keyword, Mark, TokenKind};
 use st_types::limits::MAX_DEPTH;
 use std::alloc::{AllocError, Global};
 
-/// Whether an expression, a declaration or a statement may end with the token, so that a semicolon may stand behind it.
+/// Whether an expression, a declaration or a statement may end with the token, so that a semicolon may come after it.
 fn may_end(kind: &TokenKind) -> bool {
     match kind {
         TokenKind::Keyword(keyword) => matches!(
@@ -58,7 +58,7 @@ fn begins_anew(keyword: Keyword) -> bool {
     )
 }
 
-/// Whether the word is reserved and stands in no text of the language.
+/// Whether the word is reserved and occurs in no text of the language.
 fn is_left_out(keyword: Keyword) -> bool {
     matches!(
         keyword,
@@ -88,7 +88,7 @@ fn lacks_semicolon(spot: &Spot) -> bool {
     }
 }
 
-/// Whether something new may begin at the place: what stands before it may end there.
+/// Whether something new may begin at the place: the part before it may end there.
 fn may_begin_anew(spot: &Spot) -> bool {
     let Some(last) = spot.last() else {
         return false;
@@ -101,14 +101,14 @@ fn may_begin_anew(spot: &Spot) -> bool {
     }
 }
 
-/// Whether a word is written as a name is: what declares or assigns a name stands behind it.
-fn stands_as_name(spot: &Spot) -> bool {
+/// Whether a word is in the place of a name: a mark of a declaration or an assignment comes after it.
+fn is_in_place_of_name(spot: &Spot) -> bool {
     is_mark(spot.next(), Mark::Colon)
         || is_mark(spot.next(), Mark::Assign)
         || is_mark(spot.next(), Mark::Comma)
 }
 
-/// Whether an operand stands before the place.
+/// Whether an operand is before the place.
 fn follows_operand(spot: &Spot) -> bool {
     match spot.last() {
         Some(TokenKind::Keyword(_)) => false,
@@ -117,29 +117,29 @@ fn follows_operand(spot: &Spot) -> bool {
     }
 }
 
-/// What may help, as far as single tokens tell.
+/// A hint, as far as single tokens allow.
 fn help_of_token(spot: &Spot) -> Option<&'static str> {
     match spot.here() {
         Some(TokenKind::Keyword(keyword)) if is_left_out(*keyword) => {
-            Some("this word is reserved, but not part of the language here")
+            Some("this word is reserved, but isn't supported")
         }
-        Some(TokenKind::Keyword(_)) if stands_as_name(spot) => {
+        Some(TokenKind::Keyword(_)) if is_in_place_of_name(spot) => {
             Some("this word is reserved: it can't be a name")
         }
-        Some(TokenKind::Elementary(_)) if stands_as_name(spot) => {
+        Some(TokenKind::Elementary(_)) if is_in_place_of_name(spot) => {
             Some("this word is reserved: it can't be a name")
         }
         Some(TokenKind::Mark(Mark::Equal)) if follows_operand(spot) => {
-            Some("`:=` gives a value, `=` compares")
+            Some("`:=` assigns, `=` compares")
         }
         Some(TokenKind::Mark(Mark::Assign)) if missing_word(spot.before).is_some() => {
-            Some("`=` compares, `:=` gives a value")
+            Some("`=` compares, `:=` assigns")
         }
         _ => None,
     }
 }
 
-/// What may help where a word is missing before the place: THEN, DO or OF, a semicolon, or the END of what is open.
+/// A hint if a word is missing before the place: THEN, DO or OF, a semicolon, or the END of an open part.
 fn help_of_missing(alloc: Global, spot: &Spot) -> Result<Option<String>, AllocError> {
     if may_begin_anew(spot) {
         if let Some(word) = missing_word(spot.before) {
@@ -155,7 +155,7 @@ fn help_of_missing(alloc: Global, spot: &Spot) -> Result<Option<String>, AllocEr
     }
 }
 
-/// What may help at a word that ends or begins something else than what is open.
+/// A hint at a word that ends or begins something else than the open part.
 fn help_of_open(
     alloc: Global,
     spot: &Spot,
@@ -170,9 +170,9 @@ fn help_of_open(
     }
 }
 
-fn of_token(alloc: Global, spot: &Spot) -> Result<Finding, AllocError> {
+fn token_reason(alloc: Global, spot: &Spot) -> Result<Finding, AllocError> {
     let spelled = spot.spelled();
-    let finding = Finding::new(format!(in alloc; "`{spelled}` can't stand here")?);
+    let finding = Finding::new(format!(in alloc; "`{spelled}` isn't allowed here")?);
     if let Some(help) = help_of_token(spot) {
         return finding.with_help(alloc, help);
     }
@@ -182,8 +182,8 @@ fn of_token(alloc: Global, spot: &Spot) -> Result<Finding, AllocError> {
     }
 }
 
-fn of_end(alloc: Global, spot: &Spot) -> Result<Finding, AllocError> {
-    let finding = Finding::plain(alloc, "the text ends too early")?;
+fn end_reason(alloc: Global, spot: &Spot) -> Result<Finding, AllocError> {
+    let finding = Finding::plain(alloc, "the source ends too early")?;
     match innermost_open(alloc, spot.before)? {
         Some(end) => {
             let help = format!(in alloc; "`{end}` is missing")?;
@@ -193,21 +193,18 @@ fn of_end(alloc: Global, spot: &Spot) -> Result<Finding, AllocError> {
     }
 }
 
-/// What is said of a token with which no text goes on, or of the end of a text that goes on.
-pub fn of_grammar(alloc: Global, spot: &Spot) -> Result<Finding, AllocError> {
+/// The finding on a token with which no text goes on, or on the end of a text that goes on.
+pub fn grammar_reason(alloc: Global, spot: &Spot) -> Result<Finding, AllocError> {
     match spot.behind {
-        [] => of_end(alloc, spot),
-        _ => of_token(alloc, spot),
+        [] => end_reason(alloc, spot),
+        _ => token_reason(alloc, spot),
     }
 }
 
-/// What is said of what is too deep.
-pub fn of_depth(alloc: Global) -> Result<Finding, AllocError> {
+/// The finding on a part that is too deep.
+pub fn depth_reason(alloc: Global) -> Result<Finding, AllocError> {
     let sentence = format!(in alloc;
-        "an expression, a statement or an initial value is more than {MAX_DEPTH} deep"
+        "an expression, a statement or an initial value is over {MAX_DEPTH} deep"
     )?;
-    Finding::new(sentence).with_help(
-        alloc,
-        "give a part of it a variable or a function of its own",
-    )
+    Finding::new(sentence).with_help(alloc, "move a part of it into a variable or a function")
 }

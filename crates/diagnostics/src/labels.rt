@@ -1,15 +1,15 @@
-//! What is said of the labels of a CASE (C7).
+//! Findings on the labels of a CASE (C7).
 
 use crate::finding::Finding;
 use crate::position::position_of;
+use crate::sentences::said;
 use crate::spot::Spot;
 use crate::statements::{Labelled, label_at, place_of_label};
-use crate::telling::said;
 use st_meaning::number_of;
 use st_types::{CaseArm, Label, Source};
 use std::alloc::{AllocError, Global};
 
-/// The least and the greatest number of a label; none of one with a name.
+/// The least and the greatest number of a label; none for one with a name.
 fn span(label: &Label) -> Option<(i128, i128)> {
     match label {
         Label::Single(number) => Some((number_of(number), number_of(number))),
@@ -50,7 +50,7 @@ fn other_of<'a>(arms: &'a [CaseArm], label: &Label) -> Option<&'a Label> {
     None
 }
 
-fn of_overlap(
+fn overlap_reason(
     alloc: Global,
     spot: &Spot,
     label: &Label,
@@ -60,20 +60,20 @@ fn of_overlap(
     match (label, other) {
         (Label::Range(lower, upper), _) => {
             let (from, to) = (number_of(lower), number_of(upper));
-            format!(in alloc; "the range {from}..{to} overlaps a label in line {line}")
+            format!(in alloc; "the range {from}..{to} overlaps a label on line {line}")
         }
         (_, Label::Range(lower, upper)) => {
             let (spelled, from, to) = (spot.spelled(), number_of(lower), number_of(upper));
-            format!(in alloc; "`{spelled}` is in the range {from}..{to} of line {line} already")
+            format!(in alloc; "`{spelled}` is already in the range {from}..{to} on line {line}")
         }
         _ => {
             let spelled = spot.spelled();
-            format!(in alloc; "`{spelled}` is a label in line {line} already")
+            format!(in alloc; "`{spelled}` is already a label on line {line}")
         }
     }
 }
 
-fn of_labelled(
+fn labels_reason(
     alloc: Global,
     spot: &Spot,
     labelled: Labelled,
@@ -85,19 +85,19 @@ fn of_labelled(
         (Some((from, to)), _) if to < from => {
             said(format!(in alloc; "the range {from}..{to} is reversed"))
         }
-        (_, Some(other)) => said(of_overlap(alloc, spot, labelled.label, other)),
+        (_, Some(other)) => said(overlap_reason(alloc, spot, labelled.label, other)),
         (_, None) => Ok(None),
     }
 }
 
-/// What is said of a label whose range is reversed, or that overlaps another one.
-pub fn of_label(
+/// The finding on a label whose range is reversed, or that overlaps another one.
+pub fn label_reason(
     alloc: Global,
     spot: &Spot,
     source: &Source,
 ) -> Result<Option<Finding>, AllocError> {
     match label_at(source, spot.place) {
-        Some(labelled) => of_labelled(alloc, spot, labelled),
+        Some(labelled) => labels_reason(alloc, spot, labelled),
         None => Ok(None),
     }
 }

@@ -1,14 +1,15 @@
-//! What is wrong in a text, and where, as a person reads it: a sentence, the line with a caret under the place, and
-//! what may help.
+//! The faults of a text and their places, as a person reads them: a sentence, the line with a caret under the place, and a
+//! hint.
 //!
-//! Nothing here decides what is wrong: a text and its fault are given, with its tokens and tree where it has them, and
-//! the text is looked into once more. A view never holds a byte that a terminal would obey, whatever the text holds.
+//! This crate decides nothing about faults: it gets a text and its fault, with the text's tokens and tree if it has them,
+//! and looks into the text once more. A view never holds a byte that a terminal would obey, whatever the text holds.
 #![tactic(auto)]
 
 mod addresses;
 mod arguments;
 mod assigned;
 mod bounds;
+mod broken_place;
 mod calls;
 mod configurations;
 mod counts;
@@ -38,13 +39,12 @@ mod roots;
 mod rule_words;
 mod rules;
 mod search;
-mod sites;
+mod sentences;
 mod sizes;
 mod spelling;
 mod spot;
 mod spots;
 mod statements;
-mod telling;
 mod trees;
 mod twice;
 mod types;
@@ -52,14 +52,14 @@ mod unknown;
 mod viewing;
 mod writing;
 
-pub use explaining::{explained, of_whole};
+pub use explaining::{explained, whole_text_reason};
 pub use fault::{SourceFault, WholeFault};
 pub use finding::Finding;
 pub use page::Page;
 pub use part::{part as part_of, shown, word_in_front};
 pub use position::{Position, position_of};
 pub use reasoning::reason;
-pub use rule_words::of_rule;
+pub use rule_words::rule_reason;
 pub use spot::{Spot, is_mark};
 pub use viewing::view_of;
 pub use writing::write_reason;

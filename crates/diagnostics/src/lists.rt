@@ -1,8 +1,8 @@
-//! What is said of lists that are longer than their arrays (C8).
+//! Findings on lists that are longer than their arrays (C8).
 
 use crate::bounds::elements_of;
 use crate::finding::Finding;
-use crate::telling::said;
+use crate::sentences::said;
 use st_decl::{Start, array_at, declarings_in, starts_of, types_in};
 use st_types::{Initial, InitialElement, Number, Source};
 use std::alloc::{AllocError, Global};
@@ -15,7 +15,7 @@ struct List {
     room: i128,
 }
 
-/// A number of elements; a negative one stands for none.
+/// A number of elements; a negative one counts as none.
 fn natural(number: &Number) -> i128 {
     if number.is_negative {
         0
@@ -24,7 +24,7 @@ fn natural(number: &Number) -> i128 {
     }
 }
 
-/// How many elements a list stands for.
+/// How many elements a list gives.
 fn count(elements: &[InitialElement]) -> i128 {
     let mut count: i128 = 0;
     for element in elements {
@@ -77,8 +77,8 @@ fn list_at(alloc: Global, source: &Source, place: usize) -> Result<Option<List>,
     Ok(list_among(&names, &starts, place))
 }
 
-/// What is said of a list at a place that is longer than its array.
-pub fn of_list(
+/// The finding on a list at a place that is longer than its array.
+pub fn list_reason(
     alloc: Global,
     place: usize,
     source: &Source,
@@ -87,5 +87,5 @@ pub fn of_list(
         return Ok(None);
     };
     let (given, room) = (list.given, list.room);
-    said(format!(in alloc; "the list has {given} elements, its array has {room}"))
+    said(format!(in alloc; "the list has {given} elements; its array has {room}"))
 }

@@ -1,25 +1,25 @@
-//! Inputs, outputs and fields: which of them a type has, and what is said of one that it has not (C1).
+//! Inputs, outputs and fields: which of them a type has, and findings on those that it doesn't have (C1).
 
+use crate::broken_place::Site;
 use crate::finding::Finding;
 use crate::near::Nearest;
-use crate::sites::Site;
+use crate::sentences::{may_help, said_with};
 use crate::spot::is_mark;
 use crate::spots::spelled_name;
-use crate::telling::{may_help, said_with};
 use st_lex::{Mark, Token, TokenKind};
 use st_meaning::lookup::{is_named, type_in_blocks};
 use st_types::{Identifier, Name, Section, SimpleType, TypeDefinition, Unit};
 use std::alloc::AllocError;
 use symbols::{PlaceType, Side, StandardBlock, place_type, standard_block};
 
-/// What a member is.
+/// The sort of a member.
 #[derive(Clone, Copy)]
 enum Part {
     Field,
     Block(Side),
 }
 
-/// A member that a type has not.
+/// A member that a type doesn't have.
 #[derive(Clone, Copy)]
 struct Missing<'a> {
     owner: &'a Identifier,
@@ -92,7 +92,7 @@ fn meet_block<'a>(nearest: &mut Nearest<'a>, site: &Site<'a>, owner: &Name, side
     }
 }
 
-/// The name that may have been meant, where it is one of a type of the text.
+/// The name that may have been meant, if it is one of a type of the text.
 fn help_in_text<'a>(site: &Site<'a>, missing: Missing<'a>) -> Result<Option<String>, AllocError> {
     let mut nearest = Nearest::new(site.spot.text, missing.member);
     match missing.part {
@@ -102,7 +102,7 @@ fn help_in_text<'a>(site: &Site<'a>, missing: Missing<'a>) -> Result<Option<Stri
     nearest.help(site.alloc)
 }
 
-/// What may help where a type has not a member.
+/// A hint if a type doesn't have a member.
 fn help_of<'a>(site: &Site<'a>, missing: Missing<'a>) -> Result<Option<String>, AllocError> {
     match (missing.part, standard_block(&missing.owner.name)) {
         (Part::Block(side), Some(block)) => {
@@ -113,7 +113,10 @@ fn help_of<'a>(site: &Site<'a>, missing: Missing<'a>) -> Result<Option<String>, 
     }
 }
 
-fn of_missing<'a>(site: &Site<'a>, missing: Missing<'a>) -> Result<Option<Finding>, AllocError> {
+fn missing_member_reason<'a>(
+    site: &Site<'a>,
+    missing: Missing<'a>,
+) -> Result<Option<Finding>, AllocError> {
     let (name, spelled) = (spelled_name(&site.spot, missing.owner), site.spot.spelled());
     let sort = part_name(missing.part);
     said_with(
@@ -122,8 +125,8 @@ fn of_missing<'a>(site: &Site<'a>, missing: Missing<'a>) -> Result<Option<Findin
     )
 }
 
-/// What is said of a block that has not an input or an output of this name.
-pub fn of_missing_side<'a>(
+/// The finding on a block that doesn't have an input or an output of this name.
+pub fn missing_side_reason<'a>(
     site: &Site<'a>,
     block: &'a Identifier,
     side: Side,
@@ -134,7 +137,7 @@ pub fn of_missing_side<'a>(
         part: Part::Block(side),
         member,
     };
-    of_missing(site, missing)
+    missing_member_reason(site, missing)
 }
 
 /// How many of the last tokens are names that end with a dot each.
@@ -165,7 +168,7 @@ pub fn variable_type<'a>(site: &Site<'a>, variable: &Name) -> Option<PlaceType<'
     }
 }
 
-/// The type of what stands before the dot at whose member the place is, where that is names and dots alone.
+/// The type of the variable before the dot at whose member the place is, if that is names and dots alone.
 fn owner_type<'a>(site: &Site<'a>) -> Option<PlaceType<'a>> {
     let before = site.spot.before;
     let (_, path) = before.split_at(before.len().saturating_sub(path_length(before)));
@@ -184,7 +187,7 @@ fn owner_type<'a>(site: &Site<'a>) -> Option<PlaceType<'a>> {
     found
 }
 
-/// What of a type is selected by a dot.
+/// The sort of a type's members that a dot selects.
 fn part_of_type(site: &Site, owner: &Name) -> Option<Part> {
     if site.tables.is_block(owner) {
         return Some(Part::Block(Side::Output));
@@ -200,7 +203,7 @@ fn part_of_type(site: &Site, owner: &Name) -> Option<Part> {
     None
 }
 
-/// The member behind a dot, where what stands before it certainly has not one of this name.
+/// The member after a dot, if the type of the variable before it certainly has none of this name.
 fn missing_at<'a>(site: &Site<'a>, member: &'a Name) -> Option<Missing<'a>> {
     let declared = owner_type(site)?;
     let PlaceType::Simple(SimpleType::Named(owner)) = declared else {
@@ -216,10 +219,10 @@ fn missing_at<'a>(site: &Site<'a>, member: &'a Name) -> Option<Missing<'a>> {
     }
 }
 
-/// What is said of a member behind a dot that what stands before it has not; nothing where that isn't certain.
-pub fn of_member<'a>(site: &Site<'a>, member: &'a Name) -> Result<Option<Finding>, AllocError> {
+/// The finding on a member after a dot that the variable before it doesn't have; none if that isn't certain.
+pub fn member_reason<'a>(site: &Site<'a>, member: &'a Name) -> Result<Option<Finding>, AllocError> {
     match missing_at(site, member) {
-        Some(missing) => of_missing(site, missing),
+        Some(missing) => missing_member_reason(site, missing),
         None => Ok(None),
     }
 }

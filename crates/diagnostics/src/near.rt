@@ -1,7 +1,7 @@
 //! Names that differ by one letter from a word that stands for nothing.
 
 use crate::part::{part as part_of, shown, word_in_front};
-use crate::telling::may_help;
+use crate::sentences::may_help;
 use st_types::{Identifier, Name};
 use std::alloc::{AllocError, Global};
 
@@ -108,7 +108,7 @@ impl<'a> Nearest<'a> {
         }
     }
 
-    /// What may help: the name that was found.
+    /// A hint: the name that was found.
     pub fn help(&self, alloc: Global) -> Result<Option<String>, AllocError> {
         match self.found {
             Some(candidate) if !self.are_several => {

@@ -1,9 +1,9 @@
-//! What is open at a place: what has begun and not ended.
+//! The parts that are open at a place: they have begun and not ended.
 
 use st_lex::{Keyword, Mark, Token, TokenKind};
 use std::alloc::{AllocError, Global};
 
-/// The word that ends what a word begins, as it is spelled.
+/// The word that ends the part that a word begins, as it is spelled.
 fn end_of(keyword: Keyword) -> Option<&'static str> {
     match keyword {
         Keyword::If => Some("END_IF"),
@@ -61,7 +61,7 @@ fn meet(open: &mut Vec<&'static str>, keyword: Keyword) -> Result<(), AllocError
     Ok(())
 }
 
-/// The word that ends the innermost of what tokens leave open.
+/// The word that ends the innermost part that the tokens leave open.
 pub fn innermost_open(alloc: Global, tokens: &[Token]) -> Result<Option<&'static str>, AllocError> {
     let mut open = Vec::new(alloc);
     for token in tokens {
@@ -72,7 +72,7 @@ pub fn innermost_open(alloc: Global, tokens: &[Token]) -> Result<Option<&'static
     Ok(open.last().copied())
 }
 
-/// What is looked for backwards from a place in a condition.
+/// A search backwards from a place in a condition.
 #[derive(Clone, Copy)]
 struct Backwards {
     /// How many parentheses close whose opening hasn't come.
@@ -80,8 +80,8 @@ struct Backwards {
     has_to: bool,
 }
 
-/// The word that has to come behind what a word begins.
-fn word_behind(keyword: Keyword, has_to: bool) -> Option<&'static str> {
+/// The word that has to come after a word that begins a part.
+fn closing_word(keyword: Keyword, has_to: bool) -> Option<&'static str> {
     match keyword {
         Keyword::If | Keyword::Elsif => Some("THEN"),
         Keyword::While => Some("DO"),
@@ -123,7 +123,7 @@ fn goes_on(back: &mut Backwards, kind: &TokenKind) -> bool {
     }
 }
 
-/// Of an IF, WHILE, FOR or CASE whose THEN, DO, TO or OF hasn't come yet that word.
+/// The THEN, DO, TO or OF that hasn't come yet after an IF, WHILE, FOR or CASE.
 pub fn missing_word(tokens: &[Token]) -> Option<&'static str> {
     let mut back = Backwards {
         closed: 0,
@@ -131,7 +131,7 @@ pub fn missing_word(tokens: &[Token]) -> Option<&'static str> {
     };
     for token in tokens.iter().rev() {
         if let TokenKind::Keyword(keyword) = &token.kind {
-            if let Some(word) = word_behind(*keyword, back.has_to) {
+            if let Some(word) = closing_word(*keyword, back.has_to) {
                 return Some(word);
             }
         }

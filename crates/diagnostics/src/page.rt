@@ -7,7 +7,7 @@ ghost use Rattle.diagnostics.specs.Pages as pages;
 use std::alloc::{AllocError, Global};
 use std::marker::Model;
 
-/// What is shown to a person: printable ASCII characters, TABs and LFs. Contracts see its bytes.
+/// A page for a person: printable ASCII characters, TABs and LFs. Contracts see its bytes.
 #[derive(Drop)]
 pub struct Page {
     bytes: Vec<u8>,
@@ -44,7 +44,7 @@ impl Page {
         }
     }
 
-    /// What it shows.
+    /// Its bytes.
     pub fn as_slice(&self) -> &[u8]
         ensures same { result.now ≡ self.now }
         ensures shown { list_all pages.is_shown result.now ≡ true }
@@ -64,7 +64,7 @@ impl Page {
         self.push(b'\n')
     }
 
-    /// Appends a text. What is not printable shows as `?`.
+    /// Appends a text. A byte that is not printable shows as `?`.
     pub fn put(&mut self, text: &[u8]) -> Result<(), AllocError> {
         for byte in text {
             self.push(printable(*byte))?;
@@ -83,8 +83,8 @@ impl Page {
         Ok(())
     }
 
-    /// Appends a blank for each byte of a line's part, and a TAB for a TAB, so that what follows stands under the byte
-    /// behind it.
+    /// Appends a blank for each byte of a line's part, and a TAB for a TAB, so that the next character is under the byte
+    /// after that part.
     pub fn put_below(&mut self, line: &[u8]) -> Result<(), AllocError> {
         for byte in line {
             match *byte {
@@ -95,7 +95,7 @@ impl Page {
         Ok(())
     }
 
-    /// Appends a character so many times.
+    /// Appends a character `count` times.
     pub fn repeat(&mut self, character: u8, count: usize) -> Result<(), AllocError> {
         for _ in 0..count {
             self.push(printable(character))?;

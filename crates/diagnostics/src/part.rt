@@ -1,6 +1,6 @@
 //! Parts of a text.
 
-/// The bytes from one offset to another; none where these are out of order or beyond the text.
+/// The bytes from one offset to another; none if these are out of order or beyond the text.
 pub fn part(text: &[u8], from: usize, to: usize) -> &[u8] {
     if from <= to && to <= text.len() {
         &text[from..to]
@@ -21,7 +21,7 @@ fn is_in_word(byte: u8) -> bool {
     byte.is_ascii_alphanumeric() || byte == b'_' || byte == b'#'
 }
 
-/// How many bytes the name or literal in front has; 0 where there is none.
+/// How many bytes the name or literal in front has; 0 if there is none.
 pub fn word_length(text: &[u8]) -> usize {
     match text {
         [b'%', behind @ ..] => behind

@@ -1,11 +1,11 @@
-//! What is said of the fault of a text, as far as its tree tells.
+//! Findings on the fault of a text, as far as its tree allows.
 
-use crate::configurations::of_configuration;
-use crate::explaining::{explained, of_whole};
+use crate::configurations::configuration_reason;
+use crate::explaining::{explained, whole_text_reason};
 use crate::fault::{SourceFault, WholeFault};
 use crate::finding::Finding;
-use crate::rule_words::of_rule;
-use crate::rules::of_broken;
+use crate::rule_words::rule_reason;
+use crate::rules::broken_rule_reason;
 use crate::spelling::Text;
 use crate::spot::Spot;
 use st_lex::{Token, lex};
@@ -13,8 +13,8 @@ use st_parse::parse;
 use st_rules::Broken;
 use std::alloc::{AllocError, Global};
 
-/// What is said of a broken rule among tokens, where they have a tree.
-fn of_tokens(
+/// The finding on a broken rule among tokens, if they have a tree.
+fn tokens_reason(
     alloc: Global,
     text: &[u8],
     tokens: &[Token],
@@ -22,13 +22,13 @@ fn of_tokens(
 ) -> Result<Finding, AllocError> {
     let spot = Spot::new(text, tokens, broken.place);
     match parse(alloc, tokens) {
-        Ok(source) => of_broken(alloc, &spot, &source, broken.rule),
-        Err(_) => of_rule(alloc, &spot, broken.rule),
+        Ok(source) => broken_rule_reason(alloc, &spot, &source, broken.rule),
+        Err(_) => rule_reason(alloc, &spot, broken.rule),
     }
 }
 
-/// What is said of a text that is refused as a whole, where its tokens have a tree.
-fn of_text(
+/// The finding on a text that is refused as a whole, if its tokens have a tree.
+fn text_reason(
     alloc: Global,
     text: &[u8],
     tokens: &[Token],
@@ -42,17 +42,17 @@ fn of_text(
                 tokens,
                 source: &source,
             };
-            of_configuration(&text, fault)
+            configuration_reason(&text, fault)
         }
-        Err(_) => of_whole(alloc, fault),
+        Err(_) => whole_text_reason(alloc, fault),
     }
 }
 
-/// What is said of the fault of a text, as far as its tokens and their tree tell.
+/// The finding on the fault of a text, as far as its tokens and their tree allow.
 pub fn reason(alloc: Global, text: &[u8], fault: SourceFault) -> Result<Finding, AllocError> {
     match (fault, lex(alloc, text)) {
-        (SourceFault::Rule(broken), Ok(tokens)) => of_tokens(alloc, text, &tokens, broken),
-        (SourceFault::Whole(whole), Ok(tokens)) => of_text(alloc, text, &tokens, whole),
+        (SourceFault::Rule(broken), Ok(tokens)) => tokens_reason(alloc, text, &tokens, broken),
+        (SourceFault::Whole(whole), Ok(tokens)) => text_reason(alloc, text, &tokens, whole),
         _ => explained(alloc, text, fault),
     }
 }

@@ -1,27 +1,27 @@
-//! What is said of tasks, programs and SINGLEs that are unknown, or are others than they are used as (G3).
+//! Findings on tasks, programs and SINGLEs that are unknown or don't fit their use (G3).
 
 use crate::declared_types::type_name;
 use crate::externals::sort_name;
 use crate::finding::Finding;
 use crate::globals::Names;
+use crate::sentences::said_at;
 use crate::spelling::Text;
-use crate::telling::said_at;
 use st_meaning::lookup::{is_named, kind_of_type};
 use st_types::{Configuration, Identifier, Instance, Kind, Resource, Task, UnitSort, VariableType};
 use std::alloc::AllocError;
 
-/// What of a resource is wrong, and the name that is.
+/// A fault of a resource, with the wrong name.
 #[derive(Clone, Copy)]
 enum Wrong<'a> {
     /// No task of the resource has the name.
     NoTask(&'a Identifier),
     /// No unit has the name.
     NoProgram(&'a Identifier),
-    /// A unit that is no program has the name.
+    /// A unit that isn't a program has the name.
     Unit(&'a Identifier, &'a UnitSort),
     /// No global has the name after SINGLE.
     NoSingle(&'a Identifier),
-    /// The global after SINGLE is no BOOL.
+    /// The global after SINGLE isn't a BOOL.
     Single(&'a Identifier, &'a VariableType),
 }
 
@@ -118,12 +118,12 @@ fn sentence_of(text: &Text, resource: &Resource, wrong: Wrong) -> Result<String,
     match wrong {
         Wrong::NoTask(_) => {
             let resource = text.spelled(&resource.name);
-            format!(in alloc; "the task `{name}` is unknown in resource `{resource}`")
+            format!(in alloc; "the resource `{resource}` has no task `{name}`")
         }
         Wrong::NoProgram(_) => format!(in alloc; "the program type `{name}` is unknown"),
         Wrong::Unit(_, sort) => {
             let sort = sort_name(sort);
-            format!(in alloc; "`{name}` is a {sort}, the type of a program is wanted here")
+            format!(in alloc; "`{name}` is a {sort}, not a program")
         }
         Wrong::NoSingle(_) => {
             format!(in alloc; "the global `{name}` is unknown: SINGLE takes a BOOL global")
@@ -135,8 +135,8 @@ fn sentence_of(text: &Text, resource: &Resource, wrong: Wrong) -> Result<String,
     }
 }
 
-/// What is said of the first task, program or SINGLE that is unknown or another than it is used as.
-pub fn of_resources<'a>(
+/// The finding on the first task, program or SINGLE that is unknown or doesn't fit its use.
+pub fn resources_reason<'a>(
     text: &Text<'a>,
     names: Names<'_, 'a>,
     configuration: &'a Configuration,

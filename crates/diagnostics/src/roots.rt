@@ -1,9 +1,9 @@
-//! The expression of a body that stands at a place.
+//! The expression of a body that is at a place.
 
 use st_types::{Argument, Arm, CaseArm, Expr, Identifier, Selector, Stmt, Variable};
 use st_typing::first_byte;
 
-/// What an expression is for.
+/// The purpose of an expression.
 #[derive(Clone, Copy)]
 pub enum Purpose<'a> {
     /// A variable is assigned it.
@@ -20,7 +20,7 @@ pub enum Purpose<'a> {
     Subscript,
 }
 
-/// An expression of a statement, with what it is for.
+/// An expression of a statement, with its purpose.
 #[derive(Clone, Copy)]
 pub struct Root<'a> {
     pub purpose: Purpose<'a>,

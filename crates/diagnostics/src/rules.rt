@@ -1,56 +1,56 @@
-//! What is said of broken rules on names, types and declarations (C1 to C11, C13).
+//! Findings on broken rules on names, types and declarations (C1 to C11, C13).
 
-use crate::arguments::of_argument;
-use crate::assigned::of_assigned;
-use crate::calls::of_count;
+use crate::arguments::argument_reason;
+use crate::assigned::assigned_reason;
+use crate::broken_place::Site;
+use crate::calls::count_reason;
 use crate::finding::Finding;
-use crate::rule_words::of_rule;
-use crate::sites::Site;
+use crate::rule_words::rule_reason;
 use crate::spot::Spot;
 use crate::spots::is_declaring;
-use crate::trees::of_tree;
-use crate::types::{of_body, of_number, of_start};
-use crate::unknown::of_unknown;
+use crate::trees::tree_reason;
+use crate::types::{body_reason, initial_value_reason, number_reason};
+use crate::unknown::unknown_reason;
 use st_rules::Rule;
 use st_types::Source;
 use std::alloc::{AllocError, Global};
 
-/// What is said of an argument, or of how many there are.
-fn of_arguments(site: &Site) -> Result<Option<Finding>, AllocError> {
-    match of_argument(site) {
-        Ok(None) => of_count(site),
+/// The finding on an argument, or on the number of arguments.
+fn arguments_reason(site: &Site) -> Result<Option<Finding>, AllocError> {
+    match argument_reason(site) {
+        Ok(None) => count_reason(site),
         told => told,
     }
 }
 
-/// What is said of a rule on types, numbers or calls that is broken in a declaration, or where tokens tell enough.
-fn of_declared(site: &Site, rule: Rule) -> Result<Option<Finding>, AllocError> {
+/// The finding on a rule on types, numbers or calls that is broken in a declaration, or for which tokens are enough.
+fn declaration_reason(site: &Site, rule: Rule) -> Result<Option<Finding>, AllocError> {
     match rule {
-        Rule::WrongType => of_start(site),
-        Rule::OutOfRange => of_number(site),
-        Rule::WrongArguments => of_arguments(site),
+        Rule::WrongType => initial_value_reason(site),
+        Rule::OutOfRange => number_reason(site),
+        Rule::WrongArguments => arguments_reason(site),
         _ => Ok(None),
     }
 }
 
-/// What is said of a rule on types, numbers or calls in the body of a unit.
-fn of_unit(site: &Site, rule: Rule) -> Result<Option<Finding>, AllocError> {
+/// The finding on a rule on types, numbers or calls in the body of a unit.
+fn unit_reason(site: &Site, rule: Rule) -> Result<Option<Finding>, AllocError> {
     match site.unit() {
-        Some(unit) if !is_declaring(&site.spot) => of_body(site, unit, rule),
+        Some(unit) if !is_declaring(&site.spot) => body_reason(site, unit, rule),
         _ => Ok(None),
     }
 }
 
-/// What is said of a rule on types, numbers or calls.
-fn of_types(site: &Site, rule: Rule) -> Result<Option<Finding>, AllocError> {
-    match of_declared(site, rule) {
-        Ok(None) => of_unit(site, rule),
+/// The finding on a rule on types, numbers or calls.
+fn types_reason(site: &Site, rule: Rule) -> Result<Option<Finding>, AllocError> {
+    match declaration_reason(site, rule) {
+        Ok(None) => unit_reason(site, rule),
         told => told,
     }
 }
 
-/// What is said of a rule for which names are looked up.
-fn of_names<'a>(
+/// The finding on a rule for which names are looked up.
+fn names_reason<'a>(
     alloc: Global,
     spot: &Spot<'a>,
     source: &'a Source,
@@ -58,14 +58,14 @@ fn of_names<'a>(
 ) -> Result<Option<Finding>, AllocError> {
     let site = Site::new(alloc, *spot, source)?;
     match rule {
-        Rule::UnknownName => of_unknown(&site),
-        Rule::NotAssignable => of_assigned(&site),
-        _ => of_types(&site, rule),
+        Rule::UnknownName => unknown_reason(&site),
+        Rule::NotAssignable => assigned_reason(&site),
+        _ => types_reason(&site, rule),
     }
 }
 
-/// What is said of a rule as far as the tree and its names tell.
-fn of_source<'a>(
+/// The finding on a rule as far as the tree and its names allow.
+fn source_reason<'a>(
     alloc: Global,
     spot: &Spot<'a>,
     source: &'a Source,
@@ -76,20 +76,20 @@ fn of_source<'a>(
         | Rule::WrongType
         | Rule::OutOfRange
         | Rule::NotAssignable
-        | Rule::WrongArguments => of_names(alloc, spot, source, rule),
-        _ => of_tree(alloc, spot, source, rule),
+        | Rule::WrongArguments => names_reason(alloc, spot, source, rule),
+        _ => tree_reason(alloc, spot, source, rule),
     }
 }
 
-/// What is said of a broken rule.
-pub fn of_broken<'a>(
+/// The finding on a broken rule.
+pub fn broken_rule_reason<'a>(
     alloc: Global,
     spot: &Spot<'a>,
     source: &'a Source,
     rule: Rule,
 ) -> Result<Finding, AllocError> {
-    match of_source(alloc, spot, source, rule)? {
+    match source_reason(alloc, spot, source, rule)? {
         Some(finding) => Ok(finding),
-        None => of_rule(alloc, spot, rule),
+        None => rule_reason(alloc, spot, rule),
     }
 }

@@ -141,8 +141,8 @@ fn in_names(source: &Source, mut search: Search) -> Option<usize> {
     search.found()
 }
 
-/// The offset at which the name is declared first in the scope of the place; none where the place is in no scope, or
-/// the scope has the name once. Scopes in initial values are not searched.
+/// The offset at which the name is declared first in the scope of the place; none if the place is in no scope, or the scope
+/// has the name once. Scopes in initial values are not searched.
 pub fn first_declared(source: &Source, search: Search) -> Option<usize> {
     for element in &source.elements {
         let found = in_element(element, search);

@@ -1,8 +1,8 @@
-//! What is said of texts that are too large (G6, M1, M2).
+//! Findings on texts that are too large (G6, M1, M2).
 
 use crate::finding::Finding;
+use crate::sentences::{said, said_at};
 use crate::spelling::Text;
-use crate::telling::{said, said_at};
 use machine_code::MAX_INSTRUCTIONS;
 use st_meaning::lookup::kind_of_type;
 use st_types::limits::{MAX_PATHS, MAX_RECORD_BODY};
@@ -27,7 +27,7 @@ fn length(name: &Identifier, kind: Kind) -> usize {
         .saturating_add(width(kind))
 }
 
-/// How many bytes the globals of a declaration take in the record, where they are of an elementary type.
+/// How many bytes the globals of a declaration take in the record, if they are of an elementary type.
 fn length_of_declaration(declaration: &GlobalDeclaration) -> Option<usize> {
     let kind = kind_of_type(&declaration.declared)?;
     let mut total: usize = 0;
@@ -50,7 +50,7 @@ fn length_of_block(block: &GlobalBlock) -> Option<usize> {
     Some(total)
 }
 
-/// How many bytes the RETAIN globals take in the record, where all are of elementary types.
+/// How many bytes the RETAIN globals take in the record, if all are of elementary types.
 fn length_of_globals(configuration: &Configuration) -> Option<usize> {
     let mut total: usize = 0;
     for block in &configuration.globals {
@@ -80,8 +80,8 @@ fn has_retaining_unit(source: &Source) -> bool {
     })
 }
 
-/// What is said of a record that is too long, where globals of elementary types alone are in it: how long it is.
-pub fn of_record(
+/// The finding on a record that is too long, if only globals of elementary types are in it: how long it is.
+pub fn record_size_reason(
     text: &Text,
     configuration: &Configuration,
 ) -> Result<Option<Finding>, AllocError> {
@@ -89,7 +89,7 @@ pub fn of_record(
         Some(globals) if !has_retaining_unit(text.source) => {
             let bytes = globals.saturating_add(12);
             said(format!(in text.alloc;
-                "the record of the RETAIN variables has {bytes} bytes, at most {MAX_RECORD_BODY} are allowed"
+                "the record of the RETAIN variables has {bytes} bytes; at most {MAX_RECORD_BODY} are allowed"
             ))
         }
         _ => Ok(None),
@@ -110,13 +110,16 @@ fn number_of_globals(configuration: &Configuration) -> usize {
     count
 }
 
-/// What is said of too many paths, where there are too many globals, each of which has one at least.
-pub fn of_paths(text: &Text, configuration: &Configuration) -> Result<Option<Finding>, AllocError> {
+/// The finding on too many paths, if there are too many globals, each of which has one at least.
+pub fn too_many_paths_reason(
+    text: &Text,
+    configuration: &Configuration,
+) -> Result<Option<Finding>, AllocError> {
     let count = number_of_globals(configuration);
     if count <= MAX_PATHS {
         return Ok(None);
     }
-    said(format!(in text.alloc; "there are {count} globals, at most {MAX_PATHS} paths are allowed"))
+    said(format!(in text.alloc; "there are {count} globals; at most {MAX_PATHS} paths are allowed"))
 }
 
 /// The program of a text that has no other.
@@ -135,8 +138,8 @@ fn only_program(source: &Source) -> Option<&Unit> {
     found
 }
 
-/// What is said of a program with too many instructions, where the text has no other.
-pub fn of_instructions(text: &Text) -> Result<Option<Finding>, AllocError> {
+/// The finding on a program with too many instructions, if the text has no other.
+pub fn too_many_instructions_reason(text: &Text) -> Result<Option<Finding>, AllocError> {
     let Some(program) = only_program(text.source) else {
         return Ok(None);
     };

@@ -6,7 +6,7 @@ use st_lex::Token;
 use st_types::{Identifier, Source};
 use std::alloc::Global;
 
-/// A text with its tokens and its tree. What is said of it is written with the allocator.
+/// A text with its tokens and its tree. Findings on it are written with the allocator.
 #[derive(Clone, Copy)]
 pub struct Text<'a> {
     pub alloc: Global,
@@ -16,13 +16,13 @@ pub struct Text<'a> {
 }
 
 impl<'a> Text<'a> {
-    /// A name as the text spells it where it stands.
+    /// A name as the text spells it in its place.
     pub fn spelled(&self, name: &Identifier) -> &'a str {
         shown(word_in_front(part_of(self.bytes, name.place, self.bytes.len())))
     }
 
-    /// The address behind the name of a global, as `out AT %QW0` has one.
-    pub fn address_behind(&self, name: &Identifier) -> Option<&'a Token> {
+    /// The address after the name of a global, as `out AT %QW0` has one.
+    pub fn address_after(&self, name: &Identifier) -> Option<&'a Token> {
         match Spot::new(self.bytes, self.tokens, name.place).behind {
             [_, _, address, ..] => Some(address),
             _ => None,

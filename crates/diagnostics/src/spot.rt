@@ -3,7 +3,7 @@
 use crate::part::{part, shown};
 use st_lex::{Mark, Token, TokenKind};
 
-/// A text with its tokens, parted at a place.
+/// A text with its tokens, split at a place.
 #[derive(Clone, Copy)]
 pub struct Spot<'a> {
     pub text: &'a [u8],
@@ -27,7 +27,7 @@ impl<'a> Spot<'a> {
         }
     }
 
-    /// The token at the place as the text spells it, a number with its sign; nothing where there is none.
+    /// The token at the place as the text spells it, a number with its sign; nothing if there is none.
     pub fn spelled(&self) -> &'a str {
         match self.behind {
             [
@@ -64,7 +64,7 @@ impl<'a> Spot<'a> {
         }
     }
 
-    /// The token behind the one at the place.
+    /// The token after the one at the place.
     pub fn next(&self) -> Option<&'a TokenKind> {
         match self.behind {
             [_, token, ..] => Some(&token.kind),

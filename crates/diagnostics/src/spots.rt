@@ -1,4 +1,4 @@
-//! What the text spells at a place and around it.
+//! The spelling of the text at a place and around it.
 
 use crate::part::{part as part_of, shown, word_in_front};
 use crate::spot::Spot;
@@ -13,12 +13,12 @@ pub fn name_at<'a>(spot: &Spot<'a>) -> Option<&'a Name> {
     }
 }
 
-/// A name as the text spells it where it stands.
+/// A name as the text spells it in its place.
 pub fn spelled_name<'a>(spot: &Spot<'a>, name: &Identifier) -> &'a str {
     shown(word_in_front(part_of(spot.text, name.place, spot.text.len())))
 }
 
-/// What the text spells from an offset up to the place, without the token before the place.
+/// The text from an offset up to the place, without the token before the place.
 pub fn spelled_from<'a>(spot: &Spot<'a>, start: usize) -> &'a str {
     match spot.before {
         [.., last, _] => shown(part_of(spot.text, start, last.end)),

@@ -1,18 +1,18 @@
-//! What is said of names that are declared twice, or that are taken (C2).
+//! Findings on names that are declared twice, or that are taken (C2).
 
 use crate::externals::sort_name;
 use crate::finding::Finding;
 use crate::position::position_of;
 use crate::search::{Search, first_declared};
+use crate::sentences::said;
 use crate::spot::{Spot, is_mark};
-use crate::telling::said;
 use st_lex::{Mark, TokenKind};
 use st_meaning::lookup::is_named;
 use st_types::{LibraryElement, Name, Source, TypeDeclaration};
 use std::alloc::{AllocError, Global};
 use symbols::{standard_block, standard_function};
 
-/// What has a name: what it is, and the offset of its name.
+/// A type or a unit that has a name: its sort, and the offset of its name.
 #[derive(Clone, Copy)]
 struct Holder {
     sort: &'static str,
@@ -55,7 +55,7 @@ fn is_given(spot: &Spot) -> bool {
     begins && is_mark(spot.next(), Mark::Assign)
 }
 
-/// What takes a name in the standard.
+/// The sort of the standard function or block that takes a name.
 fn standard_sort(name: &Name) -> Option<&'static str> {
     if standard_function(name).is_some() {
         Some("a standard function")
@@ -66,8 +66,8 @@ fn standard_sort(name: &Name) -> Option<&'static str> {
     }
 }
 
-/// A name that is taken by the standard, or by a type or a unit elsewhere.
-fn of_taken(
+/// The finding on a name that is taken by the standard, or by a type or a unit elsewhere.
+fn taken_name_reason(
     alloc: Global,
     spot: &Spot,
     source: &Source,
@@ -78,14 +78,14 @@ fn of_taken(
         (Some(sort), _) => said(format!(in alloc; "`{spelled}` is the name of {sort}")),
         (None, Some(holder)) if holder.place != spot.place => {
             let (sort, line) = (holder.sort, position_of(spot.text, holder.place).line);
-            said(format!(in alloc; "`{spelled}` is the name of the {sort} in line {line}"))
+            said(format!(in alloc; "`{spelled}` is the name of the {sort} on line {line}"))
         }
         _ => Ok(None),
     }
 }
 
-/// What is said of a name that is declared twice, or that is taken.
-pub fn of_twice(
+/// The finding on a name that is declared twice, or that is taken.
+pub fn twice_declared_reason(
     alloc: Global,
     spot: &Spot,
     source: &Source,
@@ -100,8 +100,8 @@ pub fn of_twice(
     match first_declared(source, Search::new(name, spot.place)) {
         Some(first) => {
             let line = position_of(spot.text, first).line;
-            said(format!(in alloc; "`{spelled}` is declared in line {line} already"))
+            said(format!(in alloc; "`{spelled}` is already declared on line {line}"))
         }
-        None => of_taken(alloc, spot, source, name),
+        None => taken_name_reason(alloc, spot, source, name),
     }
 }

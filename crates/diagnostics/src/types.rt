@@ -1,26 +1,26 @@
-//! What is said of wrong types (C3) and of literals outside their types (C4).
+//! Findings on wrong types (C3) and on literals outside their types (C4).
 
+use crate::broken_place::Site;
 use crate::culprit::culprit;
-use crate::expressions::{of_expression, typing_in};
+use crate::expressions::{expression_reason, typing_in};
 use crate::finding::Finding;
 use crate::part::shown;
 use crate::roots::{Purpose, Root, root_at};
-use crate::sites::Site;
+use crate::sentences::{may_help, said, said_with};
 use crate::spot::Spot;
 use crate::spots::spelled_from;
-use crate::telling::{may_help, said, said_with};
 use st_lex::{Keyword, TokenKind};
 use st_rules::{Demand, Rule, Sorts, Typing};
 use st_types::limits::MAX_PRIORITY;
 use st_types::{Expr, Initial, Kind, Literal, Name, Unit, Variable};
 use st_typing::{
-    demand_of_typing, first_byte, kind_of, meets, place_of, place_of_literal, settled, taken_kind,
+    allows, demand_of_typing, first_byte, kind_of, place_of, place_of_literal, settled, taken_kind,
     typing, typing_of_place,
 };
 use std::alloc::{AllocError, Global};
 use symbols::{Side, UnitNames, place_type};
 
-/// What may help where a value of one type stands for another: a conversion, where there is one.
+/// A hint if a value of one type is in the place of another: a conversion, if there is one.
 fn conversion(alloc: Global, given: Typing, wanted: Typing) -> Result<Option<String>, AllocError> {
     let (Typing::Elementary(from), Typing::Elementary(to)) = (given, wanted) else {
         return Ok(None);
@@ -33,19 +33,19 @@ fn conversion(alloc: Global, given: Typing, wanted: Typing) -> Result<Option<Str
     may_help(format!(in alloc; "convert it with {first}_TO_{second}"))
 }
 
-/// What is said where a value of another type is wanted; nothing where the two fit.
-fn of_value(
+/// The finding on a value whose type isn't the wanted one; none if the two fit.
+fn value_reason(
     site: &Site,
     subject: &str,
     wanted: Typing,
     given: Typing,
 ) -> Result<Option<Finding>, AllocError> {
-    if meets(demand_of_typing(wanted), settled(kind_of(wanted), given)) {
+    if allows(demand_of_typing(wanted), settled(kind_of(wanted), given)) {
         return Ok(None);
     }
     let (is, other) = (site.typing_name(wanted), site.typing_name(given));
     said_with(
-        format!(in site.alloc; "{subject} is {is}, the expression is {other}"),
+        format!(in site.alloc; "{subject} is {is}; the expression is {other}"),
         conversion(site.alloc, given, wanted),
     )
 }
@@ -67,8 +67,8 @@ fn typing_of_input(names: &UnitNames, instance: &Name, input: &Name) -> Typing {
     }
 }
 
-/// The type that an expression has to have for what it is for; nothing where that is not one type.
-fn wanted_for(names: &UnitNames, purpose: Purpose) -> Typing {
+/// The type that an expression needs for its purpose; none if that is not one type.
+fn expected_for(names: &UnitNames, purpose: Purpose) -> Typing {
     match purpose {
         Purpose::Assigned(variable) => typing_of_variable(names, variable),
         Purpose::Given(instance, input) => typing_of_input(names, &instance.name, &input.name),
@@ -80,7 +80,7 @@ fn wanted_for(names: &UnitNames, purpose: Purpose) -> Typing {
     }
 }
 
-/// What an expression is for, as the subject of a sentence.
+/// The purpose of an expression, as the subject of a sentence.
 fn subject_of(site: &Site, purpose: Purpose) -> Result<String, AllocError> {
     let alloc = site.alloc;
     match purpose {
@@ -101,22 +101,22 @@ fn subject_of(site: &Site, purpose: Purpose) -> Result<String, AllocError> {
     }
 }
 
-/// What is said where a value of some of the whole numbers and enumerated types is wanted; nothing where it is one.
-fn of_sorts(
+/// The finding on an expression whose type isn't of the wanted sorts; none if it is.
+fn sorts_reason(
     site: &Site,
     sorts: Sorts,
     wanted: &str,
     given: Typing,
 ) -> Result<Option<Finding>, AllocError> {
-    if meets(Demand::Asked(None, sorts), settled(None, given)) {
+    if allows(Demand::Asked(None, sorts), settled(None, given)) {
         return Ok(None);
     }
     let given = site.typing_name(given);
-    said(format!(in site.alloc; "{wanted}, this expression is {given}"))
+    said(format!(in site.alloc; "{wanted}; this expression is {given}"))
 }
 
-/// What is said of an expression that has a type which is none for what it is for.
-fn of_purpose(
+/// The finding on an expression whose type doesn't fit its purpose.
+fn purpose_reason(
     site: &Site,
     names: &UnitNames,
     purpose: Purpose,
@@ -124,37 +124,41 @@ fn of_purpose(
 ) -> Result<Option<Finding>, AllocError> {
     match purpose {
         Purpose::Selector => {
-            let wanted = "a CASE selects by a whole number or an enumerated type";
-            of_sorts(site, Sorts::Selecting, wanted, given)
+            let wanted = "a CASE selects by an integer or an enumerated type";
+            sorts_reason(site, Sorts::Selecting, wanted, given)
         }
         Purpose::Subscript => {
-            of_sorts(site, Sorts::Whole, "a subscript is a whole number", given)
+            sorts_reason(site, Sorts::Whole, "a subscript is an integer", given)
         }
         _ => {
             let subject = subject_of(site, purpose)?;
-            of_value(site, &subject, wanted_for(names, purpose), given)
+            value_reason(site, &subject, expected_for(names, purpose), given)
         }
     }
 }
 
-/// What is said of the wrong type of an expression, or of a part of it, that begins at the place.
-fn of_root(site: &Site, names: &UnitNames, root: Root) -> Result<Option<Finding>, AllocError> {
+/// The finding on the wrong type of an expression, or of a part of it, that begins at the place.
+fn expression_root_reason(
+    site: &Site,
+    names: &UnitNames,
+    root: Root,
+) -> Result<Option<Finding>, AllocError> {
     match typing(names, root.tree) {
         Ok(given) if first_byte(root.tree) == site.spot.place => {
-            of_purpose(site, names, root.purpose, given)
+            purpose_reason(site, names, root.purpose, given)
         }
         Err(broken) if broken.place == site.spot.place && broken.rule == Rule::WrongType => {
-            of_expression(site, names, culprit(names, root.tree))
+            expression_reason(site, names, culprit(names, root.tree))
         }
         _ => Ok(None),
     }
 }
 
-/// What is said of a number that is outside a type.
-fn of_range(site: &Site, kind: Kind) -> Result<Option<Finding>, AllocError> {
+/// The finding on a number that is outside a type.
+fn range_reason(site: &Site, kind: Kind) -> Result<Option<Finding>, AllocError> {
     let (spelled, name) = (site.spot.spelled(), site.type_name(kind));
     let (least, greatest) = (kind.least(), kind.greatest());
-    said(format!(in site.alloc; "{spelled} is outside {name} ({least} to {greatest})"))
+    said(format!(in site.alloc; "{spelled} doesn't fit in {name} ({least} to {greatest})"))
 }
 
 /// The type that a number without a type takes in an operation that has one: that of the other operand.
@@ -184,10 +188,10 @@ fn written_kind(spot: &Spot) -> Option<Kind> {
     }
 }
 
-/// The type of the number at the place that an expression has, where that is found.
+/// The type of the number at the place within an expression, if it is found.
 fn kind_in(spot: &Spot, names: &UnitNames, root: Root) -> Option<Kind> {
     match typing(names, root.tree) {
-        Ok(Typing::Untyped) => { Some(taken_kind(kind_of(wanted_for(names, root.purpose)))) }
+        Ok(Typing::Untyped) => { Some(taken_kind(kind_of(expected_for(names, root.purpose)))) }
         Ok(_) => None,
         Err(broken) if broken.place == spot.place => {
             kind_beside(names, culprit(names, root.tree))
@@ -196,25 +200,25 @@ fn kind_in(spot: &Spot, names: &UnitNames, root: Root) -> Option<Kind> {
     }
 }
 
-/// What is said of a rule on types or numbers that an expression breaks.
-fn of_names(
+/// The finding on a rule on types or numbers that an expression breaks.
+fn names_reason(
     site: &Site,
     names: &UnitNames,
     root: Root,
     rule: Rule,
 ) -> Result<Option<Finding>, AllocError> {
     if rule != Rule::OutOfRange {
-        return of_root(site, names, root);
+        return expression_root_reason(site, names, root);
     }
     match kind_in(&site.spot, names, root) {
-        Some(kind) => of_range(site, kind),
+        Some(kind) => range_reason(site, kind),
         None => Ok(None),
     }
 }
 
-/// What is said of a rule on types or numbers that is broken in the body of a unit; nothing where no expression of it
-/// is certainly wrong.
-pub fn of_body<'a>(
+/// The finding on a rule on types or numbers that is broken in the body of a unit; none if no expression of it is certainly
+/// wrong.
+pub fn body_reason<'a>(
     site: &Site<'a>,
     unit: &'a Unit,
     rule: Rule,
@@ -223,10 +227,10 @@ pub fn of_body<'a>(
         return Ok(None);
     };
     let names = UnitNames::new(site.alloc, &site.tables, unit)?;
-    of_names(site, &names, root, rule)
+    names_reason(site, &names, root, rule)
 }
 
-/// The typing of a literal that is no value of an enumerated type.
+/// The typing of a literal that isn't a value of an enumerated type.
 fn typing_of_constant(literal: &Literal) -> Typing {
     match literal {
         Literal::Number(number) => match number.written {
@@ -260,25 +264,25 @@ fn is_priority(spot: &Spot) -> bool {
     }
 }
 
-/// What is said of a number that is outside its type, where tokens and declarations tell the type.
-pub fn of_number(site: &Site) -> Result<Option<Finding>, AllocError> {
+/// The finding on a number that is outside its type, if tokens and declarations give the type.
+pub fn number_reason(site: &Site) -> Result<Option<Finding>, AllocError> {
     if is_priority(&site.spot) {
         let spelled = site.spot.spelled();
         return said(format!(in site.alloc;
-            "{spelled} is over {MAX_PRIORITY}, the greatest PRIORITY"
+            "{spelled} is over {MAX_PRIORITY}, the largest PRIORITY"
         ));
     }
     match (written_kind(&site.spot), started_at(site)) {
-        (Some(kind), _) => of_range(site, kind),
-        (None, Some((wanted, _))) => of_range(site, taken_kind(kind_of(wanted))),
+        (Some(kind), _) => range_reason(site, kind),
+        (None, Some((wanted, _))) => range_reason(site, taken_kind(kind_of(wanted))),
         (None, None) => Ok(None),
     }
 }
 
-/// What is said of an initial value of a wrong type; nothing where the place is that of none.
-pub fn of_start(site: &Site) -> Result<Option<Finding>, AllocError> {
+/// The finding on an initial value of a wrong type; none if no initial value is at the place.
+pub fn initial_value_reason(site: &Site) -> Result<Option<Finding>, AllocError> {
     match started_at(site) {
-        Some((wanted, given)) => of_value(site, "the variable", wanted, given),
+        Some((wanted, given)) => value_reason(site, "the variable", wanted, given),
         None => Ok(None),
     }
 }

@@ -1,13 +1,13 @@
-//! What is said of names that stand for nothing (C1).
+//! Findings on names that stand for nothing (C1).
 
+use crate::broken_place::Site;
 use crate::finding::Finding;
-use crate::members::of_member;
+use crate::members::member_reason;
 use crate::near::Nearest;
-use crate::rule_words::of_rule;
-use crate::sites::Site;
+use crate::rule_words::rule_reason;
+use crate::sentences::may_help;
 use crate::spot::is_mark;
 use crate::spots::{is_declaring, name_at};
-use crate::telling::may_help;
 use st_lex::Mark;
 use st_meaning::lookup::{is_listed, is_named};
 use st_rules::Rule;
@@ -28,7 +28,7 @@ const FUNCTIONS: [&[u8]; 9] = [
     b"ABS", b"MIN", b"MAX", b"LIMIT", b"SEL", b"SHL", b"SHR", b"ROL", b"ROR",
 ];
 
-/// What a name was looked for as.
+/// The sort of thing for which a name was looked up.
 #[derive(Clone, Copy)]
 enum Sought {
     /// A member of something.
@@ -149,7 +149,7 @@ fn help_of<'a>(site: &Site<'a>, word: &'a Name) -> Result<Option<String>, AllocE
         Sought::Value if is_global(site, word) => {
             let spelled = site.spot.spelled();
             may_help(format!(in site.alloc;
-                "a unit names the global `{spelled}` under VAR_EXTERNAL"
+                "a program or block declares the global `{spelled}` in VAR_EXTERNAL"
             ))
         }
         sought => {
@@ -160,30 +160,32 @@ fn help_of<'a>(site: &Site<'a>, word: &'a Name) -> Result<Option<String>, AllocE
     }
 }
 
-/// What is said of a member behind a dot; nothing of any other name, and where it isn't certain.
-fn of_selected<'a>(site: &Site<'a>, member: &'a Name) -> Result<Option<Finding>, AllocError> {
+/// The finding on a member after a dot; none for any other name, or if it isn't certain.
+fn selection_reason<'a>(site: &Site<'a>, member: &'a Name) -> Result<Option<Finding>, AllocError> {
     if is_mark(site.spot.last(), Mark::Dot) {
-        of_member(site, member)
+        member_reason(site, member)
     } else {
         Ok(None)
     }
 }
 
-/// What is said of the word with what may help; nothing where nothing may.
-fn of_word<'a>(site: &Site<'a>, word: &'a Name) -> Result<Option<Finding>, AllocError> {
+/// The finding on the word with a hint; none if there is no hint.
+fn word_reason<'a>(site: &Site<'a>, word: &'a Name) -> Result<Option<Finding>, AllocError> {
     match help_of(site, word)? {
-        Some(help) => Ok(Some(of_rule(site.alloc, &site.spot, Rule::UnknownName)?.helped(help))),
+        Some(help) => Ok(Some(rule_reason(site.alloc, &site.spot, Rule::UnknownName)?.helped(
+            help,
+        ))),
         None => Ok(None),
     }
 }
 
-/// What is said of a name that stands for nothing; nothing where the rule tells as much.
-pub fn of_unknown(site: &Site) -> Result<Option<Finding>, AllocError> {
+/// The finding on a name that stands for nothing; none if the rule says as much.
+pub fn unknown_reason(site: &Site) -> Result<Option<Finding>, AllocError> {
     let Some(word) = name_at(&site.spot) else {
         return Ok(None);
     };
-    match of_selected(site, word) {
-        Ok(None) => of_word(site, word),
+    match selection_reason(site, word) {
+        Ok(None) => word_reason(site, word),
         told => told,
     }
 }

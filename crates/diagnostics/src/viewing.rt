@@ -20,7 +20,7 @@ fn put_head(page: &mut Page, code: &str, sentence: &str) -> Result<(), AllocErro
     page.end_line()
 }
 
-/// Appends where it is, and the line there.
+/// Appends the place of the fault, and the line there.
 fn put_place(
     alloc: Global,
     page: &mut Page,
@@ -78,9 +78,9 @@ fn put_finding(
     }
 }
 
-/// What a person is shown of the fault of a text: this code of it with a sentence that says what is wrong, where that
-/// is, the line there with a caret under the place, and what may help where there is something. The source is called by
-/// a name. The only error is out of memory.
+/// The view of the fault of a text for a person: this code of it with a sentence that says what is wrong, its place, the
+/// line there with a caret under the place, and a hint if there is one. The source is called by a name. The only error is
+/// out of memory.
 pub fn view_of(
     alloc: Global,
     name: &str,

@@ -1,4 +1,4 @@
-//! The view of a fault, with what the tree of its text tells.
+//! The view of a fault, with the finding from the tree of its text.
 
 ghost use Rattle.std.specs.Prelude.{◌≡◌, List, ℕ, true, OnOk};
 ghost use Rattle.std.specs.List.{list_all};
@@ -12,12 +12,11 @@ use std::alloc::Global;
 use std::io;
 use std::io::Write;
 
-/// Writes what a person is shown of the fault of a text: this code of it with a sentence that says what is wrong, where
-/// that is, the line there with a caret under the place, and what may help where there is something. The source is
-/// called by a name.
+/// Writes the view of the fault of a text for a person: this code of it with a sentence that says what is wrong, its place,
+/// the line there with a caret under the place, and a hint if there is one. The source is called by a name.
 ///
-/// It is found out from the text once more, in a time that grows as that of judging it does. Where more can't be told,
-/// the sentence says what the code means. An error of the device, or out of memory, leaves a part of the view written.
+/// The finding comes from the text once more, in a time that grows as that of judging it does. If no more is certain, the
+/// sentence says what the code means. After an error of the device, or out of memory, a part of the view is written.
 pub fn write_reason<W: Write>(
     alloc: Global,
     out: &mut W,
@@ -26,7 +25,7 @@ pub fn write_reason<W: Write>(
     code: &str,
     fault: SourceFault,
 ) -> io::Result<()>
-    // What is written has printable characters, TABs and LFs alone.
+    // The bytes written are printable characters, TABs and LFs alone.
     ensures { OnOk result ((shown : List ℕ) × (list_all is_shown shown ≡ true)
         × Appends (W.contents out.old) (W.contents out.new) shown) }
 {

@@ -1,9 +1,9 @@
--- What a stop may leave of a medium after a write comes of what it might have left before, and the other way round.
+-- Each file that a stop may leave after a write results from one that it might have left before, and the other way round.
 use Rattle.std.proofs.Common.{◌≡◌, ◌⊎◌, inl, inr, ℕ, zero, suc, ◌+◌, ◌-◌, ◌<◌, ◌≤◌, min, Bool, true, false, List, []}
 use Rattle.std.proofs.Common.{◌∷◌, length, get_or, take, replicate, refl, sym, ◌∙◌, arith, length-take}
 use Rattle.std.proofs.lemmas.Bool.{cases_lt}
 use Rattle.std.proofs.lemmas.List.{get_or-take, get_or_past, get_or-replicate, ext_get_or, length-replicate}
-use Rattle.disk.specs.Disk.{Torn, Follows, Admits, Only}
+use Rattle.disk.specs.Disk.{Torn, ComesFrom, Admits, Only}
 use Rattle.disk.specs.Medium.{MediumView, MayLeave, IsLeft, IsSynced, synced_len, with_write, all_synced}
 use Rattle.disk.proofs.Places.{length-put_over, put_over_before, put_over_gap, put_over_in, put_over_behind}
 
@@ -61,14 +61,14 @@ module _ (medium : MediumView) (at : ℕ) (bytes : List ℕ) where
     | inr over ↦ put_over_behind true true medium.written at flags i (omega (arith, length-flags, over))
   ]
 
-  -- what the write reaches counts as written
+  -- the bytes that the write reaches count as written
   flag_inside : (i : ℕ) → at ≤ i → i < at + length bytes → get_or (with_write medium at bytes).written i true ≡ true
   unfolding flags
   flag_inside i over under =
       put_over_in true true medium.written at flags i over (omega (arith, length-flags))
       ∙ get_or-replicate (length bytes) (i - at) true true (omega arith)
 
-  -- what is synced after the write was so before it, and the write leaves it alone
+  -- a byte that is synced after the write was so before it, and the write leaves it alone
   still_synced : (i : ℕ) → IsSynced (with_write medium at bytes) i → IsOutside at (length bytes) i × IsSynced medium i
   still_synced i synced = elim (cases_lt i at) [
     | inl under ↦ (inl under, sym (same_flag i (inl under)) ∙ synced)
@@ -92,7 +92,7 @@ module _ (medium : MediumView) (at : ℕ) (bytes : List ℕ) where
     | inr over ↦ torn.behind i low over
   ]
 
-  -- each file that comes of an old one by a torn write is one of the new
+  -- each file that results from an old one by a torn write is one of the new
   pub admits : ((i : ℕ) → synced_len medium ≤ i → get_or medium.written i true ≡ true)
       → Admits (Torn at (length bytes)) (MayLeave medium) (MayLeave (with_write medium at bytes))
   admits appended from file left torn = record {
@@ -110,7 +110,7 @@ module _ (medium : MediumView) (at : ℕ) (bytes : List ℕ) where
   }
 
   module _ (left : List ℕ) (may : MayLeave (with_write medium at bytes) left) where
-    -- the file before the write that this one comes of
+    -- the file before the write that this one results from
     from : List ℕ
     from = mix medium.written (take (length medium.file) left) medium.file
 
@@ -160,16 +160,16 @@ module _ (medium : MediumView) (at : ℕ) (bytes : List ℕ) where
       },
     )
 
-  -- each file that a stop may leave after the write comes of one before it by a torn write
-  pub follows : Follows (Torn at (length bytes)) (MayLeave medium) (MayLeave (with_write medium at bytes))
+  -- each file that a stop may leave after the write results from one before it by a torn write
+  pub follows : ComesFrom (Torn at (length bytes)) (MayLeave medium) (MayLeave (with_write medium at bytes))
   follows = came
 
--- a stop leaves only the file where all of it is synced
+-- a stop leaves only the file if all of it is synced
 pub only : (file : List ℕ) (room : ℕ) → Only file (MayLeave (all_synced file room))
 only file room left may = ext_get_or 0 left file (omega (arith, may.no_shorter, may.no_longer))
     (λ i low. may.kept i low (get_or-replicate (length file) i false true (omega (arith, may.no_longer))))
 
--- what a stop leaves that was told how is one of the files that it may leave
+-- the file that a given stop leaves is one of those that a stop may leave
 pub may_be_left : (medium : MediumView) (torn : List ℕ) (len : ℕ) (left : List ℕ) → IsLeft medium torn len left
     → MayLeave medium left
 may_be_left medium torn len left is = record {

@@ -1,4 +1,4 @@
--- What stands where after a write.
+-- The elements at each place after a write.
 use Rattle.std.proofs.Common.{◌≡◌, ℕ, ◌+◌, ◌-◌, ◌<◌, ◌≤◌, max, List, ◌++◌, length, get_or, take, drop, replicate, ◌∙◌}
 use Rattle.std.proofs.Common.{ap, arith, length-append}
 use Rattle.std.proofs.lemmas.Grind.{common_steps}

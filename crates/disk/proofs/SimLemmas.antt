@@ -1,31 +1,31 @@
--- What a stop may leave after a write of a simulated disk.
+-- The files that a stop may leave after a write of a simulated disk.
 use Rattle.std.proofs.Common.{◌≡◌, ◌⊎◌, inl, inr, ℕ, ◌+◌, ◌%◌, ◌^◌, ◌≤◌, Bool, true, false, not, ◌&&◌, ◌||◌}
 use Rattle.std.proofs.Common.{if◌then◌else◌, is_ok, Result, Ok, Err, List, length, refl, sym, ap, subst, OnOk, OnErr}
-use Rattle.disk.specs.Disk.{Torn, Follows, Admits, Within, Counts, overwritten}
+use Rattle.disk.specs.Disk.{Torn, ComesFrom, Admits, Within, Counts, overwritten}
 use Rattle.disk.specs.Medium.{MediumView, MayLeave, synced_len, with_write, IsWritten}
 use Rattle.std.specs.Prelude.{◌-◌, ◌<◌, min, Option, Some, None, IfSome, IsOk}
 use Rattle.std.proofs.Common.{arith}
 use Rattle.std.proofs.lemmas.Bool.Decides.{nat_tests}
 use Rattle.disk.specs.declared.disk.DiskError.{DiskError}
 use Rattle.disk.specs.Medium.{all_synced}
-use Rattle.disk.specs.Simulated.{SimView, answer_of, works, is_stop, is_failing, has_room, after_write, counted}
-use Rattle.disk.specs.Simulated.{StopView, IsReliable, begun, has_range, after_sync}
+use Rattle.disk.specs.Simulated.{SimView, answer_of, succeeds, is_stop, is_failing, has_room, after_write, counted}
+use Rattle.disk.specs.Simulated.{StopView, IsReliable, call_begun, has_range, after_sync}
 use Rattle.disk.specs.Runs.{torn_none}
 use Rattle.disk.proofs.MediumLemmas.{admits, follows}
 
--- what holds of a call that works and can be done
-on_ok : (works possible : Bool) (P : Type 0) → (works ≡ true → possible ≡ true → P)
-    → OnOk (answer_of {T = Unit {0}} works possible tt) P
+-- a fact about a call that works and can be done
+on_ok : (succeeds possible : Bool) (P : Type 0) → (succeeds ≡ true → possible ≡ true → P)
+    → OnOk (answer_of {T = Unit {0}} succeeds possible tt) P
 on_ok true true P holds = holds refl refl
 on_ok true false P holds = tt
 on_ok false possible P holds = tt
 
 -- a call that works wasn't stopped before
 not_stopped : (stopped stops fails : Bool) → not (stopped || stops || fails) ≡ true → stopped ≡ false
-not_stopped true stops fails works = absurd (cc)
-not_stopped false stops fails works = refl
+not_stopped true stops fails succeeds = absurd (cc)
+not_stopped false stops fails succeeds = refl
 
--- what holds anyway holds at an error
+-- a fact that holds anyway holds at an error
 pub on_err : {T E : Type 0} (result : Result T E) (P : Type 0) → P → OnErr result P
 on_err (Ok value) P holds = tt
 on_err (Err error) P holds = holds
@@ -57,18 +57,18 @@ module _ (disk : SimView) (at : ℕ) (bytes : List ℕ) where
       go false is = inr is
 
   -- one that succeeds does
-  reached : works disk ≡ true → has_room disk at (length bytes) ≡ true → reaches ≡ true
+  reached : succeeds disk ≡ true → has_room disk at (length bytes) ≡ true → reaches ≡ true
   unfolding reaches
-  reached works room =
-      rw (room, not_stopped disk.stopped (is_stop disk.stop disk.step) (is_failing disk.failing disk.step) works) refl
+  reached succeeds room =
+      rw (room, not_stopped disk.stopped (is_stop disk.stop disk.step) (is_failing disk.failing disk.step) succeeds) refl
 
-  pub seen_write : OnOk (answer_of {T = Unit {0}} (works disk) (has_room disk at (length bytes)) tt)
+  pub seen_write : OnOk (answer_of {T = Unit {0}} (succeeds disk) (has_room disk at (length bytes)) tt)
       ((after_write disk at bytes).medium.file ≡ overwritten disk.medium.file at bytes)
   seen_write =
-      on_ok _ _ _ (λ works room. ap (λ (medium : MediumView). medium.file) (after_reached (reached works room)))
+      on_ok _ _ _ (λ succeeds room. ap (λ (medium : MediumView). medium.file) (after_reached (reached succeeds room)))
 
   pub follows_write :
-      Follows (Torn at (length bytes)) (MayLeave disk.medium) (MayLeave (after_write disk at bytes).medium)
+      ComesFrom (Torn at (length bytes)) (MayLeave disk.medium) (MayLeave (after_write disk at bytes).medium)
   follows_write = elim cases [
     | inl is ↦ λ file left. follows disk.medium at bytes file
         (subst (λ (medium : MediumView). MayLeave medium file) (after_reached is) left)
@@ -86,8 +86,8 @@ module _ (disk : SimView) (at : ℕ) (bytes : List ℕ) where
 
   -- a write that fails counts as one
   pub counts_write :
-      Counts (answer_of {T = Unit {0}} (works disk) (has_room disk at (length bytes)) tt) disk.failures (counted
-      (answer_of {T = Unit {0}} (works disk) (has_room disk at (length bytes)) tt) (after_write disk at bytes)).failures
+      Counts (answer_of {T = Unit {0}} (succeeds disk) (has_room disk at (length bytes)) tt) disk.failures (counted
+      (answer_of {T = Unit {0}} (succeeds disk) (has_room disk at (length bytes)) tt) (after_write disk at bytes)).failures
   counts_write = counts _ _ _ (elim cases [ inl is ↦ same_failures true is | inr is ↦ same_failures false is ])
 
   module _ (appended : (i : ℕ) → synced_len disk.medium ≤ i → IsWritten disk.medium i) where
@@ -96,9 +96,9 @@ module _ (disk : SimView) (at : ℕ) (bytes : List ℕ) where
     admits_write is from file left torn = subst (λ (medium : MediumView). MayLeave medium file) (sym (after_reached is))
         (admits disk.medium at bytes appended from file left torn)
 
-    pub widens_write : OnOk (answer_of {T = Unit {0}} (works disk) (has_room disk at (length bytes)) tt)
+    pub widens_write : OnOk (answer_of {T = Unit {0}} (succeeds disk) (has_room disk at (length bytes)) tt)
         (Admits (Torn at (length bytes)) (MayLeave disk.medium) (MayLeave (after_write disk at bytes).medium))
-    widens_write = on_ok _ _ _ (λ works room. admits_write (reached works room))
+    widens_write = on_ok _ _ _ (λ succeeds room. admits_write (reached succeeds room))
 
     pub widens_or_keeps_write :
         Admits (Torn at (length bytes)) (MayLeave disk.medium) (MayLeave (after_write disk at bytes).medium)
@@ -129,11 +129,11 @@ later : {A : Type 0} (number : A → ℕ) (o : Option A) (step next : ℕ) → s
 later number None step next on past = tt
 later number (Some a) step next on past = omega (arith, on, past)
 
-pub reliable_works : (disk : SimView) (room : ℕ) → IsReliable disk room → works disk ≡ true
+pub reliable_works : (disk : SimView) (room : ℕ) → IsReliable disk room → succeeds disk ≡ true
 reliable_works disk room h =
     rw (h.runs, not_stopping disk.stop disk.step h.spared, not_failing disk.failing disk.step h.failed) refl
 
-pub reliable_begun : (disk : SimView) (room : ℕ) → IsReliable disk room → IsReliable (begun disk) room
+pub reliable_begun : (disk : SimView) (room : ℕ) → IsReliable disk room → IsReliable (call_begun disk) room
 reliable_begun disk room h =
     let on : disk.step ≤ min (disk.step + 1) (2 ^ 64 - 1) = omega (arith, h.counts) in
     record {
@@ -158,24 +158,24 @@ pub reliable_write : (disk : SimView) (at : ℕ) (bytes : List ℕ) (room : ℕ)
     → IsReliable (after_write disk at bytes) room
 reliable_write disk at bytes room h = by (has_room disk at (length bytes) && not disk.stopped)
   where
-    by : (b : Bool) → IsReliable (if b then record (begun disk) { medium = with_write disk.medium at bytes }
-        else begun disk) room
-    by true = with_medium (begun disk) (with_write disk.medium at bytes) room refl (reliable_begun disk room h)
+    by : (b : Bool) → IsReliable (if b then record (call_begun disk) { medium = with_write disk.medium at bytes }
+        else call_begun disk) room
+    by true = with_medium (call_begun disk) (with_write disk.medium at bytes) room refl (reliable_begun disk room h)
     by false = reliable_begun disk room h
 
 pub reliable_sync : (disk : SimView) (room : ℕ) → IsReliable disk room → IsReliable (after_sync disk) room
-reliable_sync disk room h = by (works disk)
+reliable_sync disk room h = by (succeeds disk)
   where
     by : (b : Bool) → IsReliable (if b
-        then record (begun disk) { medium = all_synced disk.medium.file disk.medium.room }
-        else begun disk) room
+        then record (call_begun disk) { medium = all_synced disk.medium.file disk.medium.room }
+        else call_begun disk) room
     by true =
-        with_medium (begun disk) (all_synced disk.medium.file disk.medium.room) room refl (reliable_begun disk room h)
+        with_medium (call_begun disk) (all_synced disk.medium.file disk.medium.room) room refl (reliable_begun disk room h)
     by false = reliable_begun disk room h
 
 -- a call that works and can be done succeeds
-pub ok_of : {T : Type 0} (works possible : Bool) (value : T) → works ≡ true → possible ≡ true
-    → IsOk (answer_of works possible value)
+pub ok_of : {T : Type 0} (succeeds possible : Bool) (value : T) → succeeds ≡ true → possible ≡ true
+    → IsOk (answer_of succeeds possible value)
 ok_of true true value w p = refl
 ok_of true false value w p = absurd (cc)
 ok_of false possible value w p = absurd (cc)

@@ -1,4 +1,4 @@
--- What contracts see of a medium, from the parts of the code.
+-- The view that contracts have of a medium, from the parts of the code.
 use Rattle.std.proofs.Common.{◌≡◌, ◌≢◌, [], count_by, inl, inr, append_assoc, ℕ, ◌+◌, ◌-◌, ◌<◌, ◌≤◌, min, max, Bool}
 use Rattle.std.proofs.Common.{true, false, List, ◌++◌, length, get_or, take, drop, replicate, refl, sym, ◌∙◌, ap, arith}
 use Rattle.std.proofs.Common.{length-take}
@@ -173,7 +173,7 @@ module _ (bytes put_bytes : List ℕ) (touched mark_touched : List Bool) (len sy
       (omega (arith, length-take-le len bytes sound.within, sound.order))
       length-put)
 
--- what was appended since the last sync counts as written
+-- the bytes appended since the last sync count as written
 pub late_written : (bytes : List ℕ) (touched : List Bool) (len synced : ℕ) → MediumInvariant bytes touched len synced
     → (i : ℕ) → length (take len bytes) - (len - synced) ≤ i → get_or (take len touched) i true ≡ true
 late_written bytes touched len synced sound i late = elim (cases_lt i len) [
@@ -182,7 +182,7 @@ late_written bytes touched len synced sound i late = elim (cases_lt i len) [
   | inr past ↦ get_or_past (take len touched) i true (omega (arith, length-take len touched))
 ]
 
--- what a stop leaves of a medium
+-- the file that a stop leaves of a medium
 module _ (bytes new torn : List ℕ) (touched : List Bool) (len synced wanted size : ℕ)
     (sound : MediumInvariant bytes touched len synced)
     (long : length new ≡ length bytes) (is : size ≡ max (min wanted len) synced)

@@ -1,4 +1,4 @@
--- What the calls of a disk do to its file, and what a stop may do to it between two syncs.
+-- The effect of a disk's calls on its file, and the effect that a stop may have on it between two syncs.
 use Rattle.std.specs.Prelude.{◌≡◌, ◌⊎◌, ◌<◌, ◌≤◌, ◌+◌, ◌-◌, ◌%◌, ◌^◌, ℕ, max, List, ◌++◌, length, take, drop}
 use Rattle.std.specs.Prelude.{slice_index, replicate, Result, OnOk, OnErr}
 
@@ -10,19 +10,19 @@ put_over filler old at new = take at old ++ replicate (at - length old) filler +
 abbrev pub overwritten : List ℕ → ℕ → List ℕ → List ℕ
 overwritten file at bytes = put_over 0 file at bytes
 
--- after a write of n bytes that a stop cuts short: any bytes in the range and in what is appended, a length between the
--- old one and the greater of that and the end of the range, and the same bytes elsewhere
+-- after a write of n bytes that a stop cuts short: any bytes in the range and in the appended part, a length between the old
+-- one and the greater of that and the end of the range, and the same bytes elsewhere
 pub record Torn (at n : ℕ) (old new : List ℕ) : Type 0 where
   pub no_shorter : length old ≤ length new
   pub no_longer : length new ≤ max (length old) (at + n)
   pub before : (i : ℕ) → i < length old → i < at → slice_index new i ≡ slice_index old i
   pub behind : (i : ℕ) → i < length old → at + n ≤ i → slice_index new i ≡ slice_index old i
 
--- each of the new files comes of an old one by a step
-abbrev pub Follows : (List ℕ → List ℕ → Type 0) → (List ℕ → Type 0) → (List ℕ → Type 0) → Type 0
-Follows step old new = (file : List ℕ) → new file → (from : List ℕ) × old from × step from file
+-- each of the new files results from an old one by a step
+abbrev pub ComesFrom : (List ℕ → List ℕ → Type 0) → (List ℕ → Type 0) → (List ℕ → Type 0) → Type 0
+ComesFrom step old new = (file : List ℕ) → new file → (from : List ℕ) × old from × step from file
 
--- each file that comes of an old one by a step is one of the new
+-- each file that results from an old one by a step is one of the new
 abbrev pub Admits : (List ℕ → List ℕ → Type 0) → (List ℕ → Type 0) → (List ℕ → Type 0) → Type 0
 Admits step old new = (from file : List ℕ) → old from → step from file → new file
 
@@ -40,7 +40,7 @@ abbrev pub WidensOrKeeps : (List ℕ → List ℕ → Type 0) → List ℕ → L
 WidensOrKeeps step old_file new_file old new =
     Admits step old new ⊎ ((new_file ≡ old_file) × Within old new × Within new old)
 
--- Time goes on by a call: since any moment a stop might have left what it might have left before, or what it may leave
+-- Time goes on by a call: each file that a stop since any moment might have left, it might have left before, or may leave
 -- now.
 abbrev pub NothingElse : {D : Type 0} → (D → D → List ℕ → Type 0) → (D → List ℕ → Type 0) → D → D → Type 0
 NothingElse {D} left_since may_leave old new = (then : D) (file : List ℕ) → left_since then new file

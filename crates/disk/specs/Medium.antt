@@ -1,4 +1,4 @@
--- What is on a simulated disk, what a stop may leave of it, and what a stop leaves that was told how.
+-- The file of a simulated disk, the files that a stop may leave of it, and the file that a given stop leaves.
 use Rattle.std.specs.Prelude.{◌≡◌, ◌≢◌, ◌≤◌, ◌<◌, ◌+◌, ◌-◌, ◌%◌, ℕ, min, max, List, [], length, take, slice_index}
 use Rattle.std.specs.Prelude.{slice_index_or, count_by, replicate, Bool, true, false}
 use Rattle.std.proofs.Common.{arith, refl}
@@ -29,7 +29,7 @@ IsSynced medium i = slice_index_or medium.written i true ≡ false
 abbrev pub rank : MediumView → ℕ → ℕ
 rank medium i = count_by (λ written. written) (take i medium.written)
 
--- the byte that the one of that rank is left with
+-- the byte that a stop leaves in place of the one of that rank
 abbrev pub torn_byte : List ℕ → ℕ → ℕ
 torn_byte torn rank = slice_index torn (rank % length torn)
 
@@ -46,16 +46,16 @@ with_write medium at bytes = record {
   room = medium.room;
 }
 
--- what a stop may leave: any bytes where one was written since the last sync, a length from the synced one to the
+-- a file that a stop may leave: any bytes where one was written since the last sync, a length from the synced one to the
 -- current one, and all else as synced
 pub record MayLeave (medium : MediumView) (left : List ℕ) : Type 0 where
   pub no_shorter : synced_len medium ≤ length left
   pub no_longer : length left ≤ length medium.file
   pub kept : (i : ℕ) → i < length left → IsSynced medium i → slice_index left i ≡ slice_index medium.file i
 
--- What a stop leaves that was told how: each byte that was written since the last sync, counted in ascending order as
--- k, has the byte torn[k mod length torn], or the written byte where torn is empty; the length is len moved into the
--- span from the synced length to the current one; all else is as synced.
+-- The file that a given stop leaves: each byte that was written since the last sync, counted in ascending order as k, has
+-- the byte torn[k mod length torn], or the written byte if torn is empty; the length is len moved into the span from the
+-- synced length to the current one; all else is as synced.
 pub record IsLeft (medium : MediumView) (torn : List ℕ) (len : ℕ) (left : List ℕ) : Type 0 where
   pub moved : length left ≡ max (synced_len medium) (min len (length medium.file))
   pub chosen : torn ≢ [] → (i : ℕ) → i < length left → IsWritten medium i
@@ -64,13 +64,13 @@ pub record IsLeft (medium : MediumView) (torn : List ℕ) (len : ℕ) (left : Li
       → slice_index left i ≡ slice_index medium.file i
   pub kept : (i : ℕ) → i < length left → IsSynced medium i → slice_index left i ≡ slice_index medium.file i
 
--- what a medium keeps: a flag for each byte, and each appended one counts as written
+-- the invariant of a medium: a flag for each byte, and each appended one counts as written
 pub record MediumInvariant (bytes : List ℕ) (touched : List Bool) (len synced : ℕ) : Type 0 where
   pub flags : length touched ≡ length bytes
   pub within : len ≤ length bytes
   pub order : synced ≤ len
   pub appended : (i : ℕ) → synced ≤ i → i < len → slice_index_or touched i true ≡ true
 
--- what a read gives is one of the files that a stop may leave
+-- the file that a read gives is one of those that a stop may leave
 pub file_may_be_left : (medium : MediumView) → MayLeave medium medium.file
 file_may_be_left medium = record { no_shorter = omega arith; no_longer = omega arith; kept = λ i low synced. refl }

@@ -1,7 +1,7 @@
--- What a stop at any moment of a run of device calls might have left, and how runs go on.
+-- The files that a stop at any moment of a run of device calls might have left, and how runs go on.
 use Rattle.std.specs.Prelude.{◌≡◌, ◌⊎◌, List, ℕ, length, slice_index}
 use Rattle.std.proofs.Common.{inl, inr, ⊎_elim, subst, sym, ap, arith}
-use Rattle.disk.specs.Disk.{NothingElse, Torn, Follows, Within, Only}
+use Rattle.disk.specs.Disk.{NothingElse, Torn, ComesFrom, Within, Only}
 
 -- A stop at any moment from the old state to the new one leaves a file that has P.
 pub record LeavesOnly {D : Type 0} (left_since : D → D → List ℕ → Type 0) (may_leave : D → List ℕ → Type 0)
@@ -31,7 +31,7 @@ module _ {D : Type 0} (left_since : D → D → List ℕ → Type 0) (may_leave 
     before = λ then file left. inl left;
   }
 
-  -- one call more, after which a stop leaves what has P
+  -- one call more, after which a stop leaves a file that has P
   pub goes_on : (old mid new : D) (P : List ℕ → Type 0) → LeavesOnly left_since may_leave old mid P
       → NothingElse left_since may_leave mid new → ((file : List ℕ) → may_leave new file → P file)
       → LeavesOnly left_since may_leave old new P
@@ -52,7 +52,7 @@ module _ {D : Type 0} (left_since : D → D → List ℕ → Type 0) (may_leave 
         λ then file left. ⊎_elim (first.before then file) (λ q. inr (weaker file q)) (second.before then file left);
   }
 
-  -- what follows of P
+  -- with a property that follows from P
   pub weakens : (old new : D) (P Q : List ℕ → Type 0) → LeavesOnly left_since may_leave old new P
       → ((file : List ℕ) → P file → Q file) → LeavesOnly left_since may_leave old new Q
   weakens old new P Q run weaker = record {
@@ -61,16 +61,16 @@ module _ {D : Type 0} (left_since : D → D → List ℕ → Type 0) (may_leave 
     before = λ then file left. ⊎_elim inl (λ p. inr (weaker file p)) (run.before then file left);
   }
 
-  -- what a stop may leave after a write over a synced file
+  -- the files that a stop may leave after a write over a synced file
   pub wrote : (old new : D) (first : List ℕ) (at n : ℕ) → Only first (may_leave old)
-      → Follows (Torn at n) (may_leave old) (may_leave new) → Within (may_leave new) (Torn at n first)
+      → ComesFrom (Torn at n) (may_leave old) (may_leave new) → Within (may_leave new) (Torn at n first)
   wrote old new first at n only follows file left =
       let from = follows file left in subst (λ (f : List ℕ). Torn at n f file) (only from.0 from.1) from.2
 
   -- a write over a synced file
   pub one_write : (old new : D) (first : List ℕ) (at n : ℕ)
       → ((file : List ℕ) → left_since old old file → may_leave old file) → Only first (may_leave old)
-      → Follows (Torn at n) (may_leave old) (may_leave new) → NothingElse left_since may_leave old new
+      → ComesFrom (Torn at n) (may_leave old) (may_leave new) → NothingElse left_since may_leave old new
       → LeavesOnly left_since may_leave old new (Torn at n first)
   one_write old new first at n only_now only follows past =
       goes_on old old new (Torn at n first) (started old (Torn at n first) only_now

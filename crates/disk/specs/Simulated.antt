@@ -6,7 +6,7 @@ use Rattle.disk.specs.Medium.{MediumView, all_synced, with_write}
 use Rattle.disk.specs.declared.disk.DiskError.{DiskError}
 use Rattle.disk.specs.declared.disk.DiskError.TheVariants.{Failed, OutOfRange}
 
--- a stop within the call of that number, and what it leaves
+-- a stop within the call of that number, and the bytes that it leaves
 pub record StopView : Type 0 where
   pub step : ℕ
   pub torn : List ℕ
@@ -43,16 +43,16 @@ is_stop None step = false
 is_stop (Some stop) step = stop.step == step
 
 -- The disk as a call begins: the call has its number, the next has the next one up to the greatest of 64 bits, and the
--- machine has stopped where the stop falls on this one.
-abbrev pub begun : SimView → SimView
-begun disk =
+-- machine has stopped if the stop falls on this one.
+abbrev pub call_begun : SimView → SimView
+call_begun disk =
     record disk { step = min (disk.step + 1) (2 ^ 64 - 1); stopped = disk.stopped || is_stop disk.stop disk.step }
 
 -- The next call works, unless the machine has stopped before or stops within it, or it is the one that fails.
-abbrev pub works : SimView → Bool
-works disk = not (disk.stopped || is_stop disk.stop disk.step || is_failing disk.failing disk.step)
+abbrev pub succeeds : SimView → Bool
+succeeds disk = not (disk.stopped || is_stop disk.stop disk.step || is_failing disk.failing disk.step)
 
--- The machine runs, the step that fails and the one within which it stops are past, and so many bytes find room.
+-- The machine runs, the failing step and the one within which it stops are past, and this number of bytes finds room.
 pub record IsReliable (disk : SimView) (room : ℕ) : Type 0 where
   pub runs : disk.stopped ≡ false
   pub counts : disk.step ≤ 2 ^ 64 - 1
@@ -60,9 +60,9 @@ pub record IsReliable (disk : SimView) (room : ℕ) : Type 0 where
   pub spared : IfSome disk.stop (λ stop. stop.step < disk.step)
   pub fits : room ≤ disk.medium.room
 
--- the answer of a call that works or not, with this value where it can be done
+-- the answer of a call that works or not, with this value if it can be done
 abbrev pub answer_of : {T : Type 0} → Bool → Bool → T → Result T DiskError
-answer_of works possible value = if works then (if possible then Ok value else Err OutOfRange) else Err Failed
+answer_of succeeds possible value = if succeeds then (if possible then Ok value else Err OutOfRange) else Err Failed
 
 -- an error adds one to the failures, from the greatest number to 0
 abbrev pub counted : {T : Type 0} → Result T DiskError → SimView → SimView
@@ -76,15 +76,15 @@ has_range disk at n = nat_le (at + n) (length disk.medium.file)
 abbrev pub has_room : SimView → ℕ → ℕ → Bool
 has_room disk at n = nat_le (at + n) disk.medium.room
 
--- the disk after a write, whose bytes are written where they find room, also by a call that fails or within which the
--- machine stops, but by none after that
+-- the disk after a write, whose bytes are written if they find room, also by a call that fails or within which the machine
+-- stops, but by none after that
 abbrev pub after_write : SimView → ℕ → List ℕ → SimView
 after_write disk at bytes =
     if has_room disk at (length bytes) && not disk.stopped
-    then record (begun disk) { medium = with_write disk.medium at bytes }
-    else begun disk
+    then record (call_begun disk) { medium = with_write disk.medium at bytes }
+    else call_begun disk
 
--- the disk after a sync, which settles what was written where it works
+-- the disk after a sync, which settles the written bytes if it works
 abbrev pub after_sync : SimView → SimView
 after_sync disk =
-    if works disk then record (begun disk) { medium = all_synced disk.medium.file disk.medium.room } else begun disk
+    if succeeds disk then record (call_begun disk) { medium = all_synced disk.medium.file disk.medium.room } else call_begun disk

@@ -1,6 +1,7 @@
-//! A disk: what a read gives, what a stop now may leave, and what a stop since an earlier moment might have left.
+//! A disk: the file that a read gives, those that a stop now may leave, and those that a stop since an earlier moment might
+//! have left.
 ghost use Rattle.std.specs.Prelude.{◌≡◌, ◌≤◌, ◌+◌, List, ℕ, length, take, drop, IfOk, OnOk, OnErr, IsOk};
-ghost use Rattle.disk.specs.Disk.{overwritten, Torn, Follows, Admits, Within, WidensOrKeeps, Only, NothingElse, Counts};
+ghost use Rattle.disk.specs.Disk.{overwritten, Torn, ComesFrom, Admits, Within, WidensOrKeeps, Only, NothingElse, Counts};
 
 use thiserror::Error;
 
@@ -15,12 +16,12 @@ pub enum DiskError {
     OutOfRange,
 }
 
-/// A disk with one file of bytes. It tells the facts below, or it tells none of them.
+/// A disk with one file of bytes. It states the facts below, or none of them.
 ///
-/// Between two syncs each written range and what is appended may hold any bytes after a stop, the length lies between
-/// the old and the new, and all other bytes stay. After a sync that succeeded a stop leaves what a read gives.
+/// Between two syncs each written range and all appended bytes may be any bytes after a stop, the length is between the old
+/// and the new one, and all other bytes stay. After a sync that succeeded a stop leaves the file that a read gives.
 pub trait Disk {
-    /// That it tells them.
+    /// It states them.
     ghost tells: { Type 0 };
 
     /// The file that a read gives.
@@ -29,15 +30,15 @@ pub trait Disk {
     /// The files that a stop now may leave.
     ghost may_leave: { Self → List ℕ → Type 0 };
 
-    /// The files that a stop at some moment from the first state on might have left, up to the second. It is bounded
-    /// from above alone: `NothingElse` says what it has not.
+    /// The files that a stop at some moment from the first state on might have left, up to the second. Contracts bound it
+    /// from above alone: `NothingElse` excludes all other files.
     ghost left_since: { Self → Self → List ℕ → Type 0 };
 
-    /// How often it has failed, which every disk tells.
+    /// How often it has failed, which every disk counts.
     ghost failure_count: { Self → ℕ };
 
-    /// That from now on each call succeeds that can be done within so many bytes: a read inside the file, and a write
-    /// that ends by there. A disk that never says so promises no success.
+    /// From now on each call succeeds that can be done within this number of bytes: a read inside the file, and a write that
+    /// ends within it. A disk that never says so promises no success.
     ghost serves: { Self → ℕ → Type 0 };
 
     /// The length of the file in bytes.
@@ -51,8 +52,8 @@ pub trait Disk {
         ensures past { tells → NothingElse left_since may_leave self.old self.new }
         ensures count { Counts result (failure_count self.old) (failure_count self.new) };
 
-    /// Fills the buffer with the bytes of the file from `at` on. It is refused unless the whole range is inside the
-    /// file. What the buffer holds after an error is left open.
+    /// Fills the buffer with the bytes of the file from `at` on. It is refused unless the whole range is inside the file.
+    /// The contents of the buffer after an error are unspecified.
     fn read(&mut self, at: u64, buf: &mut [u8]) -> Result<(), DiskError>
         ensures works { (room : ℕ) → serves self.old room → at + length buf.old ≤ length (seen self.old) → IsOk result }
         ensures serves { (room : ℕ) → serves self.old room → serves self.new room }
@@ -64,16 +65,16 @@ pub trait Disk {
         ensures past { tells → NothingElse left_since may_leave self.old self.new }
         ensures count { Counts result (failure_count self.old) (failure_count self.new) };
 
-    /// Writes these bytes from `at` on, over what is there and past the end, with zero bytes in a gap before them. A
-    /// failed write may have written them in part.
+    /// Writes these bytes from `at` on, over those there and past the end, with zero bytes in a gap before them. A failed
+    /// write may have written them in part.
     fn write_at(&mut self, at: u64, bytes: &[u8]) -> Result<(), DiskError>
         ensures works { (room : ℕ) → serves self.old room → at + length bytes.now ≤ room → IsOk result }
         ensures serves { (room : ℕ) → serves self.old room → serves self.new room }
         ensures seen { tells → OnOk result (seen self.new ≡ overwritten (seen self.old) at bytes.now) }
         ensures stop { tells →
-            Follows (Torn at (length bytes.now)) (may_leave self.old) (may_leave self.new) }
+            ComesFrom (Torn at (length bytes.now)) (may_leave self.old) (may_leave self.new) }
 
-        // It widens what a stop may leave by each file that may come of it.
+        // It adds to the files that a stop may leave each one that may result from the write.
         ensures widens { tells →
             OnOk result (Admits (Torn at (length bytes.now)) (may_leave self.old) (may_leave self.new)) }
         ensures widens_or_keeps { tells →
@@ -82,7 +83,7 @@ pub trait Disk {
         ensures past { tells → NothingElse left_since may_leave self.old self.new }
         ensures count { Counts result (failure_count self.old) (failure_count self.new) };
 
-    /// After it, a stop leaves what a read gives. A failed sync settles nothing.
+    /// After it, a stop leaves the file that a read gives. A failed sync settles nothing.
     fn sync(&mut self) -> Result<(), DiskError>
         ensures works { (room : ℕ) → serves self.old room → IsOk result }
         ensures serves { (room : ℕ) → serves self.old room → serves self.new room }
@@ -93,13 +94,13 @@ pub trait Disk {
         ensures past { tells → NothingElse left_since may_leave self.old self.new }
         ensures count { Counts result (failure_count self.old) (failure_count self.new) };
 
-    /// How often a call has answered an error, which begins again at 0 past the greatest number.
+    /// How many calls have returned an error; it restarts at 0 after the greatest number.
     fn failures(&self) -> u64
         ensures { result ≡ failure_count self.now };
 
-    /// What a read gives is one of the files that a stop now may leave.
+    /// The file that a read gives is one of those that a stop now may leave.
     ghost seen_may_be_left: { (disk : Self) → tells → may_leave disk (seen disk) };
 
-    /// From a moment to itself a stop leaves what it may leave now.
+    /// Each file that a stop might have left from a moment to itself is one that it may leave now.
     ghost only_now: { (disk : Self) (file : List ℕ) → tells → left_since disk disk file → may_leave disk file };
 }

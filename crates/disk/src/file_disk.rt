@@ -1,4 +1,4 @@
-//! A disk that is a real file. It tells nothing, since no contract can say what a file holds.
+//! A disk that is a real file. It states nothing, since no contract can say what a file holds.
 ghost use Rattle.std.specs.Prelude.{◌≡◌, ◌+◌, ◌%◌, ◌^◌, IfOk, MatchResult, OnOk, OnErr};
 
 use crate::disk::{Disk, DiskError};
@@ -8,8 +8,8 @@ use std::marker::Model;
 use std::os::unix::fs::FileExt;
 use std::rt::Files;
 
-/// A disk over a real file, with positioned reads and writes. That the file keeps the rules of a disk is for the user
-/// to know, so this disk tells none of them and promises no success. A contract sees it as the number of its failures.
+/// A disk over a real file, with positioned reads and writes. Whether the file keeps the rules of a disk is for the user to
+/// know, so this disk states none of them and promises no success. A contract sees it as the number of its failures.
 pub struct FileDisk<F: FileExt + OpenFile + Drop> {
     file: F,
     failures: u64,
@@ -40,7 +40,7 @@ impl<F: FileExt + OpenFile + Drop> FileDisk<F> {
         FileDisk { file, failures: 0 }
     }
 
-    /// A disk over the file of that name, which is made empty where it isn't there.
+    /// A disk over the file of that name, which is created empty if it doesn't exist.
     pub fn open<R: Files<File = F>>(rt: &R, name: &str) -> io::Result<FileDisk<F>>
         ensures { IfOk result (λ disk. disk ≡ 0) }
     {
@@ -53,7 +53,7 @@ impl<F: FileExt + OpenFile + Drop> FileDisk<F> {
     }
 
     /// Passes an answer of the file on, and counts an error.
-    fn told<T: Drop>(&mut self, answer: io::Result<T>) -> Result<T, DiskError>
+    fn passed_on<T: Drop>(&mut self, answer: io::Result<T>) -> Result<T, DiskError>
         ensures answer { MatchResult answer (λ value. result ≡ Ok value) (λ _. result ≡ Err DiskError.Failed) }
         ensures ok { OnOk result (self.new ≡ self.old) }
         ensures err { OnErr result (self.new ≡ (self.old + 1) % 2 ^ 64) }
@@ -95,7 +95,7 @@ impl<F: FileExt + OpenFile + Drop> Disk for FileDisk<F> {
 
     fn len(&mut self) -> Result<u64, DiskError> {
         let answer = self.file.metadata();
-        let metadata = self.told(answer)?;
+        let metadata = self.passed_on(answer)?;
         Ok(metadata.len())
     }
 
@@ -105,7 +105,7 @@ impl<F: FileExt + OpenFile + Drop> Disk for FileDisk<F> {
             return Err(self.failed(DiskError::OutOfRange));
         }
         let answer = self.file.read_exact_at(buf, at);
-        self.told(answer)
+        self.passed_on(answer)
     }
 
     fn write_at(&mut self, at: u64, bytes: &[u8]) -> Result<(), DiskError> {
@@ -113,13 +113,13 @@ impl<F: FileExt + OpenFile + Drop> Disk for FileDisk<F> {
             return Err(self.failed(DiskError::OutOfRange));
         }
         let answer = self.file.write_all_at(bytes, at);
-        self.told(answer)
+        self.passed_on(answer)
     }
 
     fn sync(&mut self) -> Result<(), DiskError> {
         // The bytes and the length, which are all that a disk promises; not the times.
         let answer = self.file.sync_data();
-        self.told(answer)
+        self.passed_on(answer)
     }
 
     fn failures(&self) -> u64 {

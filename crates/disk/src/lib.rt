@@ -1,5 +1,5 @@
-//! A disk that may fail or stop at any moment: the rules that it keeps, one in memory that fails and stops where it is
-//! told to, and one over a real file.
+//! A disk that may fail or stop at any moment: the rules that it keeps, one in memory that fails and stops as chosen, and
+//! one over a real file.
 //!
 //! Nothing here knows what a file holds.
 #![tactic(auto)]

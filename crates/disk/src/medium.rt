@@ -1,4 +1,4 @@
-//! What is on a simulated disk, and which of its bytes a stop may still change.
+//! The file of a simulated disk, and which of its bytes a stop may still change.
 ghost use Rattle.std.specs.Prelude.{◌≡◌, ◌≤◌, ◌<◌, ◌+◌, ◌-◌, ◌++◌, ℕ, length, take, drop, replicate, slice_index};
 ghost use Rattle.std.specs.Prelude.{slice_index_or, count_by, true, false, IfOk};
 ghost use Rattle.disk.specs.Medium.{all_synced, synced_len, with_write, IsLeft, IsWritten, torn_byte};
@@ -9,7 +9,7 @@ use std::marker::Model;
 /// The file is the first `len` bytes of `bytes`, whose length is the room.
 pub struct Medium {
     bytes: Vec<u8>,
-    /// Of each byte, whether it was written since the last sync.
+    /// For each byte, whether it was written since the last sync.
     touched: Vec<bool>,
     len: usize,
     synced_len: usize,
@@ -63,7 +63,7 @@ impl Medium {
     /// The greatest length that the file may have.
     pub fn room(&self) -> usize
         ensures room { result ≡ self.now.room }
-        // What was appended since the last sync counts as written.
+        // The bytes appended since the last sync count as written.
         ensures appended { (i : ℕ) → synced_len self.now ≤ i → IsWritten self.now i }
     {
         self.bytes.len()
@@ -76,7 +76,7 @@ impl Medium {
         self.len
     }
 
-    /// Fills the buffer with the bytes from there on.
+    /// Fills the buffer with the bytes from `at` on.
     pub fn read(&self, at: usize, buf: &mut [u8])
         requires { at + length buf.old ≤ length self.now.file }
         ensures { buf.new ≡ take (length buf.old) (drop at self.now.file) }
@@ -84,7 +84,7 @@ impl Medium {
         buf.copy_from_slice(&self.bytes[at..at + buf.len()]);
     }
 
-    /// Writes these bytes from there on, with zero bytes in a gap before them.
+    /// Writes these bytes from `at` on, with zero bytes in a gap before them.
     pub fn write(&mut self, at: usize, written: &[u8])
         requires { at + length written.now ≤ self.old.room }
         ensures { self.new ≡ with_write self.old at written.now }
@@ -96,7 +96,7 @@ impl Medium {
         self.len = self.len.max(end);
     }
 
-    /// Settles what was written.
+    /// Settles the written bytes.
     pub fn sync(&mut self)
         ensures { self.new ≡ all_synced self.old.file self.old.room }
     {
@@ -104,7 +104,7 @@ impl Medium {
         self.synced_len = self.len;
     }
 
-    /// What a stop leaves that is told to leave these bytes, and a length as near to this one as may be.
+    /// The file after a stop that leaves these bytes, and a length as near to this one as may be.
     pub fn left(self, torn: &[u8], len: u64) -> Vec<u8>
         ensures { IsLeft self torn.now len result.items }
     {
@@ -147,7 +147,7 @@ fn clear(touched: &mut [bool])
     touched.fill(false);
 }
 
-/// Puts these bytes in turn where one was touched.
+/// Puts these bytes in turn wherever one was touched.
 fn tear(bytes: &mut [u8], touched: &[bool], torn: &[u8])
     requires room { length touched.now ≡ length bytes.old }
     requires some { 0 < length torn.now }

@@ -1,9 +1,9 @@
-//! A disk in memory that fails or stops where it is told to. It tells what it does.
+//! A disk in memory that fails or stops at chosen steps. It states the rules of a disk.
 ghost use Rattle.std.specs.Prelude.{◌≡◌, ◌≤◌, ◌+◌, ℕ, true, is_ok, MatchOption, length, take, drop, IfOk, nat_le};
 ghost use Rattle.std.specs.Prelude.{if◌then◌else◌};
 ghost use Rattle.disk.specs.Disk.{Only};
 ghost use Rattle.disk.specs.Medium.{MayLeave, IsLeft, IsWritten, synced_len, file_may_be_left};
-ghost use Rattle.disk.specs.Simulated.{fresh, StopView, is_stop, begun, works, answer_of, counted, has_range, has_room};
+ghost use Rattle.disk.specs.Simulated.{fresh, StopView, is_stop, call_begun, succeeds, answer_of, counted, has_range, has_room};
 ghost use Rattle.disk.specs.Simulated.{after_write, after_sync, IsReliable};
 
 use crate::disk::{Disk, DiskError};
@@ -11,7 +11,7 @@ use crate::medium::Medium;
 use std::alloc::{AllocError, Global};
 use std::marker::Model;
 
-/// The room in bytes of a file that is shorter.
+/// The room in bytes of a disk whose file is shorter.
 pub(crate) const ROOM_BYTES: usize = 262_144;
 
 /// The room is this number. A law.
@@ -19,13 +19,13 @@ pub fn room_of_a_simulated_disk()
     ensures { ROOM_BYTES ≡ 262144 }
 {}
 
-/// A stop of the machine within a call, and what it leaves.
+/// A stop of the machine within a call, and the bytes that it leaves.
 #[derive(Debug)]
 pub struct Stop {
     /// The number of the call, a device step.
     pub step: u64,
-    /// The bytes that are left, in turn, where one was written since the last sync. Where there are none, the written
-    /// bytes are left.
+    /// The bytes that are left, in turn, where one was written since the last sync. If there are none, the written bytes are
+    /// left.
     pub torn: Vec<u8>,
     /// The length in bytes that is left, moved into the span from the synced length to the current one.
     pub len: u64,
@@ -49,8 +49,8 @@ impl Model for Stop {
     ghost view = { λ stop. record { step = stop.step; torn = stop.torn.items; len = stop.len } };
 }
 
-/// A disk in memory. It numbers its calls of `len`, `read`, `write_at` and `sync` from 0 as device steps, and fails or
-/// stops at those that it is told. It takes memory in `new` alone.
+/// A disk in memory. It numbers its calls of `len`, `read`, `write_at` and `sync` from 0 as device steps, and fails or stops
+/// at the chosen ones. It takes memory in `new` alone.
 pub struct SimDisk {
     medium: Medium,
     step: u64,
@@ -123,8 +123,8 @@ impl SimDisk {
         self.stop = Some(stop);
     }
 
-    /// The file that a stop leaves now: as the chosen stop has it, also where no call has come to it, and where none
-    /// was chosen all that was written.
+    /// The file that a stop leaves now: as the chosen stop has it, even if no call has come to it, and if none was chosen
+    /// all that was written.
     pub fn left(self) -> Vec<u8>
         ensures left { MatchOption self.stop
             (result.items ≡ self.medium.file)
@@ -147,8 +147,8 @@ impl SimDisk {
 
     /// Begins a call, and says whether it works.
     fn begin(&mut self) -> bool
-        ensures begun { self.new ≡ begun self.old }
-        ensures works { result ≡ works self.old }
+        ensures begun { self.new ≡ call_begun self.old }
+        ensures works { result ≡ succeeds self.old }
     {
         let step = self.step;
         self.step = step.saturating_add(1);
@@ -168,12 +168,12 @@ impl SimDisk {
         }
     }
 
-    /// Ends a call that works or not, and that can be done or not.
-    fn end(&mut self, works: bool, possible: bool) -> Result<(), DiskError>
-        ensures answer { result ≡ answer_of works possible tt }
+    /// Ends a call that succeeds or not, and that can be done or not.
+    fn end(&mut self, succeeds: bool, possible: bool) -> Result<(), DiskError>
+        ensures answer { result ≡ answer_of succeeds possible tt }
         ensures counted { self.new ≡ counted result self.old }
     {
-        let error = match (works, possible) {
+        let error = match (succeeds, possible) {
             (true, true) => return Ok(()),
             (true, false) => DiskError::OutOfRange,
             (false, _) => DiskError::Failed,
@@ -211,8 +211,8 @@ impl Disk for SimDisk {
     ghost only_now = { λ disk file _ leaves. leaves };
 
     fn len(&mut self) -> Result<u64, DiskError>
-        ensures answer { result ≡ answer_of (works self.old) true (length self.old.medium.file) }
-        ensures after { self.new ≡ counted result (begun self.old) }
+        ensures answer { result ≡ answer_of (succeeds self.old) true (length self.old.medium.file) }
+        ensures after { self.new ≡ counted result (call_begun self.old) }
     {
         let works = self.begin();
         self.end(works, true)?;
@@ -220,10 +220,10 @@ impl Disk for SimDisk {
     }
 
     fn read(&mut self, at: u64, buf: &mut [u8]) -> Result<(), DiskError>
-        ensures answer { result ≡ answer_of (works self.old) (has_range self.old at (length buf.old)) tt }
+        ensures answer { result ≡ answer_of (succeeds self.old) (has_range self.old at (length buf.old)) tt }
         ensures bytes { buf.new ≡
             (if is_ok result then take (length buf.old) (drop at self.old.medium.file) else buf.old) }
-        ensures after { self.new ≡ counted result (begun self.old) }
+        ensures after { self.new ≡ counted result (call_begun self.old) }
     {
         let works = self.begin();
         let inside = ends_within(at, buf.len(), self.medium.len());
@@ -233,9 +233,9 @@ impl Disk for SimDisk {
     }
 
     fn write_at(&mut self, at: u64, bytes: &[u8]) -> Result<(), DiskError>
-        ensures answer { result ≡ answer_of (works self.old) (has_room self.old at (length bytes.now)) tt }
+        ensures answer { result ≡ answer_of (succeeds self.old) (has_room self.old at (length bytes.now)) tt }
         ensures after { self.new ≡ counted result (after_write self.old at bytes.now) }
-        // What was appended since the last sync counts as written.
+        // The bytes appended since the last sync count as written.
         ensures appended { (i : ℕ) → synced_len self.old.medium ≤ i → IsWritten self.old.medium i }
     {
         let was_stopped = self.stopped;
@@ -248,7 +248,7 @@ impl Disk for SimDisk {
     }
 
     fn sync(&mut self) -> Result<(), DiskError>
-        ensures answer { result ≡ answer_of (works self.old) true tt }
+        ensures answer { result ≡ answer_of (succeeds self.old) true tt }
         ensures after { self.new ≡ counted result (after_sync self.old) }
     {
         let works = self.begin();

@@ -1,4 +1,4 @@
--- What a core over a disk keeps when its log grows.
+-- The invariant of a core over a disk when its log grows.
 use Rattle.std.proofs.Common.{ℕ, [], ◌∷◌, Option, Some, None, inl, inr, sym, subst, arith, length-append}
 use Rattle.std.specs.Prelude.{Result, Ok, Err}
 use Rattle.st_types.specs.declared.entry.Entry.{Entry}

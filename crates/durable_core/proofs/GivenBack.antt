@@ -1,4 +1,4 @@
--- What a warm restart makes of what survives.
+-- A warm restart from a file that survives.
 use Rattle.std.proofs.Common.{◌≡◌, ℕ, Bool, true, false, not, if◌then◌else◌, List, [], ◌∷◌, map, Option, Some, refl}
 use Rattle.std.proofs.Common.{sym}
 use Rattle.std.proofs.Common.{ap, ◌∙◌}
@@ -21,15 +21,15 @@ use Rattle.retain_records.specs.Records.{Content}
 use Rattle.retain_store.specs.Recovered.{Recovered, TooLong, Refused, Nothing, Found}
 use Rattle.plan.specs.declared.plan.Plan.{Plan}
 use Rattle.plan.specs.PlanViews.{plan_view}
-use Rattle.plan.specs.Sound.{are_different}
 use Rattle.serial_core.specs.Retained.{retained_paths, retained_kinds, paired}
 use Rattle.durable_core.specs.Recorded.{recorded}
-use Rattle.retain_records.specs.Told.{told}
+use Rattle.retain_records.specs.ContentLines.{kept_in}
 use Rattle.durable_core.specs.Restart.{record_of, Holds, Survives, warm}
 use Rattle.durable_core.proofs.RecordedLemmas.{recorded_kinds, typed_recorded}
 use Rattle.durable_core.proofs.RecordLemmas.{lines_told}
+use Rattle.layout.specs.Names.{are_different}
 
--- ---- paths that are written apart
+-- ---- paths with different spellings
 
 none_is : (x : Name) (ys : List Name) → contains_name ys x ≡ false → AllByRecursion (λ y. bytes_eq x y ≡ false) ys
 none_is x [] h = tt
@@ -45,7 +45,7 @@ apart_is (x ∷ xs) d =
 pub apart : (plan : Plan) → IsDistinct bytes_eq (map (λ v. path_text v.path) plan.variables.items)
 apart plan = apart_is (map (λ v. path_text v.path) plan.variables.items) plan.sound.different
 
--- ---- what is kept, by the order of the retained variables
+-- ---- the values that are kept, in the order of the retained variables
 
 -- the retained variables with values of their types
 record InOrder (vs : List PlanVariable) (es : Store) : Type 0 where
@@ -86,7 +86,7 @@ in_order keep (v ∷ vs) (e ∷ s) goes same =
 
 pub told_again : (plan : Plan) (s : Store) (moment : Option ℕ)
     → shape_of s ≡ shape_of (initial_store (plan_view plan))
-    → told (record_of plan s moment) ≡ kept_of (plan_view plan) s moment
+    → kept_in (record_of plan s moment) ≡ kept_of (plan_view plan) s moment
 told_again plan s moment same =
     let vs = plan.variables.items in
     let types = (plan_view plan).enumerations in
@@ -121,7 +121,7 @@ values_of plan start before front (Found generation content) p same held h =
     let moment = last_moment before (past_of (plan_view plan) start front).rows in
     let shape : shape_of (after (plan_view plan) start front) ≡ shape_of (initial_store (plan_view plan)) =
     left.shape ∙ same in
-    let begins : Content → Option Datum = λ c. get (warm_start (plan_view plan) (Some (told c))).store p in
+    let begins : Content → Option Datum = λ c. get (warm_start (plan_view plan) (Some (kept_in c))).store p in
     ap begins h
     ∙ ap (λ r. get (warm_start (plan_view plan) (Some r)).store p)
     (told_again plan (after (plan_view plan) start front) moment shape)

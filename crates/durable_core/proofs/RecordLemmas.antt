@@ -17,24 +17,26 @@ use Rattle.st_meaning.specs.Layouts.{Enumerations, path_text, enumeration_text, 
 use Rattle.st_meaning.specs.Layouts.{values_length, record_length}
 use Rattle.st_rules.specs.declared.limits.TheConstants.{MAX_NAMES}
 use Rattle.st_types.specs.UpperNames.{is_upper_name}
-use Rattle.plan.specs.Sound.{are_different, is_spelled, has_names, has_spelling, has_line}
+use Rattle.plan.specs.Sound.{is_spelled, has_names, has_spelling, has_line}
 use Rattle.plan.specs.PlanViews.{plan_view}
 use Rattle.st_meaning.specs.Restarts.{line_with, lines_with}
 use Rattle.plan.specs.declared.plan.Plan.{Plan}
 use Rattle.retain_records.specs.Records.{Content, Line, line_text, text_of, is_path_text, is_visible, by_keyword}
-use Rattle.retain_records.specs.Records.{by_names, IsLine, IsLayoutText, Spells, is_byte_place, IsRecordable}
+use Rattle.retain_records.specs.Records.{by_names, IsLine, IsLayoutText, SpellsKind, is_byte_place, IsRecordable}
 use Rattle.retain_records.specs.Records.{value_bytes, record_bytes}
 use Rattle.retain_records.specs.Reading.{line_at}
-use Rattle.retain_records.specs.CutLaws.{some_is}
 use Rattle.retain_records.specs.LineLaws.{line_again, value_length}
 use Rattle.retain_records.specs.RecordLaws.{body_length}
-use Rattle.serial_core.specs.Retained.{retained_kinds, retained_paths, paired, told_by}
+use Rattle.serial_core.specs.Retained.{retained_kinds, retained_paths, paired, kept_from}
 use Rattle.durable_core.specs.Recorded.{all_renumbered, recorded, recorded_kind}
 use Rattle.durable_core.specs.Restart.{layout_text_of}
 use Rattle.retain_records.proofs.LayoutLemmas.{words_again}
-use Rattle.retain_records.specs.Told.{line_then, lines_in, told}
-use Rattle.durable_core.proofs.RecordedLemmas.{head_is, numbered, tail_is, place_recorded, typed, typed_back}
+use Rattle.retain_records.specs.ContentLines.{line_then, lines_in, kept_in}
+use Rattle.durable_core.proofs.RecordedLemmas.{numbered, place_recorded, typed, typed_back}
 use Rattle.durable_core.proofs.RecordedLemmas.{typed_held, typed_kinds, width_recorded}
+use Rattle.serial_core.proofs.RetainedLemmas.{cons_head, cons_tail}
+use Rattle.std.proofs.lemmas.Option.{same_Some}
+use Rattle.layout.specs.Names.{are_different}
 
 -- the types of the retained variables as a record knows them
 abbrev pub known_kinds : List PlanVariable → List Kind
@@ -78,21 +80,21 @@ path_spelled : (x : Name) → is_spelled x ≡ true → is_path_text x ≡ true
 path_spelled [] e = e
 path_spelled (b ∷ bs) e = (and_parts _ (list_all is_visible (b ∷ bs)) e).1
 
--- what is asked of the names of an enumerated type
-record HasNames (names : List Name) (n : ℕ) : Type 0 where
+-- the conditions on the names of an enumerated type
+pub record HasNames (names : List Name) (n : ℕ) : Type 0 where
   pub count : length names ≡ n
   pub some : 1 ≤ n
   pub few : n ≤ MAX_NAMES
   pub each : list_all is_upper_name names ≡ true
 
-names_there : (names : List Name) (n : ℕ) → has_names (Some names) n ≡ true → HasNames names n
+pub names_there : (names : List Name) (n : ℕ) → has_names (Some names) n ≡ true → HasNames names n
 names_there names n e =
     let a = and_parts ((length names == n) && nat_le 1 n && nat_le n MAX_NAMES) (list_all is_upper_name names) e in
     let b = and_parts ((length names == n) && nat_le 1 n) (nat_le n MAX_NAMES) a.0 in
     let c = and_parts (length names == n) (nat_le 1 n) b.0 in
     record { count = eqb-true (length names) n c.0; some = leb-true 1 n c.1; few = leb-true n MAX_NAMES b.1; each = a.1 }
 
-names_spell : (o : Option (List Name)) (n : ℕ) → has_names o n ≡ true → Spells (enumeration_text o) (Enumerated n 0)
+names_spell : (o : Option (List Name)) (n : ℕ) → has_names o n ≡ true → SpellsKind (enumeration_text o) (Enumerated n 0)
 names_spell None n e = absurd cc
 names_spell (Some names) n e =
     let h = names_there names n e in
@@ -107,7 +109,7 @@ names_spell (Some names) n e =
 
 -- a type with a spelling is spelled as a record spells it
 pub type_spells : (types : Enumerations) (k : Kind) → has_spelling types k ≡ true
-    → Spells (type_text types k) (recorded_kind k)
+    → SpellsKind (type_text types k) (recorded_kind k)
 type_spells types (Enumerated n number) e = names_spell (slice_get types number) n e
 type_spells types Sint e = by_keyword refl refl
 type_spells types Int e = by_keyword refl refl
@@ -142,7 +144,7 @@ spelled_are types (v ∷ vs) e =
     let p = and_parts (has_line types v) (list_all (has_line types) vs) e in
     spelled_first types v v.retained (lines_for types vs) (line_spelled types v p.0) (spelled_are types vs p.1)
 
--- each path stands once
+-- each path occurs once
 abbrev texts : List PlanVariable → List Name
 texts vs = map (λ v. path_text v.path) vs
 
@@ -179,7 +181,7 @@ once_are types (v ∷ vs) d =
     (none_is types (path_text v.path) vs (not-true (contains_name (texts vs) (path_text v.path)) p.0))
     (once_are types vs p.1)
 
--- the layout text of a plan is one of a record
+-- the layout text of a plan is a valid one of a record
 pub layout_is : (types : Enumerations) (vs : List PlanVariable) (ks : List Kind) → list_all (has_line types) vs ≡ true
     → are_different (texts vs) ≡ true → ks ≡ known_kinds vs → IsLayoutText (layout_text types vs) ks
 layout_is types vs ks spelled d is = record {
@@ -194,7 +196,7 @@ layout_is types vs ks spelled d is = record {
 
 some_lines : (l m : Line) (s t : List ℕ) → ◌≡◌ {A = Option (Line × List ℕ)} (Some (l, s)) (Some (m, t))
     → (l ≡ m) × (s ≡ t)
-some_lines l m s t e = let same = some_is (l, s) (m, t) e in
+some_lines l m s t e = let same = same_Some (l, s) (m, t) e in
     (ap (λ (p : Line × List ℕ). p.0) same, ap (λ (p : Line × List ℕ). p.1) same)
 
 no_line : (l : Line) (rest : List ℕ) → IsLine l → [] ≡ line_text l ++ rest → ⊥
@@ -224,7 +226,7 @@ kinds_told types vs text ks spelled is layout =
     layout.typed ∙ lines_once layout.lines (lines_for types vs) layout.sound (spelled_are types vs spelled)
     (sym layout.spelled ∙ is ∙ sym (text_is types vs)) ∙ kinds_are types vs
 
--- ---- what a record tells
+-- ---- the lines of a record
 
 told_first : (types : Enumerations) (v : PlanVariable) (r : Bool) (vs : List PlanVariable) (ws : List Datum)
     → IsLine (line_for types v)
@@ -238,10 +240,10 @@ told_first types v true vs [] sound again e = absurd (omega (arith, ap length e)
 told_first types v true vs (w ∷ ws) sound again e =
     ap (λ o. line_then o w (λ behind. lines_in behind ws)) (words_again (line_for types v) (layout_text types vs) sound)
     ∙ ap (λ ls. line_with types (v.path, record { kind = v.initial.kind; number = w.number }) ∷ ls)
-    (again ws (tail_is e))
+    (again ws (cons_tail e))
 told_first types v false vs ws sound again e = again ws e
 
--- the layout text of a plan tells its retained variables, whatever values stand behind it
+-- the layout text of a plan gives its retained variables, whatever values follow it
 pub lines_told : (types : Enumerations) (vs : List PlanVariable) (ws : List Datum)
     → list_all (has_line types) vs ≡ true → map (λ d. d.kind) ws ≡ known_kinds vs
     → lines_in (layout_text types vs) ws ≡ lines_with types (paired (retained_paths vs) (typed (retained_kinds vs) ws))
@@ -254,7 +256,7 @@ lines_told types (v ∷ vs) ws spelled e =
 -- a warm start from a record of the plan's layout text takes its values in order
 pub told_in_order : (plan : Plan) (content : Content) → content.layout ≡ layout_text_of plan
     → map (λ d. d.kind) content.values ≡ known_kinds plan.variables.items
-    → told content ≡ told_by plan (typed (retained_kinds plan.variables.items) content.values) content.moment
+    → kept_in content ≡ kept_from plan (typed (retained_kinds plan.variables.items) content.values) content.moment
 told_in_order plan content layout kinds =
     ap (λ ls. record { lines = ls; moment = content.moment })
     (ap (λ text. lines_in text content.values) layout
@@ -268,8 +270,8 @@ length_first : (v : PlanVariable) (r : Bool) (ws : List Datum) (ks : List Kind) 
     → length (flat_map value_bytes ws) ≡ (if r then width_of v.initial.kind + n else n)
 length_first v true [] ks n again e = absurd (omega (arith, ap length e))
 length_first v true (w ∷ ws) ks n again e =
-    let kind : w.kind ≡ recorded_kind v.initial.kind = head_is e in
-    let rest = again ws (tail_is e) in
+    let kind : w.kind ≡ recorded_kind v.initial.kind = cons_head e in
+    let rest = again ws (cons_tail e) in
     length-append (value_bytes w) (flat_map value_bytes ws)
     ∙ ap (λ k. k + length (flat_map value_bytes ws))
     (value_length w ∙ ap width_of kind ∙ width_recorded v.initial.kind)
@@ -288,7 +290,7 @@ pub record_long : (types : Enumerations) (vs : List PlanVariable) (ws : List Dat
 record_long types vs ws moment text is e = body_length moment text (flat_map value_bytes ws)
     ∙ omega (arith, values_long vs ws e, ap length is)
 
--- ---- each place is one byte
+-- ---- each place of an enumerated value is one byte
 
 names_few : (o : Option (List Name)) (n : ℕ) → has_names o n ≡ true → n ≤ 256
 names_few None n e = absurd cc
@@ -320,10 +322,10 @@ placed_first : (types : Enumerations) (v : PlanVariable) (r : Bool) (ws : List D
     → AllByRecursion (λ d. is_byte_place d ≡ true) ws
 placed_first types v true [] ks spelled again e held = tt
 placed_first types v true (w ∷ ws) ks spelled again e held =
-    let kind : w.kind ≡ recorded_kind v.initial.kind = head_is e in (
+    let kind : w.kind ≡ recorded_kind v.initial.kind = cons_head e in (
       ap (λ k. is_byte_place (record { kind = k; number = w.number })) kind
           ∙ place_of types v.initial.kind w.number spelled (ap (λ k. holds k w.number) (sym kind) ∙ held.0),
-      again ws (tail_is e) held.1,
+      again ws (cons_tail e) held.1,
     )
 placed_first types v false ws ks spelled again e held = again ws e held
 
@@ -349,9 +351,9 @@ record_sound types vs ws moment text spelled d is early e held = record {
   places = places_are types vs ws spelled e held;
 }
 
--- ---- what a warm start takes of a record
+-- ---- the values that a warm start takes from a record
 
--- the values are those of the record, of the plan's types
+-- the values are those of the record, and have the plan's types
 pub record AreTaken (plan : Plan) (content : Content) (values : List Datum) : Type 0 where
   pub are : values ≡ typed (retained_kinds plan.variables.items) content.values
   pub kinds : map (λ d. d.kind) values ≡ retained_kinds plan.variables.items

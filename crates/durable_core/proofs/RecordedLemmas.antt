@@ -1,4 +1,4 @@
--- What a record knows of values, and what a plan's types make of it.
+-- Values as a record knows them, and as a plan's types give them back.
 use Rattle.std.proofs.Common.{◌≡◌, ◌∙◌, ap, sym, refl, arith, ℕ, ◌-◌, ◌≤◌, Bool, true, false, List, [], ◌∷◌, length, map}
 use Rattle.std.specs.Prelude.{ℤ, pos, negsuc, ◌==◌, ◌||◌, int_le, if◌then◌else◌, Result, Ok, Err}
 use Rattle.std.specs.List.{AllByRecursion}
@@ -12,8 +12,10 @@ use Rattle.st_types.specs.Kinds.{holds, width_of}
 use Rattle.st_types.specs.Values.{Datum, IsHeld, in_range}
 use Rattle.retain_records.specs.Records.{has_keyword, is_byte_place}
 use Rattle.durable_core.specs.Recorded.{recorded_kind, recorded, renumbered, all_renumbered}
+use Rattle.serial_core.proofs.RetainedLemmas.{cons_head, cons_tail}
+use Rattle.st_types.proofs.TestLemmas.{or_true}
 
--- a record knows an elementary type as it is
+-- a record leaves an elementary type as it is
 pub as_it_is : (k : Kind) (z : ℤ) → has_keyword k ≡ true
     → ◌≡◌ {A = Datum} (recorded record { kind = k; number = z }) record { kind = k; number = z }
 as_it_is Sint z e = refl
@@ -72,7 +74,7 @@ width_recorded (Enumerated names number) = refl
 pub in_record : (d : Datum) → IsHeld d → in_range (recorded_kind d.kind) d.number ≡ Ok (recorded d)
 in_record d held = rw (holds_recorded d.kind d.number ∙ held) refl
 
--- the values that a type has, and what stays as it is
+-- a value of a type, or as it was
 pub in_type : (b : Bool) (x y d : Datum) → ◌≡◌ {A = Result Datum Fault} (Ok x) (if b then Ok y else Err Range)
     → x ≡ (if b then y else d)
 in_type true x y d e = cc
@@ -92,12 +94,6 @@ typed [] ws = []
 typed (k ∷ ks) [] = []
 typed (k ∷ ks) (w ∷ ws) = record { kind = k; number = w.number } ∷ typed ks ws
 
-pub head_is : {a b : Kind} {xs ys : List Kind} → a ∷ xs ≡ b ∷ ys → a ≡ b
-head_is h = cc
-
-pub tail_is : {a b : Kind} {xs ys : List Kind} → a ∷ xs ≡ b ∷ ys → xs ≡ ys
-tail_is h = cc
-
 abbrev Know : List Kind → List Datum → Type 0
 Know ks ws = map (λ d. d.kind) ws ≡ map recorded_kind ks
 
@@ -108,39 +104,39 @@ held_as k w is held =
 pub typed_kinds : (ks : List Kind) (ws : List Datum) → Know ks ws → map (λ d. d.kind) (typed ks ws) ≡ ks
 typed_kinds [] ws e = refl
 typed_kinds (k ∷ ks) [] e = absurd (omega (arith, ap length e))
-typed_kinds (k ∷ ks) (w ∷ ws) e = ap (λ js. k ∷ js) (typed_kinds ks ws (tail_is e))
+typed_kinds (k ∷ ks) (w ∷ ws) e = ap (λ js. k ∷ js) (typed_kinds ks ws (cons_tail e))
 
 pub typed_held : (ks : List Kind) (ws : List Datum) → Know ks ws → AllByRecursion IsHeld ws
     → AllByRecursion IsHeld (typed ks ws)
 typed_held [] ws e held = tt
 typed_held (k ∷ ks) [] e held = tt
-typed_held (k ∷ ks) (w ∷ ws) e held = (held_as k w (head_is e) held.0, typed_held ks ws (tail_is e) held.1)
+typed_held (k ∷ ks) (w ∷ ws) e held = (held_as k w (cons_head e) held.0, typed_held ks ws (cons_tail e) held.1)
 
--- what a record knows of them are the record's values again
+-- the record's values come back from them
 pub typed_back : (ks : List Kind) (ws : List Datum) → Know ks ws → map recorded (typed ks ws) ≡ ws
 typed_back [] [] e = refl
 typed_back [] (w ∷ ws) e = absurd (omega (arith, ap length e))
 typed_back (k ∷ ks) [] e = absurd (omega (arith, ap length e))
 typed_back (k ∷ ks) (w ∷ ws) e =
-    ap (λ j. record { kind = j; number = w.number } ∷ map recorded (typed ks ws)) (sym (head_is e))
-    ∙ ap (λ us. w ∷ us) (typed_back ks ws (tail_is e))
+    ap (λ j. record { kind = j; number = w.number } ∷ map recorded (typed ks ws)) (sym (cons_head e))
+    ∙ ap (λ us. w ∷ us) (typed_back ks ws (cons_tail e))
 
--- and what a record knows of values of these types gives them again
+-- and values of these types come back from their recorded form
 pub typed_recorded : (ks : List Kind) (ds : List Datum) → map (λ d. d.kind) ds ≡ ks → typed ks (map recorded ds) ≡ ds
 typed_recorded [] [] e = refl
 typed_recorded [] (d ∷ ds) e = absurd (omega (arith, ap length e))
 typed_recorded (k ∷ ks) [] e = refl
 typed_recorded (k ∷ ks) (d ∷ ds) e =
-    ap (λ j. record { kind = j; number = d.number } ∷ typed ks (map recorded ds)) (sym (head_is e))
-    ∙ ap (λ us. d ∷ us) (typed_recorded ks ds (tail_is e))
+    ap (λ j. record { kind = j; number = d.number } ∷ typed ks (map recorded ds)) (sym (cons_head e))
+    ∙ ap (λ us. d ∷ us) (typed_recorded ks ds (cons_tail e))
 
 pub recorded_kinds : (ks : List Kind) (ds : List Datum) → map (λ d. d.kind) ds ≡ ks → Know ks (map recorded ds)
 recorded_kinds [] [] e = refl
 recorded_kinds [] (d ∷ ds) e = absurd (omega (arith, ap length e))
 recorded_kinds (k ∷ ks) [] e = absurd (omega (arith, ap length e))
 recorded_kinds (k ∷ ks) (d ∷ ds) e =
-    ap (λ j. recorded_kind j ∷ map (λ x. x.kind) (map recorded ds)) (head_is e)
-    ∙ ap (λ js. recorded_kind k ∷ js) (recorded_kinds ks ds (tail_is e))
+    ap (λ j. recorded_kind j ∷ map (λ x. x.kind) (map recorded ds)) (cons_head e)
+    ∙ ap (λ js. recorded_kind k ∷ js) (recorded_kinds ks ds (cons_tail e))
 
 pub all_recorded : (ds : List Datum) → AllByRecursion IsHeld ds → AllByRecursion IsHeld (map recorded ds)
 all_recorded [] held = tt
@@ -160,13 +156,8 @@ numbered [] (d ∷ ds) ws is e held = absurd (omega (arith, ap length is))
 numbered (k ∷ ks) [] ws is e held = absurd (omega (arith, ap length is))
 numbered (k ∷ ks) (d ∷ ds) [] is e held = absurd (omega (arith, ap length e))
 numbered (k ∷ ks) (d ∷ ds) (w ∷ ws) is e held =
-    ap (λ x. x ∷ all_renumbered ds ws) (numbered_first d w k (head_is is) (head_is e) held.0)
-    ∙ ap (λ us. record { kind = k; number = w.number } ∷ us) (numbered ks ds ws (tail_is is) (tail_is e) held.1)
-
--- a place among at most 256 names is one byte
-or_true : (t : Bool) → (t || true) ≡ true
-or_true true = refl
-or_true false = refl
+    ap (λ x. x ∷ all_renumbered ds ws) (numbered_first d w k (cons_head is) (cons_head e) held.0)
+    ∙ ap (λ us. record { kind = k; number = w.number } ∷ us) (numbered ks ds ws (cons_tail is) (cons_tail e) held.1)
 
 pub place_recorded : (n : ℕ) (z : ℤ) → n ≤ 256 → holds (Enumerated n 0) z ≡ true
     → is_byte_place (record { kind = Enumerated n 0; number = z }) ≡ true

@@ -6,19 +6,18 @@ use Rattle.st_meaning.specs.Restarts.{Kept, kept, warm_start}
 use Rattle.retain_records.specs.Records.{Content}
 use Rattle.retain_store.specs.Recovered.{Recovered, TooLong, Refused, Nothing, Found}
 use Rattle.retain_store.specs.Kept.{record_in, IsLast}
-use Rattle.retain_records.specs.CutLaws.{some_is}
 use Rattle.plan.specs.declared.plan.Plan.{Plan}
 use Rattle.plan.specs.PlanViews.{plan_view}
 use Rattle.serial_core.specs.Steps.{State}
-use Rattle.serial_core.specs.Retained.{retained_kinds, told_by}
+use Rattle.serial_core.specs.Retained.{retained_kinds, kept_from}
 use Rattle.durable_core.specs.Recorded.{recorded}
 use Rattle.st_types.specs.Values.{Datum}
-use Rattle.retain_records.specs.Told.{told}
+use Rattle.retain_records.specs.ContentLines.{kept_in}
 use Rattle.durable_core.proofs.RecordedLemmas.{typed}
 use Rattle.durable_core.proofs.RecordLemmas.{known_kinds, told_in_order}
-use Rattle.durable_core.specs.Restart.{IsOfPlan, Survives, begun, layout_text_of, record_now, warm}
+use Rattle.durable_core.specs.Restart.{IsOfPlan, Survives, fresh_state, layout_text_of, record_now, warm}
 use Rattle.durable_core.specs.Starting.{CanStart, HasOtherLayout, LeftByStart, StartKeeps, RefusesStart, Saves, IsLastGeneration}
-use Rattle.durable_core.specs.Starting.{IsStart, IsWantOfMemory, next_generation, start_in, start_of, start_record, started}
+use Rattle.durable_core.specs.Starting.{IsStart, IsOutOfMemory, next_generation, start_in, start_of, start_record, started}
 use Rattle.durable_core.specs.declared.refusal.StartFault.{StartFault}
 use Rattle.durable_core.specs.declared.refusal.StartFault.TheVariants as faults
 use Rattle.retain_store.specs.declared.fault.StoreFault.TheVariants as stores
@@ -27,6 +26,7 @@ use Rattle.durable_core.specs.declared.starting.StartMode.{StartMode}
 use Rattle.durable_core.specs.declared.starting.StartMode.TheVariants.{Warm}
 use Rattle.retain_store.specs.Areas.{IsEither}
 use Rattle.std.specs.Prelude.{MatchResult, IfOk, IfErr, Result, Ok, Err}
+use Rattle.std.proofs.lemmas.Option.{same_Some}
 
 -- the record that a life goes on from is that of its start
 survives_of : (plan : Plan) (generation : ℕ) (content : Content) (start : Store) (before : Option ℕ)
@@ -41,7 +41,7 @@ survives_of plan generation content start before layout moment values = record {
   holds = rw (moment, values, layout) refl;
 }
 
--- what a record's values make in the plan's order is what the record makes by its lines
+-- a record's values in the plan's order give the same start as its lines
 pub resumed_from : (plan : Plan) (room : ℕ) (content : Content) (last : Recovered) (values : List Datum)
     (moment : Option ℕ) → Some content ≡ record_in last → content.layout ≡ layout_text_of plan
     → map (λ d. d.kind) content.values ≡ known_kinds plan.variables.items
@@ -49,7 +49,7 @@ pub resumed_from : (plan : Plan) (room : ℕ) (content : Content) (last : Recove
     → moment ≡ content.moment
     → ◌≡◌ {A = State} record {
       plan = plan;
-      start = (warm_start (plan_view plan) (Some (told_by plan values moment))).store;
+      start = (warm_start (plan_view plan) (Some (kept_from plan values moment))).store;
       before = moment;
       log = [];
       room = room;
@@ -59,17 +59,17 @@ resumed_from plan room content Refused values moment at layout kinds valued time
 resumed_from plan room content Nothing values moment at layout kinds valued timed = absurd (cc)
 resumed_from plan room content (Found generation found) values moment at layout kinds valued timed =
     let begins : Kept → State = λ r. started plan room (warm_start (plan_view plan) (Some r)) in
-    ap (λ vs. begins (told_by plan vs moment)) valued
-    ∙ ap (λ m. begins (told_by plan (typed (retained_kinds plan.variables.items) content.values) m)) timed
+    ap (λ vs. begins (kept_from plan vs moment)) valued
+    ∙ ap (λ m. begins (kept_from plan (typed (retained_kinds plan.variables.items) content.values) m)) timed
     ∙ ap begins (sym (told_in_order plan content layout kinds))
-    ∙ ap (λ c. begins (told c)) (some_is content found at)
+    ∙ ap (λ c. begins (kept_in c)) (same_Some content found at)
 
--- what a warm start gives is what some record tells, or none
+-- a warm start takes the values of some record, or of none
 warm_is : (plan : Plan) (last : Recovered) → (r : Option Kept) × (warm plan last ≡ warm_start (plan_view plan) r)
 warm_is plan TooLong = (None, refl)
 warm_is plan Refused = (None, refl)
 warm_is plan Nothing = (None, refl)
-warm_is plan (Found generation content) = (Some (told content), refl)
+warm_is plan (Found generation content) = (Some (kept_in content), refl)
 
 -- so a core that goes on from a record was started warm
 pub started_warm : (plan : Plan) (room : ℕ) (last : Recovered) (state : State) → state ≡ started plan room (warm plan last)
@@ -88,13 +88,13 @@ survives_found plan content state Refused at layout same moment values = absurd 
 survives_found plan content state Nothing at layout same moment values = absurd (cc)
 survives_found plan content state (Found generation found) at layout same moment values =
     subst (λ (c : Content). Survives state.plan state.start state.before [] 0 (Found generation c))
-    (some_is content found at)
+    (same_Some content found at)
     (subst (λ (p : Plan). Survives p state.start state.before [] 0 (Found generation content)) (sym same)
     (survives_of plan generation content state.start state.before layout moment values))
 
 -- a file without a record survives for a life that has begun with the initial values
 pub survives_none : (plan : Plan) (state : State) (room generation : ℕ) (last : Recovered) → None ≡ record_in last
-    → IsLast generation last → state ≡ begun plan room
+    → IsLast generation last → state ≡ fresh_state plan room
     → Survives state.plan state.start state.before [] 0 last
 survives_none plan state room generation TooLong none is new = absurd is
 survives_none plan state room generation Refused none is new = absurd is
@@ -121,7 +121,7 @@ next_is Refused generation is = absurd is
 next_is Nothing generation is = ap (λ n. n + 1) is
 next_is (Found g content) generation is = ap (λ n. n + 1) (sym is.0)
 
--- what a save during a start leaves
+-- the file that a save during a start leaves
 pub left_saved : (mode : StartMode) (plan : Plan) (content : Content) (before last file : Recovered) (generation : ℕ)
     → Saves mode plan before → IsLast generation last → last ≡ before → content ≡ start_record mode plan before
     → IsEither last (Found (generation + 1) content) file → LeftByStart mode plan before file
@@ -144,7 +144,7 @@ left_same mode plan own before last file one same left =
     subst (λ (q : Plan). LeftByStart mode q before file) one
     (subst (λ (f : Recovered). LeftByStart mode own f file) same left)
 
--- the record of a life that has begun so
+-- the record of a life that has begun this way
 pub record_started : (mode : StartMode) (plan : Plan) (room : ℕ) (state : State) (before : Recovered)
     → state ≡ started plan room (start_of mode plan before) → record_now state ≡ start_record mode plan before
 record_started mode plan room state before is = ap record_now is
@@ -157,9 +157,9 @@ saved_next mode plan content before last new generation now is same kept more e 
     e ∙ ap (λ n. Found n content) (more ∙ next_is last generation is ∙ ap next_generation same)
     ∙ ap (Found (next_generation before)) kept
 
--- ---- what a refused start leaves
+-- ---- the file after a refused start
 
--- a store that has the greatest generation has a record
+-- a store with the greatest generation has a record
 last_kept : (last : Recovered) (first old : List ℕ) → IsLastGeneration last → KeepsRecord last first old → old ≡ first
 last_kept TooLong first old h kept = absurd h
 last_kept Refused first old h kept = absurd h
@@ -168,7 +168,7 @@ last_kept (Found generation content) first old h kept = kept
 
 saved_keeps : (mode : StartMode) (plan : Plan) (last : Recovered) (generation : ℕ) (fault : StartFault) (first old new : List ℕ)
     → IsLast generation last → KeepsRecord last first old → RefusesStart mode plan last fault
-    → (IsWantOfMemory fault → ⊥) → StartKeeps fault old new → StartKeeps fault first new
+    → (IsOutOfMemory fault → ⊥) → StartKeeps fault old new → StartKeeps fault first new
 saved_keeps mode plan last generation (faults.Store stores.TooLong) first old new is kept h full same =
     absurd (subst (λ (r : Recovered). IsLast generation r) h is)
 saved_keeps mode plan last generation (faults.Store stores.Damaged) first old new is kept h full same =
@@ -183,7 +183,7 @@ saved_keeps mode plan last generation faults.NoMemory first old new is kept h fu
 
 pub saved_unwritten : {C D : Type 0} (r : Result C (StartFault × D)) (seen : D → List ℕ) (P : C → Type 0) (mode : StartMode) (plan : Plan)
     (last : Recovered) (generation : ℕ) (first old : List ℕ) → IsLast generation last → KeepsRecord last first old
-    → MatchResult r P (λ e. RefusesStart mode plan last e.0) → IfErr r (λ e. IsWantOfMemory e.0 → ⊥)
+    → MatchResult r P (λ e. RefusesStart mode plan last e.0) → IfErr r (λ e. IsOutOfMemory e.0 → ⊥)
     → IfErr r (λ e. StartKeeps e.0 old (seen e.1)) → IfErr r (λ e. StartKeeps e.0 first (seen e.1))
 saved_unwritten (Ok x) seen P mode plan last generation first old is kept h full same = tt
 saved_unwritten (Err e) seen P mode plan last generation first old is kept h full same =
@@ -193,10 +193,6 @@ pub ok_both : {C E : Type 0} (r : Result C E) (P Q R : C → Type 0) → ((x : C
     → IfOk r R
 ok_both (Ok x) P Q R both p q = both x p q
 ok_both (Err e) P Q R both p q = tt
-
-pub ok_weaker : {C E : Type 0} (r : Result C E) (P Q : C → Type 0) → ((x : C) → P x → Q x) → IfOk r P → IfOk r Q
-ok_weaker (Ok x) P Q weaker h = weaker x h
-ok_weaker (Err e) P Q weaker h = tt
 
 -- ---- a warm start over a record of the plan's own layout text
 
@@ -212,7 +208,7 @@ can_go_on plan Refused same = same
 can_go_on plan Nothing same = tt
 can_go_on plan (Found generation content) same = λ other. absurd (other same)
 
--- what was tried is the last record
+-- the record that was tried is the last one
 pub either_is : (last tried file : Recovered) → tried ≡ last → IsEither last tried file → file ≡ last
 either_is last tried file same (inl e) = e
 either_is last tried file same (inr e) = e ∙ same

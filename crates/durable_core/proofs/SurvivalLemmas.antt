@@ -1,4 +1,4 @@
--- What survives.
+-- Files that survive.
 use Rattle.std.proofs.Common.{ℕ, ◌≤◌, List, [], ◌∷◌, ◌++◌, length, Option, inl, inr, refl, sym, ap, subst, ◌∙◌, arith}
 use Rattle.std.proofs.Common.{append-nil, append_assoc}
 use Rattle.st_types.specs.declared.entry.Entry.{Entry}
@@ -32,7 +32,7 @@ survives_longer plan start before log acked file entry s = record {
   holds = s.holds;
 }
 
--- what survives with more acknowledged survives with less
+-- a file that survives with more acknowledged also survives with less
 pub survives_less : (plan : Plan) (start : Store) (before : Option ℕ) (log : List Entry) (few many : ℕ)
     (file : Recovered) → few ≤ many → Survives plan start before log many file → Survives plan start before log few file
 survives_less plan start before log few many file less s = record {

@@ -31,24 +31,24 @@ with_state core state = record {
   store = core.store;
 }
 
--- What a call is answered: K5 exactly where the store has failed before, and then nothing changes; else it is the
--- answer of the core without a disk.
+-- The answer to a call: K5 exactly when the store has failed before, and then nothing changes; otherwise the answer
+-- of the core without a disk.
 abbrev pub Guards : {D A : Type 0} → CoreView D → Result A Refusal → CoreView D → (Result A SerialRefusal → Type 0)
     → Type 0
 Guards old (Err (StoreFailed cause)) new R = (old.failed ≡ Some cause) × (new ≡ old)
 Guards old (Err (Serial refusal)) new R = (old.failed ≡ None) × (new ≡ with_state old new.state) × R (Err refusal)
 Guards old (Ok a) new R = (old.failed ≡ None) × (new ≡ with_state old new.state) × R (Ok a)
 
--- the log is as it was, or has one entry more
+-- the log is as it was, or has one more entry
 abbrev pub IsLonger : State → State → Type 0
 IsLonger old new = (new ≡ old) ⊎ ((entry : Entry) × (new ≡ grown old entry))
 
--- a file of this content survives for the core
+-- a file with this content survives for the core
 abbrev pub survives : {D : Type 0} → CoreView D → Recovered → Type 0
 survives core file = Survives core.state.plan core.state.start core.state.before core.state.log core.acked file
 
--- A stop at any moment of a call leaves a file that survives for the core before it, and a stop after it one that
--- survives for the core after it.
+-- A stop at any moment of a call leaves a file that survives for the core as it was before, and a stop after the call
+-- one that survives for the core as it is after it.
 pub record Outlives {D : Type 0} (left_since : D → D → List ℕ → Type 0) (may_leave : D → List ℕ → Type 0)
     (old new : CoreView D) : Type 0 where
   pub during : LeavesOnly left_since may_leave old.store.disk new.store.disk (λ file. survives old (recovered file))

@@ -1,4 +1,4 @@
--- What a core over a disk keeps of its fields.
+-- The invariant of a core over a disk.
 use Rattle.std.specs.Prelude.{◌≡◌, ◌≤◌, ◌<◌, ℕ, Bool, true, false, length, Option, Some, None, IfSome}
 use Rattle.st_types.specs.declared.limits.TheConstants.{MAX_LOG_ROOM, MOMENT_LIMIT}
 use Rattle.st_meaning.specs.Layouts.{record_length}
@@ -14,8 +14,8 @@ abbrev pub is_failed : Option StoreFault → Bool
 is_failed None = false
 is_failed (Some fault) = true
 
--- The life was started so, after a moment within its limit, with room for no more entries than a log may have. The last
--- record survives, and so does one that a failed save tried.
+-- The life was started in this mode, after a moment within its limit, with room for no more entries than a log may
+-- have. The last record survives, and so does one that a failed save tried to write.
 pub record CoreInvariant {D : Type 0} (mode : StartMode) (state : State) (acked : ℕ) (failed : Option StoreFault)
     (store : StoreView D) (room : ℕ) : Type 0 where
   pub started : IsStart state.plan mode (start_in state)

@@ -4,3 +4,4 @@ pub mod Cores
 pub mod Kept
 pub mod Starting
 pub mod Flushing
+pub mod Started

@@ -5,7 +5,7 @@ use Rattle.st_types.specs.declared.kind.Kind.TheVariants.{Enumerated}
 use Rattle.st_types.specs.Kinds.{holds}
 use Rattle.st_types.specs.Values.{Datum}
 
--- a record knows an enumerated type by its names alone, so that each is the first one
+-- a record knows an enumerated type by its names alone, so each such type has number 0
 abbrev pub recorded_kind : Kind → Kind
 recorded_kind (Enumerated names number) = Enumerated names 0
 recorded_kind k = k
@@ -14,7 +14,7 @@ recorded_kind k = k
 abbrev pub recorded : Datum → Datum
 recorded d = record { kind = recorded_kind d.kind; number = d.number }
 
--- the value with the number of another, where its type holds that number
+-- the value with the number of another one, if its type holds that number
 abbrev pub renumbered : Datum → Datum → Datum
 renumbered d w = if holds d.kind w.number then record { kind = d.kind; number = w.number } else d
 

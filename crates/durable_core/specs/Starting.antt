@@ -14,17 +14,17 @@ use Rattle.durable_core.specs.declared.starting.StartMode.{StartMode}
 use Rattle.durable_core.specs.declared.starting.StartMode.TheVariants.{Warm, Cold}
 use Rattle.durable_core.specs.Restart.{layout_text_of, record_of, warm}
 
--- what a life starts with, by what the file is recovered to
+-- the start of a life, by the content that the file is recovered to
 abbrev pub start_of : StartMode → Plan → Recovered → Start
 start_of Warm plan file = warm plan file
 start_of Cold plan file = cold_start (plan_view plan)
 
--- A cold start has the initial values and no moment. A warm one goes on from what some record tells, or from none.
+-- A cold start has the initial values and no moment. A warm one goes on from the values of some record, or from none.
 abbrev pub IsStart : Plan → StartMode → Start → Type 0
 IsStart plan Cold start = start ≡ cold_start (plan_view plan)
 IsStart plan Warm start = (told : Option Kept) × (start ≡ warm_start (plan_view plan) told)
 
--- what a core has started with
+-- the start of a core
 abbrev pub start_in : State → Start
 start_in state = record { store = state.start; moment = state.before }
 
@@ -32,7 +32,7 @@ start_in state = record { store = state.start; moment = state.before }
 abbrev pub started : Plan → ℕ → Start → State
 started plan room start = record { plan = plan; start = start.store; before = start.moment; log = []; room = room }
 
--- a life of this plan and this room that has done nothing yet
+-- a new life of this plan with room for this many entries
 pub record IsNew (state : State) (plan : Plan) (room : ℕ) : Type 0 where
   pub plan_is : state.plan ≡ plan
   pub empty : state.log ≡ []
@@ -43,12 +43,12 @@ abbrev pub HasOtherLayout : Plan → Recovered → Type 0
 HasOtherLayout plan (Found generation content) = content.layout ≢ layout_text_of plan
 HasOtherLayout plan other = ⊥
 
--- a start saves before it answers: a cold one always, a warm one over a record of another layout text
+-- a start saves before it answers: a cold one always, a warm one if the record has another layout text
 abbrev pub Saves : StartMode → Plan → Recovered → Type 0
 Saves Cold plan file = Unit {0}
 Saves Warm plan file = HasOtherLayout plan file
 
--- a start that can be answered: the file is not refused, and where it saves over a record a generation is left
+-- a start that can succeed: the file is not refused, and if the start saves over a record, a generation is left
 abbrev pub CanStart : StartMode → Plan → Recovered → Type 0
 CanStart mode plan TooLong = ⊥
 CanStart mode plan Refused = ⊥
@@ -61,7 +61,7 @@ abbrev pub IsLastGeneration : Recovered → Type 0
 IsLastGeneration (Found generation content) = generation ≡ 2 ^ 64 - 1
 IsLastGeneration other = ⊥
 
--- The fault says of the file what is so. Faults of the device and out of memory say nothing of it.
+-- The fault describes the file correctly. Faults of the device and out of memory say nothing about it.
 abbrev pub RefusesStart : StartMode → Plan → Recovered → StartFault → Type 0
 RefusesStart mode plan file (faults.Store stores.TooLong) = file ≡ TooLong
 RefusesStart mode plan file (faults.Store stores.Damaged) = file ≡ Refused
@@ -71,7 +71,7 @@ RefusesStart mode plan file (faults.Store stores.NoMemory) = Unit {0}
 RefusesStart mode plan file (faults.Store stores.Failed) = ⊥
 RefusesStart mode plan file faults.NoMemory = Unit {0}
 
--- a failure of the device is one failure more, and any other fault is none
+-- a fault of the device adds one failure, and any other fault adds none
 abbrev pub CountsStart : StartFault → ℕ → ℕ → Type 0
 CountsStart (faults.Store fault) old new = CountsFault fault old new
 CountsStart faults.NoMemory old new = new ≡ old
@@ -86,19 +86,19 @@ abbrev pub next_generation : Recovered → ℕ
 next_generation (Found generation content) = generation + 1
 next_generation other = 1
 
--- the record of what a life starts with
+-- the record of the start of a life
 abbrev pub start_record : StartMode → Plan → Recovered → Content
 start_record mode plan file = record_of plan (start_of mode plan file).store (start_of mode plan file).moment
 
--- the record of what a life starts with, of the next generation, where the start saves it
+-- the record of the start of a life, with the next generation, if the start saves it
 abbrev pub IsSavedByStart : StartMode → Plan → Recovered → Recovered → Type 0
 IsSavedByStart mode plan before file =
     Saves mode plan before × (file ≡ Found (next_generation before) (start_record mode plan before))
 
--- what a stop during a start leaves: what was recovered before, or the record of what the life starts with
+-- the file after a stop during a start: the content that was recovered before, or the record of the start
 abbrev pub LeftByStart : StartMode → Plan → Recovered → Recovered → Type 0
 LeftByStart mode plan before file = (file ≡ before) ⊎ IsSavedByStart mode plan before file
 
 -- out of memory
-abbrev pub IsWantOfMemory : StartFault → Type 0
-IsWantOfMemory fault = (fault ≡ faults.NoMemory) ⊎ (fault ≡ faults.Store stores.NoMemory)
+abbrev pub IsOutOfMemory : StartFault → Type 0
+IsOutOfMemory fault = (fault ≡ faults.NoMemory) ⊎ (fault ≡ faults.Store stores.NoMemory)

@@ -15,10 +15,10 @@ use st_types::Row;
 use std::alloc::Global;
 
 impl<D: Disk> Core<D> {
-    /// Latches a row, and gives its number from 0. It takes no memory.
+    /// Latches a row, and gives its number from 0. It allocates nothing.
     ///
-    /// K5 where the store has failed, else K1 where the log is full, else K3 where the row is not one of the plan's,
-    /// else K4 where its moment is not later than the last one, of the log or of the record that the life started from.
+    /// K5 if the store has failed, else K1 if the log is full, else K3 if the row doesn't fit the plan, else K4 if its
+    /// moment is not later than the last one, of the log or of the record that the life started from.
     pub fn latch(&mut self, row: Row) -> Result<usize, Refusal>
         ensures latches { Guards self.old result self.new (λ r. Latches self.old.state row r self.new.state) }
         ensures outlives { D.tells → Outlives D.left_since D.may_leave self.old self.new }
@@ -36,9 +36,9 @@ impl<D: Disk> Core<D> {
     }
 
     /// Runs and commits the best activation that waits on the resource, in one step, and gives the log's length after
-    /// it; none where nothing waits there. It is never stale.
+    /// it; none if nothing waits there. It is never stale.
     ///
-    /// K5 where the store has failed; else none; else K1 where the log is full, or K6 out of memory.
+    /// K5 if the store has failed; else none; else K1 if the log is full, or K6 if an allocation fails.
     pub fn commit_here(&mut self, alloc: Global, resource: usize) -> Result<Option<usize>, Refusal>
         ensures commits { Guards self.old result self.new (λ r. CommitsHere self.old.state resource r self.new.state) }
         ensures outlives { D.tells → Outlives D.left_since D.may_leave self.old self.new }
@@ -55,12 +55,11 @@ impl<D: Disk> Core<D> {
         }
     }
 
-    /// Appends the execution's Done and applies its writes, if all that it read has its value still. It takes no
-    /// memory.
+    /// Appends the execution's Done and applies its writes, if all that it read still has its value. It allocates nothing.
     ///
-    /// K5 where the store has failed, else K1 where the log is full, else K2 where the activation is not waiting, else
-    /// K3 where the execution is not that of its activation in this core, else Stale where something that it read has
-    /// another value now.
+    /// K5 if the store has failed, else K1 if the log is full, else K2 if the activation is not waiting, else K3 if the
+    /// execution is not that of its activation in this core, else Stale if something that it read has another value
+    /// now.
     pub fn commit(&mut self, execution: Execution) -> Result<Answer, Refusal>
         ensures commits { Guards self.old result self.new (λ r. Commits self.old.state execution r self.new.state) }
         ensures outlives { D.tells → Outlives D.left_since D.may_leave self.old self.new }
@@ -96,9 +95,9 @@ impl<D: Disk> Core<D> {
         }
     }
 
-    /// A snapshot of the best activation that waits on the resource; none where nothing waits there.
+    /// A snapshot of the best activation that waits on the resource; none if nothing waits there.
     ///
-    /// K5 where the store has failed, K6 out of memory.
+    /// K5 if the store has failed, K6 if an allocation fails.
     pub fn take(&self, alloc: Global, resource: usize) -> Result<Option<Snapshot>, Refusal>
         ensures takes { Guards self.now result self.now (λ r. Takes self.now.state resource r) }
         ensures survives { D.tells → (file : List ℕ) → D.may_leave self.now.store.disk file
@@ -114,10 +113,10 @@ impl<D: Disk> Core<D> {
         }
     }
 
-    /// What a run of the best activation that waits on the resource starts from: the values of the slots that its code
-    /// names, where there is quick code, and else a snapshot. None where nothing waits there.
+    /// The input of a run of the best activation that waits on the resource: the values of the slots that its code
+    /// names, if there is quick code, otherwise a snapshot. None if nothing waits there.
     ///
-    /// K5 where the store has failed, K6 out of memory.
+    /// K5 if the store has failed, K6 if an allocation fails.
     pub fn take_quick(&self, alloc: Global, resource: usize) -> Result<Option<Taken>, Refusal>
         ensures takes { Guards self.now result self.now (λ r. TakesQuick self.now.state resource r) }
         ensures survives { D.tells → (file : List ℕ) → D.may_leave self.now.store.disk file

@@ -19,9 +19,9 @@ use std::marker::Model;
 /// A core over a disk. Contracts see how it was started, its plan, start and log, how many entries are acknowledged, and
 /// its store.
 ///
-/// It was started as it says. Its log is legal, its variables are what the executions of the log give, one after
-/// another, and on a disk that tells every file that a stop now may leave survives: a warm restart gives what a prefix of
-/// the log leaves, which holds all that is acknowledged.
+/// It was started as these say. Its log is legal, its variables have the values after the log's executions, one after
+/// another, and on a disk with `tells` every file that a stop now may leave survives: a warm restart gives the values
+/// after a prefix of the log that holds all that is acknowledged.
 pub struct Core<D: Disk> {
     /// How it was started.
     pub(crate) mode: StartMode,
@@ -31,7 +31,7 @@ pub struct Core<D: Disk> {
     pub(crate) kept: Vec<Value>,
     /// How many entries of the log are acknowledged.
     pub(crate) acked: usize,
-    /// Why the store failed, once a flush has met it.
+    /// Why the store failed, once a flush has failed.
     pub(crate) failed: Option<StoreFault>,
 }
 
@@ -73,8 +73,8 @@ impl<D: Disk> Model for Core<D> {
 }
 
 impl<D: Disk> Core<D> {
-    /// Tells what the type keeps: every file that a stop now may leave survives, it was started as it says, and its log
-    /// is legal and no longer than a log may be.
+    /// Shows the type's invariant: every file that a stop now may leave survives, it was started as it says, and its
+    /// log is legal and no longer than a log may be.
     pub fn kept(&self)
         ensures survives { D.tells → (file : List ℕ) → D.may_leave self.now.store.disk file
             → survives self.now (recovered file) }
@@ -90,7 +90,7 @@ impl<D: Disk> Core<D> {
         let _length = self.serial.len();
     }
 
-    /// Ends the life and gives the disk back, without a call of it.
+    /// Ends the life and gives the disk back, without a device call.
     pub fn stop(self) -> D
         ensures disk { result ≡ self.store.disk }
         ensures survives { D.tells → (file : List ℕ) → D.may_leave result file → survives self (recovered file) }

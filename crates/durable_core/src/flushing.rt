@@ -1,4 +1,4 @@
-//! Acknowledging what is in the log.
+//! Acknowledging the entries of the log.
 
 ghost use Rattle.std.specs.Prelude.{◌≡◌, ◌≤◌, None, Some, IfOk, IfErr, IsErrOf, MatchResult, length};
 ghost use Rattle.retain_store.specs.declared.shape.TheConstants.{FILE_BYTES};
@@ -12,8 +12,8 @@ use disk::Disk;
 use retain_store::StoreFault;
 
 impl<D: Disk> Core<D> {
-    /// How many entries of the log are acknowledged: a restart gives what a prefix of the log leaves that holds them
-    /// all.
+    /// How many entries of the log are acknowledged: a restart gives the values after a prefix of the log that holds
+    /// all of them.
     pub fn acked(&self) -> usize
         ensures acked { result ≡ self.now.acked }
         ensures few { result ≤ length self.now.state.log }
@@ -22,16 +22,16 @@ impl<D: Disk> Core<D> {
         self.acked
     }
 
-    /// Saves what is kept of the variables, where the log is longer than what is acknowledged, and gives the log's
-    /// length, which is acknowledged then. It takes no memory, and makes no device call where all is acknowledged.
+    /// Saves the variables that are kept, if the log is longer than its acknowledged part, and gives the log's length,
+    /// which is acknowledged then. It allocates nothing, and makes no device call if all is acknowledged.
     ///
-    /// K5 where the store has failed before or fails now, for good; what is acknowledged stays as it was.
+    /// K5 if the store has failed before or fails now, for good; the acknowledged entries stay as they were.
     pub fn flush(&mut self) -> Result<usize, Refusal>
         ensures flushes { Flushes self.old result self.new }
         ensures device { CountsFlush result (D.failure_count self.old.store.disk) (D.failure_count self.new.store.disk)
             self.old self.new }
 
-        // K5 comes from a disk that serves a whole file only where the device has failed before, or by S4.
+        // On a disk that serves a whole file, K5 comes only if the device has failed before, or by S4.
         ensures serves { D.serves self.old.store.disk FILE_BYTES → D.serves self.new.store.disk FILE_BYTES
             × (IsErrOf result (Refusal.StoreFailed StoreFault.Device) → self.old.failed ≡ Some StoreFault.Device) }
         ensures outlives { D.tells → Outlives D.left_since D.may_leave self.old self.new }

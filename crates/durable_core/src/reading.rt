@@ -1,4 +1,4 @@
-//! What a core tells.
+//! Reading the state of a core.
 
 ghost use Rattle.std.specs.Prelude.{◌≡◌, ◌<◌, ◌≤◌, option_map, option_and_then, slice_get, length, map, MatchBool};
 ghost use Rattle.st_meaning.specs.Due.{HasOverruns};
@@ -6,7 +6,7 @@ ghost use Rattle.st_meaning.specs.Logs.{IsLegal, outcomes_of};
 ghost use Rattle.st_meaning.specs.Plans.{schedules_of};
 ghost use Rattle.st_meaning.specs.Scopes.{seen};
 ghost use Rattle.plan.specs.PlanViews.{plan_view};
-ghost use Rattle.serial_core.specs.Steps.{made, none_waits, inputs_now, store_in};
+ghost use Rattle.serial_core.specs.Steps.{past_in, none_waits, inputs_now, store_in};
 
 use crate::core_state::Core;
 use crate::starting::StartMode;
@@ -48,7 +48,7 @@ impl<D: Disk> Core<D> {
 
     /// The values of the variables now, in layout order.
     pub fn values(&self) -> &[Value]
-        ensures { result.now ≡ map (λ e. e.1) (made self.now.state).store }
+        ensures { result.now ≡ map (λ e. e.1) (past_in self.now.state).store }
     {
         self.serial.values()
     }
@@ -64,26 +64,26 @@ impl<D: Disk> Core<D> {
 
     /// How many rows were latched.
     pub fn rows(&self) -> usize
-        ensures { result ≡ length (made self.now.state).rows }
+        ensures { result ≡ length (past_in self.now.state).rows }
     {
         self.serial.rows()
     }
 
-    /// Whether something of the resource waits. It takes no memory.
+    /// Whether something of the resource waits. It allocates nothing.
     pub fn waits_on(&self, resource: usize) -> bool
         ensures { MatchBool result (none_waits self.now.state resource → ⊥) (none_waits self.now.state resource) }
     {
         self.serial.waits_on(resource)
     }
 
-    /// The entry of a number from 0; none where the log has no such entry.
+    /// The entry of a number from 0; none if the log has no such entry.
     pub fn entry(&self, number: usize) -> Option<&Entry>
         ensures { option_map (λ e. e.now) result ≡ slice_get self.now.state.log number }
     {
         self.serial.entry(number)
     }
 
-    /// How the execution of an entry ended; none for a row, and where the log has no such entry.
+    /// How the execution of an entry ended; none for a row, or if the log has no such entry.
     pub fn outcome(&self, number: usize) -> Option<Outcome>
         ensures { result ≡ option_and_then (λ o. o)
             (slice_get (outcomes_of (plan_view self.now.state.plan) self.now.state.start self.now.state.log) number) }
@@ -91,19 +91,18 @@ impl<D: Disk> Core<D> {
         self.serial.outcome(number)
     }
 
-    /// The value of a variable, or of an input at the last row, 0 or FALSE before the first; none where no such path is
-    /// there.
+    /// The value of a variable, or of an input at the last row, 0 or FALSE before the first; none if there is no such path.
     pub fn value(&self, path: &Path) -> Option<Value>
-        ensures { result ≡ seen (inputs_now self.now.state) (made self.now.state).store path.now }
+        ensures { result ≡ seen (inputs_now self.now.state) (past_in self.now.state).store path.now }
     {
         self.serial.value(path)
     }
 
-    /// How often the program was due while it waited already; 0 for a program that is not there.
+    /// How often the program was due while it was already waiting; 0 if there is no such program.
     pub fn overruns(&self, program: usize) -> u64
         ensures none { length self.now.state.plan.programs.items ≤ program → result ≡ 0 }
         ensures overruns { program < length self.now.state.plan.programs.items
-            → HasOverruns (schedules_of (plan_view self.now.state.plan)) (made self.now.state).history program result }
+            → HasOverruns (schedules_of (plan_view self.now.state.plan)) (past_in self.now.state).history program result }
     {
         self.serial.overruns(program)
     }

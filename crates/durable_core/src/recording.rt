@@ -5,7 +5,7 @@ ghost use Rattle.durable_core.specs.Recorded.{all_renumbered, recorded, recorded
 
 use st_types::{Kind, Value};
 
-/// The type as a record knows it: of an enumerated one no more than how many names it has.
+/// The type as a record knows it: of an enumerated one, only how many names it has.
 fn recorded_kind(kind: Kind) -> Kind
     ensures { result ≡ recorded_kind kind }
 {
@@ -26,7 +26,7 @@ fn recorded(value: Value) -> Value
     }
 }
 
-/// Makes each value what a record knows of it.
+/// Makes each value the one that a record knows.
 pub(crate) fn record_all(values: &mut Vec<Value>)
     ensures items { values.new.items ≡ map recorded values.old.items }
     ensures capacity { vec_capacity values.old ≤ vec_capacity values.new }
@@ -36,7 +36,7 @@ pub(crate) fn record_all(values: &mut Vec<Value>)
     }
 }
 
-/// The value with the number of another, where its type holds that number.
+/// The value with the number of another one, if its type holds that number.
 fn renumbered(value: Value, other: Value) -> Value
     ensures { result ≡ renumbered value other }
 {
@@ -46,7 +46,7 @@ fn renumbered(value: Value, other: Value) -> Value
     }
 }
 
-/// Gives each value the number of the one in its place among the others, where its type holds that number.
+/// Gives each value the number of the one in its place among the others, if its type holds that number.
 pub(crate) fn take_numbers(values: &mut Vec<Value>, others: &[Value])
     requires sized { length others.now ≡ length values.old.items }
     ensures items { values.new.items ≡ all_renumbered values.old.items others.now }

@@ -9,13 +9,13 @@ ghost use Rattle.retain_store.specs.declared.shape.TheConstants.{FILE_BYTES};
 ghost use Rattle.retain_store.specs.Recovered.{recovered, Found};
 ghost use Rattle.retain_store.specs.Areas.{IsEither};
 ghost use Rattle.retain_store.specs.Kept.{IsLast};
-ghost use Rattle.retain_store.specs.Opening.{KeepsRecord};
 ghost use Rattle.retain_records.specs.Lines.{lines_of};
-ghost use Rattle.durable_core.specs.Restart.{Survives, IsOfPlan, begun, layout_text_of, record_now, warm};
+ghost use Rattle.durable_core.specs.Restart.{Survives, IsOfPlan, fresh_state, layout_text_of, record_now, warm};
 ghost use Rattle.durable_core.specs.Cores.{survives};
-ghost use Rattle.durable_core.specs.Starting.{IsStart, start_in, start_of, started, HasOtherLayout, IsNew, Saves};
-ghost use Rattle.durable_core.specs.Starting.{CanStart, RefusesStart, CountsStart, LeftByStart, IsWantOfMemory};
-ghost use Rattle.durable_core.specs.Starting.{StartKeeps, next_generation, start_record};
+ghost use Rattle.durable_core.specs.Starting.{IsStart, start_in, started, HasOtherLayout, Saves};
+ghost use Rattle.durable_core.specs.Starting.{CanStart, RefusesStart, CountsStart, LeftByStart, IsOutOfMemory};
+ghost use Rattle.durable_core.specs.Starting.{StartKeeps};
+ghost use Rattle.durable_core.specs.Started.{IsResumed, IsSavedFirst, IsStarted, StartsFrom};
 
 use crate::core_state::Core;
 use crate::migrating::migrate;
@@ -39,9 +39,9 @@ pub enum StartMode {
     Cold,
 }
 
-/// Goes on from the last record, if there is one; false where it is of another layout text.
+/// Goes on from the last record, if there is one; false if it is of another layout text.
 fn resume_from<D: Disk>(parts: &mut Parts, store: &Store<D>) -> bool
-    requires begun { parts.old.serial ≡ begun parts.old.serial.plan parts.old.serial.room }
+    requires begun { parts.old.serial ≡ fresh_state parts.old.serial.plan parts.old.serial.room }
     requires kept { length parts.old.serial.plan.variables.items ≤ vec_capacity parts.old.kept }
     requires lines { parts.old.lines ≡ lines_of (layout_text_of parts.old.serial.plan) }
     requires last { IsLast store.now.generation store.now.last }
@@ -71,7 +71,7 @@ fn resume_from<D: Disk>(parts: &mut Parts, store: &Store<D>) -> bool
     true
 }
 
-/// A core that starts as it stands. The record of what it starts with is saved before.
+/// A core that starts from these parts. The record of its start is saved first.
 fn saved_first<D: Disk>(
     mode: StartMode,
     parts: Parts,
@@ -87,17 +87,12 @@ fn saved_first<D: Disk>(
     requires room { store.room ≡ MAX_RECORD_BODY }
     requires saves { Saves mode parts.serial.plan store.last }
 
-    ensures state { IfOk result (λ core. core.state ≡ parts.serial) }
-    ensures mode { IfOk result (λ core. core.mode ≡ mode) }
-    ensures fresh { IfOk result (λ core. (core.acked ≡ 0) × (core.failed ≡ None)) }
-    ensures last { IfOk result (λ core. IsLast core.store.generation core.store.last) }
-    ensures saved { IfOk result (λ core. core.store.last ≡ Found core.store.generation (record_now parts.serial)) }
-    ensures next { IfOk result (λ core. core.store.generation ≡ store.generation + 1) }
+    ensures core { IfOk result (λ core. IsSavedFirst store parts.serial mode core) }
     ensures unwritten { D.tells → IfErr result (λ e. StartKeeps e.0 (D.seen store.disk) (D.seen e.1)) }
     ensures serves { D.serves store.disk FILE_BYTES → MatchResult result
         (λ core. D.serves core.store.disk FILE_BYTES)
         (λ e. (e.0 ≢ StartFault.Store StoreFault.Device) × D.serves e.1 FILE_BYTES) }
-    ensures memory { IfErr result (λ e. IsWantOfMemory e.0 → ⊥) }
+    ensures memory { IfErr result (λ e. IsOutOfMemory e.0 → ⊥) }
     ensures survives { D.tells
         → IfOk result (λ core. (file : List ℕ) → D.may_leave core.store.disk file → survives core (recovered file)) }
     ensures answers { MatchResult result
@@ -172,10 +167,10 @@ fn gone_on<D: Disk>(parts: Parts, store: Store<D>) -> Core<D>
     core
 }
 
-/// A core that goes on from the last record of the store. Where that is of another layout text, the record of what the
-/// life starts with is saved before.
+/// A core that goes on from the last record of the store. If that is of another layout text, the record of the start is
+/// saved first.
 fn warm<D: Disk>(parts: Parts, store: Store<D>) -> Result<Core<D>, (StartFault, D)>
-    requires begun { parts.serial ≡ begun parts.serial.plan parts.serial.room }
+    requires begun { parts.serial ≡ fresh_state parts.serial.plan parts.serial.room }
     requires kept { length parts.serial.plan.variables.items ≤ vec_capacity parts.kept }
     requires lines { parts.lines ≡ lines_of (layout_text_of parts.serial.plan) }
     requires log_room { parts.serial.room ≤ MAX_LOG_ROOM }
@@ -184,25 +179,12 @@ fn warm<D: Disk>(parts: Parts, store: Store<D>) -> Result<Core<D>, (StartFault, 
     requires fresh { store.failed ≡ false }
     requires room { store.room ≡ MAX_RECORD_BODY }
 
-    ensures state { IfOk result
-        (λ core. core.state ≡ started parts.serial.plan parts.serial.room (warm parts.serial.plan store.last)) }
-    ensures again { IfOk result
-        (λ core. core.state ≡ started parts.serial.plan parts.serial.room (warm parts.serial.plan core.store.last)) }
-    ensures mode { IfOk result (λ core. core.mode ≡ StartMode.Warm) }
-    ensures fresh { IfOk result (λ core. (core.acked ≡ 0) × (core.failed ≡ None)) }
-    ensures last { IfOk result (λ core. IsLast core.store.generation core.store.last) }
-
-    // Where the layout text is the same, nothing is saved, and no call of the disk made.
-    ensures unsaved { (Saves StartMode.Warm parts.serial.plan store.last → ⊥) → IfOk result (λ core. core.store ≡ store) }
-    ensures saved { Saves StartMode.Warm parts.serial.plan store.last
-        → IfOk result (λ core. core.store.last ≡ Found core.store.generation (record_now core.state)) }
-    ensures next { Saves StartMode.Warm parts.serial.plan store.last
-        → IfOk result (λ core. core.store.generation ≡ store.generation + 1) }
+    ensures core { IfOk result (λ core. IsResumed store parts.serial.plan parts.serial.room core) }
     ensures unwritten { D.tells → IfErr result (λ e. StartKeeps e.0 (D.seen store.disk) (D.seen e.1)) }
     ensures serves { D.serves store.disk FILE_BYTES → MatchResult result
         (λ core. D.serves core.store.disk FILE_BYTES)
         (λ e. (e.0 ≢ StartFault.Store StoreFault.Device) × D.serves e.1 FILE_BYTES) }
-    ensures memory { IfErr result (λ e. IsWantOfMemory e.0 → ⊥) }
+    ensures memory { IfErr result (λ e. IsOutOfMemory e.0 → ⊥) }
     ensures survives { D.tells
         → IfOk result (λ core. (file : List ℕ) → D.may_leave core.store.disk file → survives core (recovered file)) }
     ensures answers { MatchResult result
@@ -228,14 +210,14 @@ fn warm<D: Disk>(parts: Parts, store: Store<D>) -> Result<Core<D>, (StartFault, 
 }
 
 impl<D: Disk> Core<D> {
-    /// Starts a life of the plan over this disk, with room for so many entries of its log, 1 to 65,536. Its memory is
-    /// taken before the first device call. A cold start, and a warm one over a record of another layout text, saves the
-    /// record of what the life starts with before it answers.
+    /// Starts a life of the plan over this disk, with room for `log_room` entries of its log, 1 to 65,536. It allocates
+    /// its memory before the first device call. A cold start, and a warm one over a record of another layout text,
+    /// saves the record of the start before it answers.
     ///
-    /// A warm start gives each retained variable the value in the line of the record that has its path and its type, as
+    /// A warm start gives each retained variable the value in the line of the record with its path and its type, as
     /// they are written, and each other variable its initial value.
     ///
-    /// S1 to S5, N2 out of memory. An error gives the disk back.
+    /// S1 to S5, or N2 if an allocation fails. An error gives the disk back.
     pub fn start(
         alloc: Global,
         plan: Arc<Plan>,
@@ -245,58 +227,34 @@ impl<D: Disk> Core<D> {
     ) -> Result<Core<D>, (StartFault, D)>
         requires room { log_room ≤ MAX_LOG_ROOM }
 
-        // The values and the moment are those of a warm or a cold start, and the log is empty.
-        ensures started { D.tells → IfOk result
-            (λ core. core.state ≡ started plan.value log_room (start_of mode plan.value (recovered (D.seen disk)))) }
-        ensures cold { mode ≡ StartMode.Cold → IfOk result (λ core. core.state ≡ begun plan.value log_room) }
-        ensures mode { IfOk result (λ core. core.mode ≡ mode) }
-        ensures fresh { IfOk result (λ core. (core.acked ≡ 0) × (core.failed ≡ None)) }
-        ensures begun { IfOk result (λ core. IsNew core.state plan.value log_room) }
-
-        // A warm start goes on from the last record of the store. Where nothing was saved, that is what a read gives,
-        // and the file stands as it was, but that one which was too short has two closed areas now.
-        ensures resumed { mode ≡ StartMode.Warm → IfOk result
-            (λ core. core.state ≡ started plan.value log_room (warm plan.value core.store.last)) }
-        ensures last { IfOk result (λ core. IsLast core.store.generation core.store.last) }
-        ensures found { D.tells → (Saves mode plan.value (recovered (D.seen disk)) → ⊥) → IfOk result
-            (λ core. core.store.last ≡ recovered (D.seen disk)) }
-        ensures unsaved { D.tells → (Saves mode plan.value (recovered (D.seen disk)) → ⊥) → IfOk result
-            (λ core. KeepsRecord (recovered (D.seen disk)) (D.seen disk) (D.seen core.store.disk)) }
-
-        // A cold start, and a warm one over a record of another layout text, has saved the record of what the life
-        // starts with, of the next generation.
-        ensures saved { D.tells → Saves mode plan.value (recovered (D.seen disk)) → IfOk result
-            (λ core. core.store.last ≡ Found (next_generation (recovered (D.seen disk)))
-            (start_record mode plan.value (recovered (D.seen disk)))) }
+        ensures core { IfOk result (λ core. IsStarted core plan.value mode log_room) }
+        ensures file { D.tells → IfOk result
+            (λ core. StartsFrom D.seen D.may_leave (D.seen disk) plan.value mode log_room core) }
 
         // A start that is refused has written nothing.
         ensures unwritten { D.tells → IfErr result (λ e. StartKeeps e.0 (D.seen disk) (D.seen e.1)) }
 
-        // All memory is taken before the first call of the disk.
-        ensures memory { IfErr result (λ e. IsWantOfMemory e.0 → e.1 ≡ disk) }
+        // All memory is allocated before the first device call.
+        ensures memory { IfErr result (λ e. IsOutOfMemory e.0 → e.1 ≡ disk) }
 
-        // It is answered and refused exactly by what the file is recovered to, faults of the device and out of memory
-        // aside.
+        // Whether it is answered or refused depends exactly on the content that the file is recovered to, faults of the
+        // device and out of memory aside.
         ensures answers { D.tells → MatchResult result
             (λ core. CanStart mode plan.value (recovered (D.seen disk)))
             (λ e. RefusesStart mode plan.value (recovered (D.seen disk)) e.0) }
 
-        // S3 exactly where a call of the disk failed, and then one did.
+        // S3 exactly when a device call failed, and then just one failed.
         ensures device { MatchResult result
             (λ core. D.failure_count core.store.disk ≡ D.failure_count disk)
             (λ e. CountsStart e.0 (D.failure_count disk) (D.failure_count e.1)) }
 
-        // S3 does not come from a disk that serves a whole file.
+        // A disk that serves a whole file never gives S3.
         ensures serves { D.tells → D.serves disk FILE_BYTES → MatchResult result
             (λ core. D.serves core.store.disk FILE_BYTES)
             (λ e. (e.0 ≢ StartFault.Store StoreFault.Device) × D.serves e.1 FILE_BYTES) }
 
-        // Every file that a stop may leave after it survives.
-        ensures survives { D.tells → IfOk result
-            (λ core. (file : List ℕ) → D.may_leave core.store.disk file → survives core (recovered file)) }
-
-        // On a disk with nothing unsynced, a stop at any moment leaves what was recovered before, or, where the start
-        // saves it, the record of what the life starts with.
+        // On a disk with nothing unsynced, a stop at any moment leaves the content that was recovered before, or, if
+        // the start saves it, the record of the start.
         ensures any_moment { D.tells → Only (D.seen disk) (D.may_leave disk) → MatchResult result
             (λ core. LeavesOnly D.left_since D.may_leave disk core.store.disk
             (λ file. LeftByStart mode plan.value (recovered (D.seen disk)) (recovered file)))

@@ -20,7 +20,7 @@ column_at : (is : List PlanInput) (i : ℕ) (input : PlanInput) → i < length i
 column_at is i input less at = field_at-cons _ (map (map to_ascii_lowercase) (map (λ x. x.path.name) is)) i
     ∙ name_at is i input less at
 
--- what a header has at its first place, and at an input's
+-- the fields of a header in its first column, and in that of an input
 pub header_first : (is : List PlanInput) (fields : Fields) → IsHeader is fields
     → option_map (map to_ascii_lowercase) (field_at fields 0) ≡ Some (map to_ascii_lowercase (codes "t"))
 header_first is fields h = sym (field_at-map (map to_ascii_lowercase) fields 0)

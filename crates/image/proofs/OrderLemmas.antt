@@ -14,20 +14,18 @@ use Rattle.st_types.specs.declared.limits.TheConstants.{MAX_ROWS}
 use Rattle.st_meaning.specs.declared.plan.PlanInput.{PlanInput}
 use Rattle.st_types.specs.Rows.{Latch}
 use Rattle.image.specs.Plants.{AreRowsOf, IsRowOf, IsLater, IsNotLater}
+use Rattle.st_types.proofs.ListLemmas.{length_push}
 
--- what is not empty has a last element
+-- a list that is not empty has a last element
 pub front_and_last : {X : Type 0} (x : X) (xs : List X)
     → (before : List X) × (last : X) × (x ∷ xs ≡ before ++ last ∷ [])
 front_and_last x [] = ([], x, refl)
 front_and_last x (y ∷ ys) = let (before, last, e) = front_and_last y ys in (x ∷ before, last, ap (λ l. x ∷ l) e)
 
-length-push : {X : Type 0} (xs : List X) (x : X) → length (xs ++ x ∷ []) ≡ length xs + 1
-length-push xs x = length-append xs (x ∷ [])
-
 last_at : {X : Type 0} (xs before : List X) (last : X) → xs ≡ before ++ last ∷ []
     → slice_get xs (length xs - 1) ≡ Some last
 last_at xs before last e =
-    let long : length xs ≡ length before + 1 = ap length e ∙ length-push before last in
+    let long : length xs ≡ length before + 1 = ap length e ∙ length_push before last in
     let place : length before ≡ length xs - 1 = omega arith in
     let at : get_or xs (length xs - 1) last ≡ last = ap (λ l. get_or l (length xs - 1) last) e
     ∙ get_or_at before last [] last (length xs - 1) place in
@@ -62,7 +60,7 @@ later_than_none rows moment e = λ before last parts. let at = last_at rows befo
 rising_push : (xs : List ℕ) (x : ℕ) → IsStrictlyIncreasing xs → ((k : ℕ) → k + 1 ≡ length xs → get_or xs k 0 < x)
     → IsStrictlyIncreasing (xs ++ x ∷ [])
 rising_push xs x up last = λ k within.
-    let long = length-push xs x in
+    let long = length_push xs x in
     let here : get_or (xs ++ x ∷ []) k 0 ≡ get_or xs k 0 = get_or_append_left xs (x ∷ []) 0 k (omega arith) in
     elim (cases_lt (k + 1) (length xs)) [
       | inl less ↦
@@ -83,7 +81,7 @@ rows_push is rows row are fits later few = record {
   each = All-push (IsRowOf is) rows row are.each fits;
   rising = rw (map-append (λ (r : Latch). r.moment) rows (row ∷ []))
       (rising_push (map (λ (r : Latch). r.moment) rows) row.moment are.rising (before rows later));
-  few = omega (arith, length-push rows row);
+  few = omega (arith, length_push rows row);
 }
   where
     before : (xs : List Latch) → IsLater xs row.moment → (k : ℕ) → k + 1 ≡ length (map (λ (r : Latch). r.moment) xs)
@@ -95,7 +93,7 @@ rows_push is rows row are fits later few = record {
         let joined : moments (x ∷ xs) ≡ moments front ++ last.moment ∷ [] = ap moments parts
         ∙ map-append (λ (r : Latch). r.moment) front (last ∷ []) in
         let long : length (moments (x ∷ xs)) ≡ length (moments front) + 1 = ap length joined
-        ∙ length-push (moments front) last.moment in
+        ∙ length_push (moments front) last.moment in
         let at : get_or (moments (x ∷ xs)) k 0 ≡ last.moment = ap (λ l. get_or l k 0) joined
         ∙ get_or_at (moments front) last.moment [] 0 k (omega arith) in
         let less = later front last parts in

@@ -28,7 +28,7 @@ pub no_header : {R : Type 0} (rem : R → Option (List ℕ)) (known : Option (Li
     → OfRecords known (HasNoHeader inputs)
 no_header rem known inputs a b n left plain has s = ended rem known [] a b n left (HasNoHeader inputs) plain s has tt
 
--- a first record that is no header
+-- a first record that isn't a header
 pub wrong_header : {R : Type 0} (rem : R → Option (List ℕ)) (known : Option (List ℕ)) (inputs : List PlanInput)
     (a b : Reader R) (n left : ℕ) (x : Row) → IsPlain a n → HasRead rem known [] a → Steps rem a b left (Some (Ok x))
     → (IsHeader inputs (fields_of x) → ⊥) → OfRecords known (HasNoHeader inputs)

@@ -25,12 +25,12 @@ pub record IsPlain {R : Type 0} (a : Reader R) (left : ℕ) : Type 0 where
   pub config : a.config ≡ default_config
   pub flexible : a.flexible ≡ true
 
--- it has handed out these records of the bytes, where those are known
+-- it has handed out these records of the bytes, if those are known
 pub HasRead : {R : Type 0} → (R → Option (List ℕ)) → Option (List ℕ) → List Fields → Reader R → Type 0
 HasRead rem known read a = (text : List ℕ) → known ≡ Some text → (ys : List ℕ) × (source_of rem a ≡ Some ys)
     × Reached default_config st.StartRecord (strip_bom text) read a.state ys
 
--- what `next` says of a step
+-- what `next` reports of a step
 abbrev pub Steps : {R : Type 0} → (R → Option (List ℕ)) → Reader R → Reader R → ℕ → Option (Result Row Error) → Type 0
 Steps rem a b left r = (Ready a → RowStep rem a b left r) × (HeaderNext a → HeaderRowStep rem a b left r)
     × FailStep a b left r × FlexibleStep a b r
@@ -70,7 +70,7 @@ pub only_stops : {R : Type 0} (rem : R → Option (List ℕ)) (a b : Reader R) (
     → Steps rem a b left (Some (Err e)) → stops_reader (error_kind e) ≡ true
 only_stops rem a b n left e plain s = explained rem a b (error_kind e) plain.flexible (s.0 plain.ready)
 
--- what is read is a beginning of the records of the bytes
+-- the records that were read are a beginning of those of the bytes
 pub begins : {R : Type 0} (rem : R → Option (List ℕ)) (known : Option (List ℕ)) (read : List Fields) (a : Reader R)
     (P : List Fields → Type 0) → HasRead rem known read a
     → ((rest : List Fields) → P (read ++ rest)) → OfRecords known P
@@ -81,7 +81,7 @@ begins rem (Some text) read a P has holds =
     let (rest, is) = read_begins text read a.state ys reached in
     rw is (holds rest)
 
--- at the end it is all of them
+-- at the end they are all of them
 pub ended : {R : Type 0} (rem : R → Option (List ℕ)) (known : Option (List ℕ)) (read : List Fields) (a b : Reader R)
     (n left : ℕ) (P : List Fields → Type 0) → IsPlain a n → Steps rem a b left None
     → HasRead rem known read a → P read → OfRecords known P

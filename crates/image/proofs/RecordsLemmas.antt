@@ -154,14 +154,14 @@ reached_records (suc n) s xs (r ∷ rs) s2 ys b less h = first n s xs r rs s2 ys
         let (m, rest) = more on.between (omega arith) in
         (m, rw (e, same, rest) refl)
 
--- where no record is left, there is none
+-- if no record is left, there is none
 no_records : (m : ℕ) (s : State) (ys : List ℕ) → next_record default_config s [] [] ys ≡ None
     → records_from default_config m s ys ≡ []
 unfolding records_from
 no_records zero s ys e = refl
 no_records (suc m) s ys e = rw e refl
 
--- what was read is a beginning of the records of the bytes
+-- the records that were read are a beginning of those of the bytes
 pub read_begins : (text : List ℕ) (read : List Fields) (s : State) (ys : List ℕ)
     → Reached default_config st.StartRecord (strip_bom text) read s ys
     → (rest : List Fields) × (records_of text ≡ read ++ rest)
@@ -171,7 +171,7 @@ read_begins text read s ys h =
     reached_records (length (strip_bom text) + 1) st.StartRecord (strip_bom text) read s ys refl (omega arith) h in
     (records_from default_config m s ys, e)
 
--- at the end of the bytes it is all of them
+-- at the end of the bytes they are all of them
 pub read_all : (text : List ℕ) (read : List Fields) (s : State) (ys : List ℕ)
     → Reached default_config st.StartRecord (strip_bom text) read s ys
     → next_record default_config s [] [] ys ≡ None → records_of text ≡ read

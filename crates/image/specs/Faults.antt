@@ -1,16 +1,16 @@
--- What keeps records from being a plant.
+-- Why records aren't a plant.
 use Rattle.std.specs.Prelude.{◌≡◌, ◌≢◌, ◌<◌, ◌≤◌, List, [], ◌∷◌, ◌++◌, length, drop, Any, ⊤}
 use Rattle.st_types.specs.declared.limits.TheConstants.{MAX_ROWS}
 use Rattle.st_meaning.specs.declared.plan.PlanInput.{PlanInput}
 use Rattle.st_types.specs.Rows.{Latch}
 use Rattle.image.specs.Plants.{Fields, IsRowOf, IsHeader, spelled}
 
--- the first record is no header, or there is no record
+-- the first record isn't a header, or there is no record
 abbrev pub HasNoHeader : List PlanInput → List Fields → Type 0
 HasNoHeader inputs [] = ⊤
 HasNoHeader inputs (first ∷ records) = ¬ (IsHeader inputs first)
 
--- no row of the inputs is spelled by the record: a field is wrong in form, number or range
+-- the record spells no row of the inputs: a field is wrong in form, number or range
 abbrev pub IsNoRow : List PlanInput → Fields → Type 0
 IsNoRow inputs fields = (row : Latch) → IsRowOf inputs row → fields ≢ spelled row
 

@@ -12,7 +12,7 @@ abbrev pub is_memory : ErrorKind → Bool
 is_memory OutOfMemory = true
 is_memory kind = false
 
--- the reader fails, or memory is wanted, the reader's own want too
+-- the reader fails, or memory runs out, the reader's too
 abbrev pub fault_of : records.ErrorKind → PlantError
 fault_of (Io e) = if is_memory (error_kind e) then NoMemory else Reading
 fault_of kind = NoMemory

@@ -60,7 +60,7 @@ fn add_row(
     Ok(())
 }
 
-/// Why a read failed: I6 out of memory, the reader's own want too, else I5. Only the reader and memory fail it.
+/// Why a read failed: I6 out of memory, the reader's too, else I5. Only the reader and memory fail it.
 fn refusal(error: csv::Error) -> PlantError
     requires { stops_reader (error_kind error) ≡ true }
     ensures { result ≡ fault_of (error_kind error) }
@@ -77,7 +77,7 @@ fn refusal(error: csv::Error) -> PlantError
 /// The rows of a plant: a CSV text with a header. Moments are in milliseconds; each row has a value for each input of
 /// the plan, in declaration order. At most 10,000 rows.
 ///
-/// I1 to I4 come only where they apply; which of several comes is not promised. I5 is a reader that fails, I6 out of
+/// I1 to I4 come only if they apply; if several do, which one comes is not promised. I5 if the reader fails, I6 out of
 /// memory, the reader's too.
 pub fn read_plant<R: Read + Drop>(
     alloc: Global,

@@ -9,7 +9,7 @@ pub enum PlantError {
     /// The first record is not `t` and the names of the inputs in declaration order, in any case, or there is none.
     #[error("I1")]
     Header,
-    /// A record spells no row: a field's form, number or range, or how many fields there are.
+    /// A record spells no row: a field has a wrong form, number or range, or there are too many or too few.
     #[error("I2")]
     Field,
     /// A moment is not later than the one before it.

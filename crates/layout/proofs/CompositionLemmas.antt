@@ -1,4 +1,4 @@
--- What types are made of that bear a name.
+-- Compositions of types that have a name.
 use Rattle.std.proofs.Common.{◌≡◌, ap, ◌∙◌, Option, Some, None}
 use Rattle.st_types.specs.declared.data_type.VariableType.{VariableType}
 use Rattle.st_types.specs.Declarations.{TypeDefinition}

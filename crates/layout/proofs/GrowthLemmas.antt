@@ -14,7 +14,7 @@ use Rattle.layout.specs.Types as made
 use Rattle.layout.specs.Types.{composition_of, shape_within}
 use Rattle.layout.specs.TextLayouts.{further}
 use Rattle.layout.specs.Growth.{Exceeds, Grows}
-use Rattle.layout.specs.KeptSites.{KeptSite, kept, site_view, step_view, kept_part, part_view, parts_behind}
+use Rattle.layout.specs.KeptSites.{KeptSite, kept, site_view, step_view, kept_part, part_view, parts_below}
 use Rattle.layout.specs.Slots.{owner_view, path_at, slot_at, slots_within, slots_of_parts, instances_of_parts}
 use Rattle.layout.specs.Slots.{own_slots, own_size, own_instances}
 use Rattle.layout.specs.declared.growing.Growing.{Growing}
@@ -26,8 +26,10 @@ use Rattle.layout.specs.declared.sites.PartStep.{PartStep}
 use Rattle.layout.specs.declared.slots.Root.{Root}
 use Rattle.layout.proofs.ExpansionLemmas.{ArePartsSound, sound_parts, slots_expanded, size_expanded}
 use Rattle.layout.proofs.ExpansionLemmas.{instances_expanded}
+use Rattle.st_types.proofs.ListLemmas.{length_map}
+use Rattle.st_types.proofs.TestLemmas.{or_true}
 
--- These parts are left: with them the layout grows by the whole, from what it was.
+-- These parts are left: with them the layout grows by the whole, from its old state.
 pub record Remains (n : ℕ) (text : Declared) (s : made.Site) (r : Root) (old now : Growing) (left : List Part)
     : Type 0 where
   pub es : List (Step × made.Site)
@@ -46,11 +48,7 @@ grows_nothing n text s r g is = rw is (none text s r g)
     none : (text : Declared) (s : made.Site) (r : Root) (g : Growing) → Grows 0 text s r g g
     none text s r g = record { slots = sym (append-nil g.slots.items); instances = omega arith }
 
-or_true : (b : Bool) → (b || true) ≡ true
-or_true true = refl
-or_true false = refl
-
--- What has no room for so many has none for more.
+-- If there is no room for a number of slots, there is none for more.
 pub exceeds_more : (e : LayoutError) (k m l n : ℕ) → k ≤ m → l ≤ n → Exceeds k l e → Exceeds m n e
 exceeds_more errors.TooLarge k m l n slots instances h = by_test (nat_lt MAX_PATHS k) refl
   where
@@ -63,23 +61,23 @@ exceeds_more errors.TooLarge k m l n slots instances h = by_test (nat_lt MAX_PAT
         ap (λ c. nat_lt MAX_PATHS m || c) b ∙ or_true (nat_lt MAX_PATHS m)
 exceeds_more errors.OutOfMemory k m l n slots instances h = tt
 
--- Before the first part only what the whole is itself was added.
+-- Before the first part only the whole's own slot or instance was added.
 pub begun : (n : ℕ) (text : Declared) (s : made.Site) (r : Root) (old now : Growing) (c : made.Composition)
     (k : KeptSite) (left : List Part) → c ≡ composition_of text s.declared → k ≡ kept s
     → is_sound (shape_within (suc n) text s.declared) ≡ true
     → now.slots.items ≡ old.slots.items ++ own_slots c k r.is_input (path_at r old.trail.items)
-    → now.instances ≡ old.instances + own_instances c → map part_view left ≡ map kept_part (parts_behind s c)
+    → now.instances ≡ old.instances + own_instances c → map part_view left ≡ map kept_part (parts_below s c)
     → Remains n text s r old now left
 begun n text s r old now c k left made site sound slots instances parts =
     let p = path_at r old.trail.items in
     let d = composition_of text s.declared in
-    let es = parts_behind s d in
+    let es = parts_below s d in
     let i = instances_expanded n text s in
     let j : now.instances ≡ old.instances + own_instances d =
     instances ∙ ap (λ x. old.instances + own_instances x) made in
     record {
       es = es;
-      parts = parts ∙ ap (λ x. map kept_part (parts_behind s x)) made;
+      parts = parts ∙ ap (λ x. map kept_part (parts_below s x)) made;
       sound = sound_parts n text s sound;
       slots = ap (λ xs. xs ++ slots_of_parts n text r.is_input p es) slots
           ∙ ap (λ x. (old.slots.items ++ own_slots x k r.is_input p) ++ slots_of_parts n text r.is_input p es) made
@@ -89,7 +87,7 @@ begun n text s r old now c k left made site sound slots instances parts =
       instances = omega (arith, i, j);
     }
 
--- The part that comes next, and what is left behind it.
+-- The part that comes next, and those left after it.
 pub record Next (n : ℕ) (text : Declared) (s : made.Site) (r : Root) (old now : Growing) (p : Part)
     (left : List Part) : Type 0 where
   pub site : made.Site
@@ -179,18 +177,13 @@ ended n text s r old now left none m =
         record { slots = sym (append-nil now.slots.items) ∙ slots; instances = omega (arith, instances) }
     of_list (e ∷ rest) parts slots instances = absurd (cc)
 
--- how many slots there are
-length_map : {A B : Type 0} (f : A → B) (xs : List A) → length (map f xs) ≡ length xs
-length_map f [] = refl
-length_map f (x ∷ xs) = let h = length_map f xs in omega arith
-
 pub length_slots : (count : (sh : Shape) → length (leaves_of sh) ≡ size sh) (n : ℕ) (text : Declared) (s : made.Site)
     (input : Bool) (p : Path) → length (slots_within n text s input p) ≡ size (shape_within n text s.declared)
 length_slots count n text s input p =
     length_map (slot_at text s input p) (leaves_of (shape_within n text s.declared))
     ∙ count (shape_within n text s.declared)
 
--- Where the part that comes next has no room, the whole has none.
+-- If the next part has no room, the whole has none.
 pub no_room : (count : (sh : Shape) → length (leaves_of sh) ≡ size sh) (n : ℕ) (text : Declared) (s : made.Site)
     (r : Root) (old now : Growing) (p : Part) (left : List Part) (m : Remains n text s r old now (p ∷ left))
     (e : LayoutError) → Exceeds
@@ -216,7 +209,7 @@ no_room count n text s r old now p left m e h =
     (old.instances + instance_count (shape_within (suc n) text s.declared)) (omega (arith, a, b, c, d, f, g))
     (omega (arith, i)) h
 
--- Where what the whole is itself has no room, the whole has none.
+-- If the whole's own slot or instance has no room, the whole has none.
 pub no_room_itself : (n : ℕ) (text : Declared) (s : made.Site) (slots instances : ℕ) (c : made.Composition)
     (e : LayoutError) → c ≡ composition_of text s.declared
     → Exceeds (slots + own_size c) (instances + own_instances c) e
@@ -231,7 +224,7 @@ no_room_itself n text s slots instances c e made h =
     (omega (arith, a)) (omega (arith, b))
     (subst (λ x. Exceeds (slots + own_size x) (instances + own_instances x) e) made h)
 
--- what a step that was taken back leaves
+-- the list after a step that was taken back
 pub taken_back : {A : Type 0} (before all after : List A) (x : A) (n : ℕ) → all ≡ before ++ x ∷ [] → n ≡ length all
     → after ≡ take (n - 1) all → after ≡ before
 taken_back before all after x n is size rest =

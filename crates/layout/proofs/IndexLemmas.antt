@@ -14,21 +14,17 @@ use Rattle.layout.proofs.Positions.{position_step}
 use Rattle.layout.specs.declared.slots.LayoutSlot.{LayoutSlot}
 use Rattle.layout.specs.declared.slots.SlotFacts.{SlotFacts}
 
-map_append : {A B : Type 0} (f : A → B) (xs ys : List A) → map f (xs ++ ys) ≡ map f xs ++ map f ys
-map_append f [] ys = refl
-map_append f (x ∷ xs) ys = ap (λ zs. f x ∷ zs) (map_append f xs ys)
-
 at_end : (done : List LayoutSlot) (x : LayoutSlot) (rest : List LayoutSlot)
     → slice_get (map slot_view (done ++ x ∷ rest)) (length done) ≡ Some (slot_view x)
 at_end [] x rest = refl
 at_end (d ∷ ds) x rest = at_end ds x rest
 
--- a number more
-one_less : (o : Option ℕ) (n : ℕ) → option_map suc o ≡ Some (suc n) → o ≡ Some n
+-- one number more
+pub one_less : (o : Option ℕ) (n : ℕ) → option_map suc o ≡ Some (suc n) → o ≡ Some n
 one_less None n h = absurd (cc)
 one_less (Some m) n h = let e : m ≡ n = cc in ap Some e
 
--- a path that stands behind these slots first goes behind them
+-- a path that comes first after these slots is appended to them
 goes_last : (done : List LayoutSlot) (x : LayoutSlot) (rest : List LayoutSlot)
     → slot_of (map slot_view (done ++ x ∷ rest)) x.path ≡ Some (length done)
     → insert_entry same_path (map entry_of done) x.path (facts_of x) ≡ map entry_of (done ++ x ∷ [])
@@ -115,7 +111,7 @@ number_found p (e ∷ es) =
     position_step (same_path p) e.0 (keys_of es)
     ∙ ap (λ o. if same_path p e.0 then Some 0 else option_map suc o) (number_found p es)
 
--- what stands in the slots
+-- the facts of the slots
 pub facts_are : (es : List (Path × SlotFacts)) → values_of es ≡ map facts_of (map slot_of_entry es)
 facts_are [] = refl
 facts_are (e ∷ es) = ap (λ xs. e.1 ∷ xs) (facts_are es)

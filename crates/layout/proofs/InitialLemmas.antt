@@ -1,4 +1,4 @@
--- Values of literals in the words of runs.
+-- Values of literals in the terms of runs.
 use Rattle.std.proofs.Common.{◌≡◌, Ok, Err}
 use Rattle.std.specs.Prelude.{Result}
 use Rattle.st_types.specs.Values.{Datum}

@@ -1,4 +1,4 @@
--- What the declarations say of parts.
+-- Declared facts about parts.
 use Rattle.std.proofs.Common.{◌≡◌, refl, ap, arith, ℕ, suc, ◌+◌, ◌-◌, ◌<◌, List, [], ◌∷◌, ◌++◌, Bool, true, false}
 use Rattle.std.proofs.Common.{Option, Some, None}
 use Rattle.st_types.specs.declared.data_type.ArrayType.{ArrayType}
@@ -24,7 +24,7 @@ elements_more s a n k h = ap (element_parts s a k) (one_less n k h)
     one_less : (n k : ℕ) → k < n → n - k ≡ suc (n - (k + 1))
     one_less n k h = omega (arith, h)
 
--- a variable that its declaration alone tells of
+-- a variable with only its declaration's word
 pub kept_alone : (t : VariableType) (i : Option Initial) (b : Bool) (rs : List (Option Retention))
     → b ≡ is_retained_by rs
     → ◌≡◌ {A = KeptSite} (record { declared = t; initial = i; retained = b })

@@ -1,9 +1,10 @@
 -- The growth of a layout by variables, one after another.
-use Rattle.std.proofs.Common.{◌≡◌, refl, sym, ap, ap₂, subst, ◌∙◌, arith, ℕ, ◌+◌, List, [], ◌∷◌, ◌++◌, length, Bool}
-use Rattle.std.proofs.Common.{true, false}
+use Rattle.std.proofs.Common.{◌≡◌, refl, sym, ap, ap₂, subst, ◌∙◌, arith, ℕ, ◌+◌, List, [], ◌∷◌, ◌++◌, length}
+use Rattle.std.proofs.Common.{true}
 use Rattle.std.proofs.Common.{length-append, map, Some}
 use Rattle.std.specs.Prelude.{◌&&◌}
 use Rattle.std.proofs.lemmas.List.{append_assoc, append-nil}
+use Rattle.std.proofs.lemmas.Bool.{and_parts}
 use Rattle.st_types.specs.declared.configuration.Instance.{Instance}
 use Rattle.st_types.specs.Configurations.{Resource}
 use Rattle.st_meaning.specs.NameTypes.{Declared, unit_named}
@@ -37,11 +38,6 @@ grows_by_one text v r old new trail path input g =
       instances = omega (arith, i);
     }
 
-pub both_sound : (a b : Bool) → (a && b) ≡ true → (a ≡ true) × (b ≡ true)
-both_sound true true h = (refl, refl)
-both_sound true false h = absurd (cc)
-both_sound false b h = absurd (cc)
-
 pub exceeds_one : (e : LayoutError) (k m n i : ℕ) → Exceeds (k + m) (n + i) e
     → Exceeds (k + (m + 0)) (n + (i + 0)) e
 exceeds_one e k m n i h = exceeds_more e (k + m) (k + (m + 0)) (n + i) (n + (i + 0)) (omega arith) (omega arith) h
@@ -64,7 +60,7 @@ pub expandable_apart : (text : Declared) (xs ys : List Owned) → are_expandable
     → (are_expandable text xs ≡ true) × (are_expandable text ys ≡ true)
 expandable_apart text [] ys h = (refl, h)
 expandable_apart text (x ∷ xs) ys h =
-    let a = both_sound (is_sound (variable_shape text x)) (are_expandable text (xs ++ ys)) h in
+    let a = and_parts (is_sound (variable_shape text x)) (are_expandable text (xs ++ ys)) h in
     let b = expandable_apart text xs ys a.1 in
     (ap (λ c. c && are_expandable text xs) a.0 ∙ b.0, b.1)
 
@@ -77,7 +73,7 @@ length_layout count text (v ∷ vs) =
     let b = length_slots count MAX_TYPE_DEPTH text v.site v.is_input (variable_path v) in
     let c = length_layout count text vs in omega (arith, a, b, c)
 
--- These variables are left: with them the layout grows by all, from what it was.
+-- These variables are left: with them the layout grows by all, from its old state.
 pub record Left (text : Declared) (all : List Owned) (old now : Growing) (left : List Owned) : Type 0 where
   pub sound : are_expandable text left ≡ true
   pub slots : now.slots.items ++ layout_slots text left ≡ old.slots.items ++ layout_slots text all
@@ -156,7 +152,7 @@ no_room_last count text xs ys old mid e h g =
     (left_after text (xs ++ ys) old old mid xs ys (left_all text (xs ++ ys) old h) g))
 
 -- variables of instances, resource by resource
-programs_append : (text : Declared) (xs ys : List OwnedProgram)
+pub programs_append : (text : Declared) (xs ys : List OwnedProgram)
     → variables_of_programs text (xs ++ ys) ≡ variables_of_programs text xs ++ variables_of_programs text ys
 programs_append text [] ys = refl
 programs_append text (x ∷ xs) ys =

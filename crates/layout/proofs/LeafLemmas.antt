@@ -1,4 +1,4 @@
--- The elementary parts of a shape, and where each stands among them.
+-- The elementary parts of a shape, and the position of each among them.
 use Rattle.std.proofs.Common.{◌≡◌, inl, inr, ℕ, zero, suc, ◌+◌, ◌*◌, ℤ, pos, ◌+ℤ◌, Bool, true, false, not, ◌&&◌, ◌||◌}
 use Rattle.std.proofs.Common.{if◌then◌else◌, List, [], ◌∷◌, ◌++◌, length, map, slice_get, Option, Some, option_map}
 use Rattle.std.proofs.Common.{refl, sym, ap, ap₂, ◌∙◌, length-append, arith}
@@ -14,10 +14,15 @@ use Rattle.st_meaning.specs.Scopes.{Name}
 use Rattle.layout.specs.Shapes.{Shape, plain, array, parts, Parts, no_parts, part_then, size, sizes, Leaf}
 use Rattle.layout.specs.Shapes.{below, leaves_of_elements, leaves_of, leaves_of_parts, in_bounds, distance}
 use Rattle.layout.specs.Shapes.{Position}
-use Rattle.layout.specs.Shapes.{beyond, position_of, position_in, leads_on, leads_in, has_name, is_sound, are_sound}
-use Rattle.layout.proofs.ListLemmas.{get_left, get_right, get_split, get_map, length_map, same_int, same_name}
-use Rattle.layout.proofs.ListLemmas.{name_itself, name_turned, map_some, if_some, both, turned, or_later, or_false}
-use Rattle.layout.proofs.ListLemmas.{any_append}
+use Rattle.layout.specs.Shapes.{position_after, position_of, position_in, leads_on, leads_in, has_name, is_sound, are_sound}
+use Rattle.layout.proofs.ListLemmas.{get_right, get_split, same_int, same_name}
+use Rattle.layout.proofs.ListLemmas.{name_itself, name_turned}
+use Rattle.std.proofs.lemmas.Bool.{and_parts, or_right}
+use Rattle.std.proofs.lemmas.Option.{slice_get-map}
+use Rattle.st_types.proofs.ListLemmas.{get_first, length_map}
+use Rattle.st_types.proofs.OptionLemmas.{map_some, if_some}
+use Rattle.st_types.proofs.TestLemmas.{false_from_not, or_false}
+use Rattle.std.proofs.lemmas.List.Folds.{list_any-append}
 
 -- numbers
 bounds_here : (z : ℤ) (c : ℕ) → in_bounds z (suc c) z ≡ true
@@ -64,7 +69,7 @@ mutual
       let b = length_map (below (Member x)) (leaves_of sh) in
       let h = length_leaves sh in let g = length_parts ps in omega arith
 
--- a part stands where its position says
+-- a part is at its position
 elements_at : (z : ℤ) (c : ℕ) (inner : List Leaf) (n : ℤ) (o : ℕ) (l : Leaf) → in_bounds z c n ≡ true
     → slice_get inner o ≡ Some l
     → slice_get (leaves_of_elements z c inner) (distance z n * length inner + o) ≡ Some (below (Element n) l)
@@ -82,9 +87,9 @@ elements_at z (suc c) inner n o l b g =
         let d : distance z n * length inner + o ≡ o =
         ap (λ k. k * length inner + o) (ap (λ m. distance z m) (sym s) ∙ distance_here z) ∙ omega arith in
         let m : slice_get (map (below (Element z)) inner) o ≡ Some (below (Element z) l) =
-        get_map (below (Element z)) inner o ∙ ap (option_map (below (Element z))) g in
+        slice_get-map (below (Element z)) inner o ∙ ap (option_map (below (Element z))) g in
         ap (slice_get (leaves_of_elements z (suc c) inner)) d
-        ∙ get_left (map (below (Element z)) inner) (leaves_of_elements (z +ℤ pos 1) c inner) o
+        ∙ get_first (map (below (Element z)) inner) (leaves_of_elements (z +ℤ pos 1) c inner) o
         (below (Element z) l) m
         ∙ ap (λ m. Some (below (Element m) l)) s
     by_test false e ih =
@@ -101,15 +106,15 @@ part_at_cases : (t : Bool) (x y : Name) (sh : Shape) (rest : List Leaf) (inner :
     (o : Position) → (t ≡ true → x ≡ y)
     → ((p : Position) → position_of sh xs ≡ Some p → slice_get (leaves_of sh) p.number ≡ Some (leaf xs p.kind))
     → ((p : Position) → inner ≡ Some p → slice_get rest p.number ≡ Some (leaf (Member x ∷ xs) p.kind))
-    → (if t then position_of sh xs else option_map (beyond (size sh)) inner) ≡ Some o
+    → (if t then position_of sh xs else option_map (position_after (size sh)) inner) ≡ Some o
     → slice_get (map (below (Member y)) (leaves_of sh) ++ rest) o.number ≡ Some (leaf (Member x ∷ xs) o.kind)
 part_at_cases true x y sh rest inner xs o same here later h =
     let m : slice_get (map (below (Member y)) (leaves_of sh)) o.number ≡ Some (leaf (Member y ∷ xs) o.kind) =
-    get_map (below (Member y)) (leaves_of sh) o.number ∙ ap (option_map (below (Member y))) (here o h) in
-    get_left (map (below (Member y)) (leaves_of sh)) rest o.number (leaf (Member y ∷ xs) o.kind) m
+    slice_get-map (below (Member y)) (leaves_of sh) o.number ∙ ap (option_map (below (Member y))) (here o h) in
+    get_first (map (below (Member y)) (leaves_of sh)) rest o.number (leaf (Member y ∷ xs) o.kind) m
     ∙ ap (λ n. Some (leaf (Member n ∷ xs) o.kind)) (sym (same refl))
 part_at_cases false x y sh rest inner xs o same here later h =
-    let i = map_some (beyond (size sh)) inner o h in
+    let i = map_some (position_after (size sh)) inner o h in
     let a = length_map (below (Member y)) (leaves_of sh) in let b = length_leaves sh in
     let c : size sh + i.0.number ≡ o.number = ap (λ q. q.number) i.2 in
     get_right (map (below (Member y)) (leaves_of sh)) rest i.0.number o.number (omega arith) ∙ later i.0 i.1
@@ -125,8 +130,8 @@ mutual
   at_shape (array lower count sh) (Member x ∷ xs) o h = absurd (cc)
   at_shape (array lower count sh) (Element n ∷ xs) o h =
       let b = if_some (in_bounds lower count n)
-      (option_map (beyond (distance lower n * size sh)) (position_of sh xs)) o h in
-      let i = map_some (beyond (distance lower n * size sh)) (position_of sh xs) o b.1 in
+      (option_map (position_after (distance lower n * size sh)) (position_of sh xs)) o h in
+      let i = map_some (position_after (distance lower n * size sh)) (position_of sh xs) o b.1 in
       ap (slice_get (leaves_of_elements lower count (leaves_of sh)))
       (sym (ap (λ q. q.number) i.2) ∙ ap (λ l. distance lower n * l + i.0.number) (sym (length_leaves sh)))
       ∙ elements_at lower count (leaves_of sh) n i.0.number (leaf xs i.0.kind) b.0 (at_shape sh xs i.0 i.1)
@@ -162,7 +167,7 @@ elements_of z (suc c) inner o l h =
     elim (get_split (map (below (Element z)) inner) (leaves_of_elements (z +ℤ pos 1) c inner) o l h) [
       | inl g ↦
           let i = map_some (below (Element z)) (slice_get inner o) l
-          (sym (get_map (below (Element z)) inner o) ∙ g) in
+          (sym (slice_get-map (below (Element z)) inner o) ∙ g) in
           let d = distance_here z in
           record {
             number = z;
@@ -222,12 +227,12 @@ mutual
       → InParts ps o l
   of_parts no_parts s o l h = absurd (cc)
   of_parts (part_then y sh ps) s o l h =
-      let b = both (not (has_name ps y)) (is_sound sh && are_sound ps) s in
-      let c = both (is_sound sh) (are_sound ps) b.1 in
+      let b = and_parts (not (has_name ps y)) (is_sound sh && are_sound ps) s in
+      let c = and_parts (is_sound sh) (are_sound ps) b.1 in
       elim (get_split (map (below (Member y)) (leaves_of sh)) (leaves_of_parts ps) o l h) [
         | inl g ↦
             let i = map_some (below (Member y)) (slice_get (leaves_of sh) o) l
-            (sym (get_map (below (Member y)) (leaves_of sh) o) ∙ g) in
+            (sym (slice_get-map (below (Member y)) (leaves_of sh) o) ∙ g) in
             let t = name_itself y in
             record {
               name = y;
@@ -238,7 +243,7 @@ mutual
             }
         | inr g ↦
             let i = of_parts ps c.1 g.0 l g.2 in
-            let t = other_name ps i.name y i.named (turned (has_name ps y) b.0) (bytes_eq i.name y) refl in
+            let t = other_name ps i.name y i.named (false_from_not (has_name ps y) b.0) (bytes_eq i.name y) refl in
             let m = length_map (below (Member y)) (leaves_of sh) in let n = length_leaves sh in
             let k = g.1 in let r = i.there in
             let e : size sh + g.0 ≡ o = omega arith in
@@ -246,12 +251,12 @@ mutual
               name = i.name;
               rest = i.rest;
               is = i.is;
-              named = or_later (bytes_eq i.name y) (has_name ps i.name) i.named;
+              named = or_right (bytes_eq i.name y) (has_name ps i.name) i.named;
               there = rw (t, r, e) refl;
             }
       ]
 
--- the steps to some of these parts begin so
+-- the steps to some of these parts begin with these
 abbrev pub begin : List Leaf → List Step → Bool
 begin ls xs = list_any (λ l. begins_with l.steps xs) ls
 
@@ -283,12 +288,12 @@ begin_elements z (suc c) inner n xs = by_test (begin_elements (z +ℤ pos 1) c i
     by_test h true e =
         let s = same_int z n e in
         let w : in_bounds z (suc c) n ≡ true = ap (in_bounds z (suc c)) (sym s) ∙ bounds_here z c in
-        any_append (λ l. begins_with l.steps (Element n ∷ xs)) (map (below (Element z)) inner)
+        list_any-append (λ l. begins_with l.steps (Element n ∷ xs)) (map (below (Element z)) inner)
         (leaves_of_elements (z +ℤ pos 1) c inner)
         ∙ ap₂ (λ a b. a || b) (begin_step (Element n) (Element z) xs true e inner) h
         ∙ or_absorbed (begin inner xs) (in_bounds (z +ℤ pos 1) c n) ∙ ap (λ b. b && begin inner xs) (sym w)
     by_test h false e =
-        any_append (λ l. begins_with l.steps (Element n ∷ xs)) (map (below (Element z)) inner)
+        list_any-append (λ l. begins_with l.steps (Element n ∷ xs)) (map (below (Element z)) inner)
         (leaves_of_elements (z +ℤ pos 1) c inner)
         ∙ ap₂ (λ a b. a || b) (begin_step (Element n) (Element z) xs false e inner) h
         ∙ ap (λ b. b && begin inner xs) (sym (bounds_next z n c e))
@@ -297,7 +302,7 @@ begin_no_member : (z : ℤ) (c : ℕ) (inner : List Leaf) (x : Name) (xs : List 
     → begin (leaves_of_elements z c inner) (Member x ∷ xs) ≡ false
 begin_no_member z zero inner x xs = refl
 begin_no_member z (suc c) inner x xs =
-    any_append (λ l. begins_with l.steps (Member x ∷ xs)) (map (below (Element z)) inner)
+    list_any-append (λ l. begins_with l.steps (Member x ∷ xs)) (map (below (Element z)) inner)
     (leaves_of_elements (z +ℤ pos 1) c inner)
     ∙ ap₂ (λ a b. a || b) (begin_step (Member x) (Element z) xs false refl inner)
     (begin_no_member (z +ℤ pos 1) c inner x xs)
@@ -342,7 +347,7 @@ mutual
   begin_no_element : (ps : Parts) (n : ℤ) (xs : List Step) → begin (leaves_of_parts ps) (Element n ∷ xs) ≡ false
   begin_no_element no_parts n xs = refl
   begin_no_element (part_then y sh ps) n xs =
-      any_append (λ l. begins_with l.steps (Element n ∷ xs)) (map (below (Member y)) (leaves_of sh))
+      list_any-append (λ l. begins_with l.steps (Element n ∷ xs)) (map (below (Member y)) (leaves_of sh))
       (leaves_of_parts ps)
       ∙ ap₂ (λ a b. a || b) (begin_step (Element n) (Member y) xs false refl (leaves_of sh))
       (begin_no_element ps n xs)
@@ -351,9 +356,9 @@ mutual
       → begin (leaves_of_parts ps) (Member x ∷ xs) ≡ leads_in ps x xs
   begin_parts no_parts s x xs = refl
   begin_parts (part_then y sh ps) s x xs =
-      let b = both (not (has_name ps y)) (is_sound sh && are_sound ps) s in
-      let c = both (is_sound sh) (are_sound ps) b.1 in
-      any_append (λ l. begins_with l.steps (Member x ∷ xs)) (map (below (Member y)) (leaves_of sh))
+      let b = and_parts (not (has_name ps y)) (is_sound sh && are_sound ps) s in
+      let c = and_parts (is_sound sh) (are_sound ps) b.1 in
+      list_any-append (λ l. begins_with l.steps (Member x ∷ xs)) (map (below (Member y)) (leaves_of sh))
       (leaves_of_parts ps)
-      ∙ part_begin_cases x y sh ps xs (turned (has_name ps y) b.0) (begin_shape sh c.0 xs)
+      ∙ part_begin_cases x y sh ps xs (false_from_not (has_name ps y) b.0) (begin_shape sh c.0 xs)
       (begin_parts ps c.1 x xs) (bytes_eq x y) refl

@@ -1,4 +1,4 @@
--- What calls find in the library of a text, and what instances and functions are made of.
+-- How calls find units in the library of a text, and the parts of instances and functions.
 use Rattle.std.proofs.Common.{◌≡◌, ℕ, ◌+◌, Bool, true, false, if◌then◌else◌, List, [], ◌∷◌, map, Option, Some}
 use Rattle.std.proofs.Common.{None, option_map, refl, sym, ap, ap₂, ◌∙◌}
 use Rattle.std.specs.Prelude.{bytes_eq, is_none}
@@ -33,10 +33,11 @@ use Rattle.layout.specs.Libraries.{instances_among, result_site, fresh_values, f
 use Rattle.layout.specs.Libraries.{function_then, functions_among, block_of_unit, block_then, blocks_among}
 use Rattle.layout.specs.Libraries.{library_of}
 use Rattle.layout.specs.Libraries.{program_of_unit, is_program}
-use Rattle.layout.proofs.ListLemmas.{both, if_some, some_is}
 use Rattle.layout.proofs.NameLemmas.{variables_once}
 use Rattle.layout.proofs.VariableLemmas.{variables_layout}
 use Rattle.layout.proofs.StoreLemmas.{initial_store_is}
+use Rattle.st_types.proofs.OptionLemmas.{some_is, if_some}
+use Rattle.std.proofs.lemmas.Bool.{and_parts}
 
 -- an enumerated type is a type of its name
 pub no_enumeration : (n : ℕ) (ts : List TypeDeclaration) (x : Name) → type_named ts x ≡ None
@@ -179,14 +180,14 @@ fresh_among : (text : Declared) → are_types_and_units_different text ≡ true 
     → function_in (functions_among text us) x ≡ Some f → IsStore [] f.fresh
 fresh_among text differ [] all x f h = absurd (cc)
 fresh_among text differ (v ∷ us) all x f h =
-    let b = both (has_different_variables v) (list_all has_different_variables us) all in
+    let b = and_parts (has_different_variables v) (list_all has_different_variables us) all in
     fresh_by_sort text differ v.sort v b.0 us x f (λ g. fresh_among text differ us b.1 x f g) h
 
 pub function_starts : (text : Declared) → are_types_and_units_different text ≡ true → (x : Name) (f : Function)
     → function_in (library_of text).functions x ≡ Some f → IsStore [] f.fresh
 function_starts text differ x f h =
     fresh_among text differ text.units
-    (both (list_all (λ t. Names.has_different_fields t.definition) text.types)
+    (and_parts (list_all (λ t. Names.has_different_fields t.definition) text.types)
     (list_all has_different_variables text.units) differ).1 x f h
 
 -- a program of a text of programs that has no instances
@@ -194,7 +195,7 @@ no_functions : (text : Declared) (us : List OrganisationUnit) → list_all (λ v
     → functions_among text us ≡ []
 no_functions text [] h = refl
 no_functions text (v ∷ us) h =
-    let b = both (is_program v.sort) (list_all (λ v. is_program v.sort) us) h in
+    let b = and_parts (is_program v.sort) (list_all (λ v. is_program v.sort) us) h in
     by_sort v.sort b.0 ∙ no_functions text us b.1
   where
     by_sort : (s : UnitSort) → is_program s ≡ true
@@ -207,7 +208,7 @@ no_blocks : (text : Declared) (us : List OrganisationUnit) → list_all (λ v. i
     → blocks_among text us ≡ []
 no_blocks text [] h = refl
 no_blocks text (v ∷ us) h =
-    let b = both (is_program v.sort) (list_all (λ v. is_program v.sort) us) h in
+    let b = and_parts (is_program v.sort) (list_all (λ v. is_program v.sort) us) h in
     by_sort v.sort b.0 ∙ no_blocks text us b.1
   where
     by_sort : (s : UnitSort) → is_program s ≡ true

@@ -1,4 +1,4 @@
--- In a text that breaks no rule no two variables of one scope have one name.
+-- In a text that breaks no rule no two variables of one scope have the same name.
 use Rattle.std.proofs.Common.{◌≡◌, refl, sym, ap, ap₂, ◌∙◌, Bool, true, false, not, ◌&&◌, ◌||◌, if◌then◌else◌, List, []}
 use Rattle.std.proofs.Common.{◌∷◌, ◌++◌, map, Option, Some}
 use Rattle.std.specs.Prelude.{filter, bytes_eq}
@@ -39,22 +39,10 @@ use Rattle.layout.specs.LayoutVariables.{configurations_in, only_configuration, 
 use Rattle.layout.specs.Names.{are_different, names_of_sites, has_different_fields, variable_names}
 use Rattle.layout.specs.Names.{has_different_variables, are_types_and_units_different, has_different_instances}
 use Rattle.layout.specs.Names.{is_configuration_different, has_different_names}
-use Rattle.layout.proofs.ListLemmas.{both, both_are, turned, turned_back, neither, or_here, or_later}
 use Rattle.layout.proofs.ListLemmas.{same_name, name_itself}
-use Rattle.layout.proofs.ResolvedLemmas.{map_map}
-
--- lists of which nothing is left
-joined_nothing : {A : Type 0} (xs ys : List A) → xs ++ ys ≡ [] → (xs ≡ []) × (ys ≡ [])
-joined_nothing [] ys h = (refl, h)
-joined_nothing (x ∷ xs) ys h = absurd (cc)
-
-mapped_nothing : {A B : Type 0} (f : A → B) (xs : List A) → map f xs ≡ [] → xs ≡ []
-mapped_nothing f [] h = refl
-mapped_nothing f (x ∷ xs) h = absurd (cc)
-
-flat_nothing : {A B : Type 0} (f : A → List B) (xs ys : List A) → flat_map f (xs ++ ys) ≡ []
-    → (flat_map f xs ≡ []) × (flat_map f ys ≡ [])
-flat_nothing f xs ys h = joined_nothing (flat_map f xs) (flat_map f ys) (sym (flat_map-append f xs ys) ∙ h)
+use Rattle.st_types.proofs.ListLemmas.{append_parts, flat_parts, map_map, none_mapped}
+use Rattle.std.proofs.lemmas.Bool.{not_from_false, or_parts, and_parts, and_from, or_left, or_right}
+use Rattle.st_types.proofs.TestLemmas.{false_from_not}
 
 -- no name passes
 none_passes : (wanted : Identifier → Bool) (xs : List Identifier) → places_where wanted xs ≡ []
@@ -67,52 +55,52 @@ none_passes wanted (x ∷ xs) h = by_test (wanted x) h (none_passes wanted xs)
     by_test true g ih = absurd (cc)
     by_test false g ih = ih g
 
-same_search : (x : Name) (xs : List Identifier) → contains_name (names_of xs) x ≡ list_any (is_named x) xs
+pub same_search : (x : Name) (xs : List Identifier) → contains_name (names_of xs) x ≡ list_any (is_named x) xs
 same_search x [] = refl
 same_search x (y ∷ ys) = ap (λ b. is_named x y || b) (same_search x ys)
 
 -- names that are not declared again are different
-not_repeated : (xs : List Identifier) → repeats xs ≡ [] → are_different (names_of xs) ≡ true
+pub not_repeated : (xs : List Identifier) → repeats xs ≡ [] → are_different (names_of xs) ≡ true
 not_repeated [] h = refl
 not_repeated (x ∷ xs) h =
-    let b = joined_nothing (places_where (is_named x.name) xs) (repeats xs) h in
-    both_are (not (contains_name (names_of xs) x.name)) (are_different (names_of xs))
-    (turned_back (contains_name (names_of xs) x.name)
+    let b = append_parts (places_where (is_named x.name) xs) (repeats xs) h in
+    and_from (not (contains_name (names_of xs) x.name)) (are_different (names_of xs))
+    (not_from_false (contains_name (names_of xs) x.name)
     (same_search x.name xs ∙ none_passes (is_named x.name) xs b.0))
     (not_repeated xs b.1)
 
 -- some of different names are different
-later_differ : (xs ys : List Name) → are_different (xs ++ ys) ≡ true → are_different ys ≡ true
+pub later_differ : (xs ys : List Name) → are_different (xs ++ ys) ≡ true → are_different ys ≡ true
 later_differ [] ys h = h
 later_differ (x ∷ xs) ys h =
-    later_differ xs ys (both (not (contains_name (xs ++ ys) x)) (are_different (xs ++ ys)) h).1
+    later_differ xs ys (and_parts (not (contains_name (xs ++ ys) x)) (are_different (xs ++ ys)) h).1
 
--- what stands not in the one list stands not in the other
+-- a name that isn't in the one list isn't in the other
 abbrev AreAmong : List Name → List Name → Type 0
 AreAmong zs ys = (x : Name) → contains_name ys x ≡ false → contains_name zs x ≡ false
 
 among_after : (xs ys zs : List Name) → AreAmong zs ys → AreAmong (xs ++ zs) (xs ++ ys)
 among_after xs ys zs among x h =
-    let n = neither (contains_name xs x) (contains_name ys x) (sym (list_any-append (λ y. bytes_eq x y) xs ys) ∙ h) in
+    let n = or_parts (contains_name xs x) (contains_name ys x) (sym (list_any-append (λ y. bytes_eq x y) xs ys) ∙ h) in
     list_any-append (λ y. bytes_eq x y) xs zs ∙ ap₂ (λ a b. a || b) n.0 (among x n.1)
 
 fewer_differ : (xs ys zs : List Name) → AreAmong zs ys → are_different zs ≡ true → are_different (xs ++ ys) ≡ true
     → are_different (xs ++ zs) ≡ true
 fewer_differ [] ys zs among d h = d
 fewer_differ (x ∷ xs) ys zs among d h =
-    let b = both (not (contains_name (xs ++ ys) x)) (are_different (xs ++ ys)) h in
-    both_are (not (contains_name (xs ++ zs) x)) (are_different (xs ++ zs))
-    (turned_back (contains_name (xs ++ zs) x)
-    (among_after xs ys zs among x (turned (contains_name (xs ++ ys) x) b.0)))
+    let b = and_parts (not (contains_name (xs ++ ys) x)) (are_different (xs ++ ys)) h in
+    and_from (not (contains_name (xs ++ zs) x)) (are_different (xs ++ zs))
+    (not_from_false (contains_name (xs ++ zs) x)
+    (among_after xs ys zs among x (false_from_not (contains_name (xs ++ ys) x) b.0)))
     (fewer_differ xs ys zs among d b.1)
 
--- a taken name is none of the names that are not taken
+-- a taken name isn't one of the names that are not taken
 not_taken : (taken : List Identifier) (x : Name) → list_any (is_named x) taken ≡ true → (ys : List Identifier)
     → list_any (is_taken taken) ys ≡ false → contains_name (names_of ys) x ≡ false
 not_taken taken x there [] h = refl
 not_taken taken x there (y ∷ ys) h =
-    let n = neither (is_taken taken y) (list_any (is_taken taken) ys) h in
-    by_test (bytes_eq x y.name) refl (neither (is_standard y.name) (list_any (is_named y.name) taken) n.0).1
+    let n = or_parts (is_taken taken y) (list_any (is_taken taken) ys) h in
+    by_test (bytes_eq x y.name) refl (or_parts (is_standard y.name) (list_any (is_named y.name) taken) n.0).1
     (not_taken taken x there ys n.1)
   where
     by_test : (b : Bool) → bytes_eq x y.name ≡ b → list_any (is_named y.name) taken ≡ false
@@ -122,12 +110,12 @@ not_taken taken x there (y ∷ ys) h =
     by_test false e g rest = rest
 
 -- resources and instances
-instances_differ : (rs : List Resource) → flat_map repeats (map names_in rs) ≡ []
+pub instances_differ : (rs : List Resource) → flat_map repeats (map names_in rs) ≡ []
     → list_all has_different_instances rs ≡ true
 instances_differ [] h = refl
 instances_differ (r ∷ rs) h =
-    let b = joined_nothing (repeats (names_in r)) (flat_map repeats (map names_in rs)) h in
-    both_are (has_different_instances r) (list_all has_different_instances rs)
+    let b = append_parts (repeats (names_in r)) (flat_map repeats (map names_in rs)) h in
+    and_from (has_different_instances r) (list_all has_different_instances rs)
     (ap are_different (sym (map_map (λ x. x.name) (λ i. i.name) r.instances))
     ∙ later_differ (names_of (map (λ t. t.name) r.tasks)) (names_of (map (λ i. i.name) r.instances))
     (ap are_different (sym (map-append (λ x. x.name) (map (λ t. t.name) r.tasks) (map (λ i. i.name) r.instances)))
@@ -140,7 +128,7 @@ differs c = is_configuration_different (Some c)
 only_one_differs : (cs : List Configuration) → list_all differs cs ≡ true
     → is_configuration_different (only_configuration cs) ≡ true
 only_one_differs [] h = refl
-only_one_differs (c ∷ []) h = (both (differs c) true h).0
+only_one_differs (c ∷ []) h = (and_parts (differs c) true h).0
 only_one_differs (c ∷ d ∷ cs) h = refl
 
 -- names in the text whose literals are resolved
@@ -171,7 +159,7 @@ module _ (text : Declared) where
   abbrev all_names : List VariableBlock → List Name
   all_names bs = names_of (flat_map variables_of_block bs)
 
-  -- the names of a block of variables that are no externals, and those of the blocks after it
+  -- the names of a block of variables that aren't externals, and those of the blocks after it
   abbrev names_with_block : Bool → VariableBlock → List VariableBlock → List Name
   names_with_block external b bs = names_of_sites (if external
       then sites_of_blocks (map (resolved_block text) bs)
@@ -198,7 +186,7 @@ module _ (text : Declared) where
       by_test : (e : Bool) → contains_name (names_of (variables_of_block b) ++ all_names bs) x ≡ false
           → AreAmong (own_names bs) (all_names bs)
           → contains_name (names_with_block e b bs) x ≡ false
-      by_test true g ih = ih x (neither (contains_name (names_of (variables_of_block b)) x)
+      by_test true g ih = ih x (or_parts (contains_name (names_of (variables_of_block b)) x)
           (contains_name (all_names bs) x)
           (sym (list_any-append (λ y. bytes_eq x y) (names_of (variables_of_block b)) (all_names bs)) ∙ g)).1
       by_test false g ih = ap (λ xs. contains_name xs x) (names_after b bs)
@@ -217,16 +205,16 @@ module _ (text : Declared) where
           ∙ fewer_differ (names_of (variables_of_block b)) (all_names bs) (own_names bs) (own_among bs)
           (ih (later_differ (names_of (variables_of_block b)) (all_names bs) g)) g
 
-  -- a unit; its own name is taken, so that no variable of it bears it
+  -- a unit; its own name is taken, so that none of its variables has it
   unit_differs : (taken : List Identifier) (u : OrganisationUnit) → repeats (variables_of u) ≡ []
       → list_any (is_taken taken) (variables_of u) ≡ false → list_any (is_named u.name.name) taken ≡ true
       → has_different_variables (resolved text u) ≡ true
   unit_differs taken u h free there = by_sort u.sort
     where
       by_sort : (s : UnitSort) → are_different (variable_names s (resolved text u)) ≡ true
-      by_sort (Function t) = both_are (not (contains_name (own_names u.blocks) u.name.name))
+      by_sort (Function t) = and_from (not (contains_name (own_names u.blocks) u.name.name))
           (are_different (own_names u.blocks))
-          (turned_back (contains_name (own_names u.blocks) u.name.name)
+          (not_from_false (contains_name (own_names u.blocks) u.name.name)
           (own_among u.blocks u.name.name (not_taken taken u.name.name there (variables_of u) free)))
           (own_differ u.blocks (not_repeated (variables_of u) h))
       by_sort FunctionBlock = own_differ u.blocks (not_repeated (variables_of u) h)
@@ -238,15 +226,15 @@ module _ (text : Declared) where
   definition_differs (array a) h = refl
   definition_differs (structure fs) h =
       ap are_different (names_of_fields fs)
-      ∙ not_repeated (map (λ f. f.name) fs) (joined_nothing (repeats (map (λ f. f.name) fs)) _ h).0
+      ∙ not_repeated (map (λ f. f.name) fs) (append_parts (repeats (map (λ f. f.name) fs)) _ h).0
   definition_differs (enumeration xs) h = refl
 
   types_differ : (ts : List TypeDeclaration) → flat_map repeats (flat_map (λ t. scopes_of_type t.definition) ts) ≡ []
       → list_all (λ t. has_different_fields t.definition) (map (resolved_type_declaration text) ts) ≡ true
   types_differ [] h = refl
   types_differ (t ∷ ts) h =
-      let b = flat_nothing repeats (scopes_of_type t.definition) (flat_map (λ t. scopes_of_type t.definition) ts) h in
-      both_are (has_different_fields (resolved_definition text t.definition))
+      let b = flat_parts repeats (scopes_of_type t.definition) (flat_map (λ t. scopes_of_type t.definition) ts) h in
+      and_from (has_different_fields (resolved_definition text t.definition))
       (list_all (λ t. has_different_fields t.definition) (map (resolved_type_declaration text) ts))
       (definition_differs t.definition b.0) (types_differ ts b.1)
 
@@ -283,15 +271,15 @@ module _ (text : Declared) where
   configuration_differs : (c : Configuration) → flat_map repeats (scopes_of_element (configuration c)) ≡ []
       → differs (record c { globals = map (resolved_globals text) c.globals }) ≡ true
   configuration_differs c h =
-      let b = flat_nothing repeats (globals_of c ∷ flat_map scopes_in_globals c.globals)
+      let b = flat_parts repeats (globals_of c ∷ flat_map scopes_in_globals c.globals)
       (map (λ r. r.name) c.resources ∷ map names_in c.resources) h in
-      let g = joined_nothing (repeats (globals_of c)) (flat_map repeats (flat_map scopes_in_globals c.globals)) b.0 in
+      let g = append_parts (repeats (globals_of c)) (flat_map repeats (flat_map scopes_in_globals c.globals)) b.0 in
       let names = map (λ r. r.name) c.resources in
-      let r = joined_nothing (repeats names) (flat_map repeats (map names_in c.resources)) b.1 in
-      both_are (are_different (map (λ v. v.name) (variables_of_globals (map (resolved_globals text) c.globals))))
+      let r = append_parts (repeats names) (flat_map repeats (map names_in c.resources)) b.1 in
+      and_from (are_different (map (λ v. v.name) (variables_of_globals (map (resolved_globals text) c.globals))))
       (are_different (map (λ r. r.name.name) c.resources) && list_all has_different_instances c.resources)
       (ap are_different (names_of_globals c.globals) ∙ not_repeated (globals_of c) g.0)
-      (both_are (are_different (map (λ r. r.name.name) c.resources)) (list_all has_different_instances c.resources)
+      (and_from (are_different (map (λ r. r.name.name) c.resources)) (list_all has_different_instances c.resources)
       (ap are_different (sym (map_map (λ x. x.name) (λ r. r.name) c.resources))
       ∙ not_repeated names r.0)
       (instances_differ c.resources r.1))
@@ -302,7 +290,7 @@ module _ (text : Declared) where
 
   first_scopes : (e : LibraryElement) (rest : Source) → flat_map repeats (flat_map scopes_of_element (e ∷ rest)) ≡ []
       → (flat_map repeats (scopes_of_element e) ≡ []) × (flat_map repeats (flat_map scopes_of_element rest) ≡ [])
-  first_scopes e rest h = flat_nothing repeats (scopes_of_element e) (flat_map scopes_of_element rest) h
+  first_scopes e rest h = flat_parts repeats (scopes_of_element e) (flat_map scopes_of_element rest) h
 
   types_of_text_differ : (source : Source) → flat_map repeats (flat_map scopes_of_element source) ≡ []
       → list_all (λ t. has_different_fields t.definition) (types_in (resolved_text source)) ≡ true
@@ -322,7 +310,7 @@ module _ (text : Declared) where
         → (x : Name) → list_any (is_named x) (names_of_text rest) ≡ true → list_any (is_named x) taken ≡ true
     named_later e rest named x h =
         named x (list_any-append (is_named x) (names_of_element e) (names_of_text rest)
-        ∙ or_later (list_any (is_named x) (names_of_element e)) (list_any (is_named x) (names_of_text rest)) h)
+        ∙ or_right (list_any (is_named x) (names_of_element e)) (list_any (is_named x) (names_of_text rest)) h)
 
     units_of_text_differ : (source : Source) → flat_map repeats (flat_map scopes_of_element source) ≡ []
         → list_any (is_taken taken) (variables_of_text source) ≡ false
@@ -334,13 +322,13 @@ module _ (text : Declared) where
     units_of_text_differ (unit u ∷ rest) h free named =
         let b = first_scopes (unit u) rest h in
         let own = variables_of u in
-        let v = joined_nothing (repeats own) (flat_map repeats (flat_map scopes_in_variables u.blocks)) b.0 in
-        let f = neither (list_any (is_taken taken) own) (list_any (is_taken taken) (variables_of_text rest))
+        let v = append_parts (repeats own) (flat_map repeats (flat_map scopes_in_variables u.blocks)) b.0 in
+        let f = or_parts (list_any (is_taken taken) own) (list_any (is_taken taken) (variables_of_text rest))
         (sym (list_any-append (is_taken taken) own (variables_of_text rest)) ∙ free) in
-        both_are (has_different_variables (resolved text u))
+        and_from (has_different_variables (resolved text u))
         (list_all has_different_variables (units_in (resolved_text rest)))
         (unit_differs taken u v.0 f.0 (named u.name.name
-        (or_here (is_named u.name.name u.name) (list_any (is_named u.name.name) (names_of_text rest))
+        (or_left (is_named u.name.name u.name) (list_any (is_named u.name.name) (names_of_text rest))
         (name_itself u.name.name))))
         (units_of_text_differ rest b.1 f.1 (named_later (unit u) rest named))
     units_of_text_differ (configuration c ∷ rest) h free named =
@@ -354,35 +342,35 @@ module _ (text : Declared) where
   configurations_differ (unit u ∷ rest) h = configurations_differ rest (first_scopes (unit u) rest h).1
   configurations_differ (configuration c ∷ rest) h =
       let b = first_scopes (configuration c) rest h in
-      both_are (differs (record c { globals = map (resolved_globals text) c.globals }))
+      and_from (differs (record c { globals = map (resolved_globals text) c.globals }))
       (list_all differs (configurations_in (resolved_text rest)))
       (configuration_differs c b.0) (configurations_differ rest b.1)
 
 -- the rule on names
 not_declared_twice : (source : Source) → IsWellTyped source → twice_declared source ≡ []
 not_declared_twice source h =
-    let a = joined_nothing _ (wrong_bodies source) h in
-    let b = joined_nothing (wrong_declarations source ++ wrong_types source) (wrong_starts source) a.0 in
-    let c = joined_nothing (wrong_declarations source) (wrong_types source) b.0 in
-    mapped_nothing (λ p. record { rule = DeclaredTwice; place = p }) (twice_declared source)
+    let a = append_parts _ (wrong_bodies source) h in
+    let b = append_parts (wrong_declarations source ++ wrong_types source) (wrong_starts source) a.0 in
+    let c = append_parts (wrong_declarations source) (wrong_types source) b.0 in
+    none_mapped (λ p. record { rule = DeclaredTwice; place = p }) (twice_declared source)
     (first_of_five (breaking DeclaredTwice (twice_declared source)) _ _ _ _ c.0)
   where
     first_of_five : {A : Type 0} (xs ys zs us vs : List A) → xs ++ ys ++ zs ++ us ++ vs ≡ [] → xs ≡ []
     first_of_five xs ys zs us vs g =
-        let a = joined_nothing (xs ++ ys ++ zs ++ us) vs g in
-        let b = joined_nothing (xs ++ ys ++ zs) us a.0 in
-        (joined_nothing xs ys (joined_nothing (xs ++ ys) zs b.0).0).0
+        let a = append_parts (xs ++ ys ++ zs ++ us) vs g in
+        let b = append_parts (xs ++ ys ++ zs) us a.0 in
+        (append_parts xs ys (append_parts (xs ++ ys) zs b.0).0).0
 
 pub names_differ : (source : Source) → twice_declared source ≡ [] → has_different_names source ≡ true
 names_differ source h =
     let names = names_of_text source in
     let text = declared_in source in
-    let a = joined_nothing (flat_map repeats (scopes_of source) ++ places_where (λ x. is_standard x.name) names)
+    let a = append_parts (flat_map repeats (scopes_of source) ++ places_where (λ x. is_standard x.name) names)
     (places_where (is_taken names) (variables_of_text source)) h in
-    let b = joined_nothing (flat_map repeats (scopes_of source)) (places_where (λ x. is_standard x.name) names) a.0 in
-    let s = joined_nothing (repeats names) (flat_map repeats (flat_map scopes_of_element source)) b.0 in
-    both_are (are_types_and_units_different (declared_of source)) (is_configuration_different (configuration_of source))
-    (both_are (list_all (λ t. has_different_fields t.definition) (types_in (resolved_source source)))
+    let b = append_parts (flat_map repeats (scopes_of source)) (places_where (λ x. is_standard x.name) names) a.0 in
+    let s = append_parts (repeats names) (flat_map repeats (flat_map scopes_of_element source)) b.0 in
+    and_from (are_types_and_units_different (declared_of source)) (is_configuration_different (configuration_of source))
+    (and_from (list_all (λ t. has_different_fields t.definition) (types_in (resolved_source source)))
     (list_all has_different_variables (units_in (resolved_source source)))
     (types_of_text_differ text source s.1)
     (units_of_text_differ text names source s.1

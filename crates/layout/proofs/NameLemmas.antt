@@ -1,4 +1,4 @@
--- Where names stand once in their scopes, each path of the layout stands once.
+-- If each name occurs once in its scope, each path of the layout occurs once.
 use Rattle.std.proofs.Common.{◌≡◌, ℕ, zero, suc, Bool, true, false, not, ◌&&◌, ◌||◌, if◌then◌else◌, List, [], ◌∷◌, ◌++◌}
 use Rattle.std.proofs.Common.{map}
 use Rattle.std.proofs.Common.{Option, Some, None, refl, sym, ap, ap₂, ◌∙◌}
@@ -38,19 +38,21 @@ use Rattle.layout.specs.LayoutVariables.{program_sites}
 use Rattle.layout.specs.LayoutVariables.{owner_in, variables_of_instances, variables_of_resources}
 use Rattle.layout.specs.LayoutVariables.{variables_of_configuration}
 use Rattle.layout.specs.TextLayouts.{variable_shape}
-use Rattle.layout.specs.Standing.{is_named_so, has_variable, are_declared_once}
+use Rattle.layout.specs.VariableSlots.{is_variable, has_variable, are_declared_once}
 use Rattle.layout.specs.Names.{are_different, names_of_sites, has_different_fields, variable_names}
 use Rattle.layout.specs.Names.{has_different_variables, are_types_and_units_different, has_different_instances}
 use Rattle.layout.specs.Names.{is_configuration_different}
-use Rattle.layout.proofs.ListLemmas.{both, both_are, turned, turned_back, neither, any_append}
-use Rattle.layout.proofs.VariableLemmas.{owner_itself}
+use Rattle.std.proofs.lemmas.Bool.{not_from_false, or_parts, and_parts, and_from, and_left, and_right}
+use Rattle.st_types.proofs.TestLemmas.{false_from_not}
+use Rattle.std.proofs.lemmas.List.Folds.{list_any-append}
+use Rattle.st_types.specs.Comparisons.{same_owner_itself}
 
--- what is looked up is one of the list
+-- a result of a look-up is in the list
 found_type : (ts : List TypeDeclaration) → list_all (λ t. has_different_fields t.definition) ts ≡ true → (x : Name)
     → (d : TypeDefinition) → type_named ts x ≡ Some d → has_different_fields d ≡ true
 found_type [] all x d h = absurd (cc)
 found_type (t ∷ ts) all x d h =
-    let b = both (has_different_fields t.definition) (list_all (λ t. has_different_fields t.definition) ts) all in
+    let b = and_parts (has_different_fields t.definition) (list_all (λ t. has_different_fields t.definition) ts) all in
     by_test (is_named x t.name) h b.0 (found_type ts b.1 x d)
   where
     by_test : (s : Bool) → (if s then Some t.definition else type_named ts x) ≡ Some d
@@ -63,7 +65,7 @@ pub found_unit : (us : List OrganisationUnit) → list_all has_different_variabl
     → (u : OrganisationUnit) → unit_named us x ≡ Some u → has_different_variables u ≡ true
 found_unit [] all x u h = absurd (cc)
 found_unit (v ∷ us) all x u h =
-    let b = both (has_different_variables v) (list_all has_different_variables us) all in
+    let b = and_parts (has_different_variables v) (list_all has_different_variables us) all in
     by_test (is_named x v.name) h b.0 (found_unit us b.1 x u)
   where
     by_test : (s : Bool) → (if s then Some v else unit_named us x) ≡ Some u → has_different_variables v ≡ true
@@ -71,7 +73,7 @@ found_unit (v ∷ us) all x u h =
     by_test true g here ih = let e : v ≡ u = cc in ap has_different_variables (sym e) ∙ here
     by_test false g here ih = ih g
 
--- parts of what is composed so have different names
+-- the parts of such a composition have different names
 abbrev parts_differ : Composition → Bool
 parts_differ (of_kind k) = true
 parts_differ (of_elements a) = true
@@ -95,11 +97,11 @@ standard_members TP = refl
 
 module _ (text : Declared) (differ : are_types_and_units_different text ≡ true) where
   types_differ : list_all (λ t. has_different_fields t.definition) text.types ≡ true
-  types_differ = (both (list_all (λ t. has_different_fields t.definition) text.types)
+  types_differ = (and_parts (list_all (λ t. has_different_fields t.definition) text.types)
       (list_all has_different_variables text.units) differ).0
 
   units_differ : list_all has_different_variables text.units ≡ true
-  units_differ = (both (list_all (λ t. has_different_fields t.definition) text.types)
+  units_differ = (and_parts (list_all (λ t. has_different_fields t.definition) text.types)
       (list_all has_different_variables text.units) differ).1
 
   by_sort : (s : UnitSort) (u : OrganisationUnit) → are_different (variable_names s u) ≡ true
@@ -172,11 +174,11 @@ module _ (inner : VariableType → Shape) (ih : (t : VariableType) → is_sound 
       → are_sound (parts_of inner ds) ≡ true
   sound_parts [] h = refl
   sound_parts (d ∷ ds) h =
-      let b = both (not (contains_name (names_of_sites ds) d.name)) (are_different (names_of_sites ds)) h in
-      both_are (not (has_name (parts_of inner ds) d.name))
+      let b = and_parts (not (contains_name (names_of_sites ds) d.name)) (are_different (names_of_sites ds)) h in
+      and_from (not (has_name (parts_of inner ds) d.name))
       (is_sound (inner d.site.declared) && are_sound (parts_of inner ds))
       (ap not (has_name_of ds d.name) ∙ b.0)
-      (both_are (is_sound (inner d.site.declared)) (are_sound (parts_of inner ds)) (ih d.site.declared)
+      (and_from (is_sound (inner d.site.declared)) (are_sound (parts_of inner ds)) (ih d.site.declared)
       (sound_parts ds b.1))
 
   sound_composition : (c : Composition) → parts_differ c ≡ true → is_sound (composed_shape inner c) ≡ true
@@ -192,7 +194,7 @@ sound_within text differ (suc n) t =
     sound_composition (shape_within n text) (λ u. sound_within text differ n u) (composition_of text t)
     (parts_different text differ t)
 
--- no two variables of one owner have one name
+-- no two variables of one owner have the same name
 abbrev are_apart : List Owned → Bool
 are_apart [] = true
 are_apart (v ∷ vs) = not (has_variable vs v.owner v.name) && are_apart vs
@@ -201,9 +203,9 @@ once_if_sound : (text : Declared) → are_types_and_units_different text ≡ tru
     → are_apart vs ≡ true → are_declared_once text vs ≡ true
 once_if_sound text differ [] h = refl
 once_if_sound text differ (v ∷ vs) h =
-    let b = both (not (has_variable vs v.owner v.name)) (are_apart vs) h in
-    both_are (not (has_variable vs v.owner v.name)) (is_sound (variable_shape text v) && are_declared_once text vs) b.0
-    (both_are (is_sound (variable_shape text v)) (are_declared_once text vs)
+    let b = and_parts (not (has_variable vs v.owner v.name)) (are_apart vs) h in
+    and_from (not (has_variable vs v.owner v.name)) (is_sound (variable_shape text v) && are_declared_once text vs) b.0
+    (and_from (is_sound (variable_shape text v)) (are_declared_once text vs)
     (sound_within text differ MAX_TYPE_DEPTH v.site.declared) (once_if_sound text differ vs b.1))
 
 -- variables of one owner
@@ -218,7 +220,7 @@ has_variable_of : (o : Option Owner) (vs : List Owned) → AreOwnedBy o vs → (
     → has_variable vs o x ≡ contains_name (names_among vs) x
 has_variable_of o [] h x = refl
 has_variable_of o (v ∷ vs) h x =
-    let i = owner_itself o in let e : same_owner o v.owner ≡ true = ap (same_owner o) h.0 ∙ i in
+    let i = same_owner_itself o in let e : same_owner o v.owner ≡ true = ap (same_owner o) h.0 ∙ i in
     ap₂ (λ a b. a || b) (ap (λ a. a && bytes_eq x v.name) e) (has_variable_of o vs h.1 x)
 
 has_no_variable : (o p : Option Owner) → same_owner o p ≡ false → (vs : List Owned) → AreOwnedBy p vs → (x : Name)
@@ -232,8 +234,8 @@ one_owner : (o : Option Owner) (vs : List Owned) → AreOwnedBy o vs → are_dif
     → are_apart vs ≡ true
 one_owner o [] h d = refl
 one_owner o (v ∷ vs) h d =
-    let b = both (not (contains_name (names_among vs) v.name)) (are_different (names_among vs)) d in
-    both_are (not (has_variable vs v.owner v.name)) (are_apart vs)
+    let b = and_parts (not (contains_name (names_among vs) v.name)) (are_different (names_among vs)) d in
+    and_from (not (has_variable vs v.owner v.name)) (are_apart vs)
     (ap (λ p. not (has_variable vs p v.name)) h.0 ∙ ap not (has_variable_of o vs h.1 v.name) ∙ b.0)
     (one_owner o vs h.1 b.1)
 
@@ -242,12 +244,12 @@ joined : (o : Option Owner) (vs ws : List Owned) → AreOwnedBy o vs → ((x : N
     → are_apart vs ≡ true → are_apart ws ≡ true → are_apart (vs ++ ws) ≡ true
 joined o [] ws h others d e = e
 joined o (v ∷ vs) ws h others d e =
-    let b = both (not (has_variable vs v.owner v.name)) (are_apart vs) d in
+    let b = and_parts (not (has_variable vs v.owner v.name)) (are_apart vs) d in
     let n : has_variable ws v.owner v.name ≡ false = ap (λ p. has_variable ws p v.name) h.0 ∙ others v.name in
-    both_are (not (has_variable (vs ++ ws) v.owner v.name)) (are_apart (vs ++ ws))
-    (turned_back (has_variable (vs ++ ws) v.owner v.name)
-    (any_append (is_named_so v.owner v.name) vs ws
-    ∙ ap₂ (λ a b. a || b) (turned (has_variable vs v.owner v.name) b.0) n))
+    and_from (not (has_variable (vs ++ ws) v.owner v.name)) (are_apart (vs ++ ws))
+    (not_from_false (has_variable (vs ++ ws) v.owner v.name)
+    (list_any-append (is_variable v.owner v.name) vs ws
+    ∙ ap₂ (λ a b. a || b) (false_from_not (has_variable vs v.owner v.name) b.0) n))
     (joined o vs ws h.1 others b.1 e)
 
 -- the variables of a unit
@@ -296,14 +298,6 @@ owned_globals (b ∷ bs) =
 abbrev owner : Name → Name → Owner
 owner r i = record { resource = r; instance = i }
 
-no_owner : (a b : Bool) → a ≡ false → (a && b) ≡ false
-no_owner true b h = absurd (cc)
-no_owner false b h = refl
-
-no_instance : (a b : Bool) → b ≡ false → (a && b) ≡ false
-no_instance true b h = h
-no_instance false b h = refl
-
 module _ (text : Declared) where
   abbrev variables_at : Name → Instance → List Owned
   variables_at r i =
@@ -313,7 +307,7 @@ module _ (text : Declared) where
       → same_owner o (Some (owner_in r i)) ≡ false → has_variable rest o x ≡ false
       → has_variable (variables_at r i ++ rest) o x ≡ false
   not_in o x r i rest d h =
-      any_append (is_named_so o x) (variables_at r i) rest
+      list_any-append (is_variable o x) (variables_at r i) rest
       ∙ ap₂ (λ a b. a || b) (has_no_variable o (Some (owner_in r i)) d (variables_at r i)
       (owned_variables (Some (owner_in r i)) (program_sites (unit_named text.units i.program.name))) x) h
 
@@ -322,23 +316,23 @@ module _ (text : Declared) where
       → (x : Name) → has_variable (variables_of_instances text r is) (Some (owner r' i')) x ≡ false
   other_instances r r' i' [] h x = refl
   other_instances r r' i' (i ∷ is) h x =
-      let n = neither (bytes_eq i' i.name.name) (contains_name (map (λ i. i.name.name) is) i') h in
+      let n = or_parts (bytes_eq i' i.name.name) (contains_name (map (λ i. i.name.name) is) i') h in
       not_in (Some (owner r' i')) x r i (variables_of_instances text r is)
-      (no_instance (bytes_eq r' r) (bytes_eq i' i.name.name) n.0) (other_instances r r' i' is n.1 x)
+      (and_right (bytes_eq r' r) (bytes_eq i' i.name.name) n.0) (other_instances r r' i' is n.1 x)
 
   other_resource : (r r' i' : Name) → bytes_eq r' r ≡ false → (is : List Instance) (x : Name)
       → has_variable (variables_of_instances text r is) (Some (owner r' i')) x ≡ false
   other_resource r r' i' d [] x = refl
   other_resource r r' i' d (i ∷ is) x =
       not_in (Some (owner r' i')) x r i (variables_of_instances text r is)
-      (no_owner (bytes_eq r' r) (bytes_eq i' i.name.name) d) (other_resource r r' i' d is x)
+      (and_left (bytes_eq r' r) (bytes_eq i' i.name.name) d) (other_resource r r' i' d is x)
 
   other_resources : (r' i' : Name) (rs : List Resource) → contains_name (map (λ r. r.name.name) rs) r' ≡ false
       → (x : Name) → has_variable (variables_of_resources text rs) (Some (owner r' i')) x ≡ false
   other_resources r' i' [] h x = refl
   other_resources r' i' (r ∷ rs) h x =
-      let n = neither (bytes_eq r' r.name.name) (contains_name (map (λ r. r.name.name) rs) r') h in
-      any_append (is_named_so (Some (owner r' i')) x) (variables_of_instances text r.name.name r.instances)
+      let n = or_parts (bytes_eq r' r.name.name) (contains_name (map (λ r. r.name.name) rs) r') h in
+      list_any-append (is_variable (Some (owner r' i')) x) (variables_of_instances text r.name.name r.instances)
       (variables_of_resources text rs)
       ∙ ap₂ (λ a b. a || b) (other_resource r.name.name r' i' n.0 r.instances x) (other_resources r' i' rs n.1 x)
 
@@ -350,7 +344,7 @@ module _ (text : Declared) where
   unowned_resources : (rs : List Resource) (x : Name) → has_variable (variables_of_resources text rs) None x ≡ false
   unowned_resources [] x = refl
   unowned_resources (r ∷ rs) x =
-      any_append (is_named_so None x) (variables_of_instances text r.name.name r.instances)
+      list_any-append (is_variable None x) (variables_of_instances text r.name.name r.instances)
       (variables_of_resources text rs)
       ∙ ap₂ (λ a b. a || b) (unowned_instances r.name.name r.instances x) (unowned_resources rs x)
 
@@ -378,14 +372,14 @@ module _ (text : Declared) where
         → are_apart rest ≡ true → are_apart (variables_of_instances text r is ++ rest) ≡ true
     instances_differ r [] rest d others h = h
     instances_differ r (i ∷ is) rest d others h =
-        let b = both (not (contains_name (map (λ i. i.name.name) is) i.name.name))
+        let b = and_parts (not (contains_name (map (λ i. i.name.name) is) i.name.name))
         (are_different (map (λ i. i.name.name) is)) d in
         ap are_apart (append_again (variables_at r i) (variables_of_instances text r is) rest)
         ∙ joined (Some (owner_in r i)) (variables_at r i) (variables_of_instances text r is ++ rest)
         (owned_variables (Some (owner_in r i)) (program_sites (unit_named text.units i.program.name)))
-        (λ x. any_append (is_named_so (Some (owner_in r i)) x) (variables_of_instances text r is) rest
+        (λ x. list_any-append (is_variable (Some (owner_in r i)) x) (variables_of_instances text r is) rest
         ∙ ap₂ (λ a b. a || b)
-        (other_instances r r i.name.name is (turned (contains_name (map (λ i. i.name.name) is) i.name.name) b.0) x)
+        (other_instances r r i.name.name is (false_from_not (contains_name (map (λ i. i.name.name) is) i.name.name) b.0) x)
         (others i.name.name x))
         (variables_differ (Some (owner_in r i)) (program_sites (unit_named text.units i.program.name))
         (program_differs i.program.name))
@@ -399,20 +393,20 @@ module _ (text : Declared) where
         → list_all has_different_instances rs ≡ true → are_apart (variables_of_resources text rs) ≡ true
     resources_differ [] d h = refl
     resources_differ (r ∷ rs) d h =
-        let b = both (not (contains_name (map (λ r. r.name.name) rs) r.name.name))
+        let b = and_parts (not (contains_name (map (λ r. r.name.name) rs) r.name.name))
         (are_different (map (λ r. r.name.name) rs)) d in
-        let c = both (has_different_instances r) (list_all has_different_instances rs) h in
+        let c = and_parts (has_different_instances r) (list_all has_different_instances rs) h in
         instances_differ r.name.name r.instances (variables_of_resources text rs) c.0
-        (λ i x. other_resources r.name.name i rs (turned (contains_name (map (λ r. r.name.name) rs) r.name.name) b.0) x)
+        (λ i x. other_resources r.name.name i rs (false_from_not (contains_name (map (λ r. r.name.name) rs) r.name.name) b.0) x)
         (resources_differ rs b.1 c.1)
 
     configuration_differs : (c : Option Configuration) → is_configuration_different c ≡ true
         → are_apart (variables_of_configuration text c) ≡ true
     configuration_differs None h = refl
     configuration_differs (Some c) h =
-        let b = both (are_different (names_among (variables_of_globals c.globals)))
+        let b = and_parts (are_different (names_among (variables_of_globals c.globals)))
         (are_different (map (λ r. r.name.name) c.resources) && list_all has_different_instances c.resources) h in
-        let d = both (are_different (map (λ r. r.name.name) c.resources))
+        let d = and_parts (are_different (map (λ r. r.name.name) c.resources))
         (list_all has_different_instances c.resources) b.1 in
         joined None (variables_of_globals c.globals) (variables_of_resources text c.resources) (owned_globals c.globals)
         (unowned_resources c.resources)

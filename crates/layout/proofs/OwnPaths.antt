@@ -11,9 +11,12 @@ use Rattle.st_meaning.specs.Slots.{Slot}
 use Rattle.layout.specs.Shapes.{Leaf, is_sound}
 use Rattle.layout.specs.LayoutVariables.{Owned}
 use Rattle.layout.specs.TextLayouts.{variable_shape, leaves_of_variable, slot_of_leaf, slots_of_variable, slots_of}
-use Rattle.layout.specs.Standing.{path_to, is_named_so, has_variable, are_declared_once, variable_at, later}
-use Rattle.layout.proofs.ListLemmas.{map_some, both, turned, neither}
+use Rattle.layout.specs.VariableSlots.{path_to, is_variable, has_variable, are_declared_once, variable_at, later}
 use Rattle.layout.proofs.VariableLemmas.{variable_is}
+use Rattle.std.proofs.lemmas.Bool.{or_parts, and_parts}
+use Rattle.st_types.proofs.OptionLemmas.{map_some}
+use Rattle.st_types.proofs.TestLemmas.{false_from_not}
+use Rattle.std.proofs.lemmas.List.{append-nil}
 
 abbrev pub own_among : Option Owner → Name → List Slot → List Slot
 own_among o x ls = filter (λ l. is_within (path_to o x) l.path) ls
@@ -28,11 +31,7 @@ filter_append p (x ∷ xs) ys = by_test (p x) (filter_append p xs ys)
     by_test true h = ap (λ zs. x ∷ zs) h
     by_test false h = h
 
-nothing_behind : {A : Type 0} (xs : List A) → xs ++ [] ≡ xs
-nothing_behind [] = refl
-nothing_behind (x ∷ xs) = ap (λ ys. x ∷ ys) (nothing_behind xs)
-
-own_leaves : (o : Option Owner) (x : Name) (v : Owned) (b : Bool) → is_named_so o x v ≡ b → (ls : List Leaf)
+own_leaves : (o : Option Owner) (x : Name) (v : Owned) (b : Bool) → is_variable o x v ≡ b → (ls : List Leaf)
     → own_among o x (map (slot_of_leaf v) ls) ≡ (if b then map (slot_of_leaf v) ls else [])
 own_leaves o x v true e [] = refl
 own_leaves o x v false e [] = refl
@@ -44,7 +43,7 @@ module _ (text : Declared) where
       → own_among o x (slots_of text vs) ≡ []
   none_own [] o x h = refl
   none_own (v ∷ vs) o x h =
-      let n = neither (is_named_so o x v) (has_variable vs o x) h in
+      let n = or_parts (is_variable o x v) (has_variable vs o x) h in
       filter_append (λ l. is_within (path_to o x) l.path) (slots_of_variable text v) (slots_of text vs)
       ∙ ap₂ (λ a b. a ++ b) (own_leaves o x v false n.0 (leaves_of_variable text v)) (none_own vs o x n.1)
 
@@ -52,7 +51,7 @@ module _ (text : Declared) where
       → has_variable vs v.owner v.name ≡ false
       → ((f : ℕ × Owned) → variable_at text vs o x ≡ Some f → own_among o x (slots_of text vs)
       ≡ slots_of_variable text f.1)
-      → (b : Bool) → is_named_so o x v ≡ b
+      → (b : Bool) → is_variable o x v ≡ b
       → (if b then Some (0, v) else option_map (later text v) (variable_at text vs o x))
       ≡ Some e
       → own_among o x (slots_of_variable text v ++ slots_of text vs) ≡ slots_of_variable text e.1
@@ -62,7 +61,7 @@ module _ (text : Declared) where
       none_own vs o x (ap (λ p. has_variable vs p.owner p.name) (variable_is o x v r) ∙ new) in
       filter_append (λ l. is_within (path_to o x) l.path) (slots_of_variable text v) (slots_of text vs)
       ∙ ap₂ (λ a b. a ++ b) (own_leaves o x v true r (leaves_of_variable text v)) n
-      ∙ nothing_behind (slots_of_variable text v) ∙ ap (λ d. slots_of_variable text d.1) q
+      ∙ append-nil (slots_of_variable text v) ∙ ap (λ d. slots_of_variable text d.1) q
   own_cases v vs o x e new ih false r h =
       let i = map_some (later text v) (variable_at text vs o x) e h in
       filter_append (λ l. is_within (path_to o x) l.path) (slots_of_variable text v) (slots_of text vs)
@@ -73,8 +72,8 @@ module _ (text : Declared) where
       → variable_at text vs o x ≡ Some e → own_among o x (slots_of text vs) ≡ slots_of_variable text e.1
   own_slots [] once o x e h = absurd (cc)
   own_slots (v ∷ vs) once o x e h =
-      let a = both (not (has_variable vs v.owner v.name))
+      let a = and_parts (not (has_variable vs v.owner v.name))
       (is_sound (variable_shape text v) && are_declared_once text vs) once in
-      let b = both (is_sound (variable_shape text v)) (are_declared_once text vs) a.1 in
-      own_cases v vs o x e (turned (has_variable vs v.owner v.name) a.0) (λ f g. own_slots vs b.1 o x f g)
-      (is_named_so o x v) refl h
+      let b = and_parts (is_sound (variable_shape text v)) (are_declared_once text vs) a.1 in
+      own_cases v vs o x e (false_from_not (has_variable vs v.owner v.name) a.0) (λ f g. own_slots vs b.1 o x f g)
+      (is_variable o x v) refl h

@@ -3,6 +3,7 @@ use Rattle.std.proofs.Common.{◌≡◌, refl, sym, ap, ap₂, ◌∙◌, arith,
 use Rattle.std.proofs.Common.{false, not, ◌&&◌, if◌then◌else◌, Option, Some, None, Result, Ok, Err, filter}
 use Rattle.std.specs.Prelude.{option_and_then}
 use Rattle.std.specs.List.{list_all}
+use Rattle.std.proofs.lemmas.Bool.{and_parts}
 use Rattle.st_types.specs.declared.kind.Kind.{Kind}
 use Rattle.st_types.specs.Kinds.{holds, same_kind}
 use Rattle.st_types.specs.Values.{Datum}
@@ -21,13 +22,16 @@ use Rattle.layout.specs.LayoutVariables.{Owned}
 use Rattle.layout.specs.TextLayouts.{variable_path, variable_shape, slot_of_leaf, slots_of}
 use Rattle.layout.specs.TextLayouts.{variable_of_leaf, plan_variables_of, input_of_leaf, plan_inputs_of}
 use Rattle.layout.specs.TextLayouts.{leaves_of_variable, initial_image}
-use Rattle.layout.specs.Standing.{are_declared_once, has_variable}
+use Rattle.layout.specs.VariableSlots.{are_declared_once, has_variable}
 use Rattle.layout.specs.Layouts.{are_expandable, layout_size, layout_slots}
 use Rattle.layout.specs.Slots.{slot_at, slots_within}
 use Rattle.layout.specs.KeptLayouts.{slot_view, variable_of, input_of, variables_among, inputs_among, image_among}
 use Rattle.layout.specs.KeptLayouts.{retains_no_input}
 use Rattle.layout.specs.declared.slots.LayoutSlot.{LayoutSlot}
-use Rattle.layout.proofs.LayoutLemmas.{both_sound, length_layout}
+use Rattle.layout.proofs.LayoutLemmas.{length_layout}
+use Rattle.std.proofs.lemmas.List.{map-append}
+use Rattle.st_types.proofs.ListLemmas.{length_map}
+use Rattle.layout.proofs.OwnPaths.{filter_append}
 
 -- An initial value is one of its type.
 abbrev IsOfType : Kind → Option Datum → Type 0
@@ -39,7 +43,7 @@ fitting_type k (Err e) = tt
 fitting_type k (Ok v) = by_test (may_replace (default_of k) v) refl
   where
     by_test : (b : Bool) → may_replace (default_of k) v ≡ b → IsOfType k (if b then Some v else None)
-    by_test true h = sym (same_kind_is k v.kind (both_sound (same_kind k v.kind) (holds v.kind v.number) h).0)
+    by_test true h = sym (same_kind_is k v.kind (and_parts (same_kind k v.kind) (holds v.kind v.number) h).0)
     by_test false h = tt
 
 constant_type : (k : Kind) (i : Option Initial) → IsOfType k (constant_of k i)
@@ -60,21 +64,6 @@ initial_type : (text : Declared) (s : Site) (l : Leaf) → (initial_at text s l.
 initial_type text s l =
     value_type l.kind (option_and_then (λ u. constant_of l.kind u.initial) (site_at text s l.steps))
     (site_type l.kind (site_at text s l.steps))
-
--- lists
-map_append : {A B : Type 0} (f : A → B) (xs ys : List A) → map f (xs ++ ys) ≡ map f xs ++ map f ys
-map_append f [] ys = refl
-map_append f (x ∷ xs) ys = ap (λ zs. f x ∷ zs) (map_append f xs ys)
-
-filter_append : {A : Type 0} (f : A → Bool) (xs ys : List A) → filter f (xs ++ ys) ≡ filter f xs ++ filter f ys
-filter_append f [] ys = refl
-filter_append f (x ∷ xs) ys = by_test (f x) (filter_append f xs ys)
-  where
-    by_test : (b : Bool) → filter f (xs ++ ys) ≡ filter f xs ++ filter f ys
-        → (if b then x ∷ filter f (xs ++ ys) else filter f (xs ++ ys))
-        ≡ (if b then x ∷ filter f xs else filter f xs) ++ filter f ys
-    by_test true h = ap (λ zs. x ∷ zs) h
-    by_test false h = h
 
 -- slots of one variable
 started_type : (text : Declared) (v : Owned) (l : Leaf)
@@ -116,16 +105,16 @@ no_inputs_seen text v e (l ∷ ls) = let h = no_inputs_seen text v e ls in rw (e
 pub slots_are : (text : Declared) (vs : List Owned) → map slot_view (layout_slots text vs) ≡ slots_of text vs
 slots_are text [] = refl
 slots_are text (v ∷ vs) =
-    map_append slot_view (slots_within MAX_TYPE_DEPTH text v.site v.is_input (variable_path v)) (layout_slots text vs)
+    map-append slot_view (slots_within MAX_TYPE_DEPTH text v.site v.is_input (variable_path v)) (layout_slots text vs)
     ∙ ap₂ (λ xs ys. xs ++ ys) (slots_seen text v (leaves_of_variable text v)) (slots_are text vs)
 
 variables_apart : (xs ys : List LayoutSlot) → variables_among (xs ++ ys) ≡ variables_among xs ++ variables_among ys
 variables_apart xs ys = ap (map variable_of) (filter_append (λ s. not s.is_input) xs ys)
-    ∙ map_append variable_of (filter (λ s. not s.is_input) xs) (filter (λ s. not s.is_input) ys)
+    ∙ map-append variable_of (filter (λ s. not s.is_input) xs) (filter (λ s. not s.is_input) ys)
 
 inputs_apart : (xs ys : List LayoutSlot) → inputs_among (xs ++ ys) ≡ inputs_among xs ++ inputs_among ys
 inputs_apart xs ys = ap (map input_of) (filter_append (λ s. s.is_input) xs ys)
-    ∙ map_append input_of (filter (λ s. s.is_input) xs) (filter (λ s. s.is_input) ys)
+    ∙ map-append input_of (filter (λ s. s.is_input) xs) (filter (λ s. s.is_input) ys)
 
 pub variables_are : (text : Declared) (vs : List Owned)
     → variables_among (layout_slots text vs) ≡ plan_variables_of text vs
@@ -157,24 +146,19 @@ inputs_are text (v ∷ vs) =
     by_test true e = ap (λ xs. xs ++ plan_inputs_of text vs) (inputs_seen text v e (leaves_of_variable text v))
     by_test false e = ap (λ xs. xs ++ plan_inputs_of text vs) (no_inputs_seen text v e (leaves_of_variable text v))
 
--- how many
-pub length_map : {A B : Type 0} (f : A → B) (xs : List A) → length (map f xs) ≡ length xs
-length_map f [] = refl
-length_map f (x ∷ xs) = let h = length_map f xs in omega arith
-
 pub length_slots_of : (count : (sh : Shape) → length (leaves_of sh) ≡ size sh) (text : Declared) (vs : List Owned)
     → length (slots_of text vs) ≡ layout_size text vs
 length_slots_of count text vs =
     ap length (sym (slots_are text vs)) ∙ length_map slot_view (layout_slots text vs) ∙ length_layout count text vs
 
--- Variables that are declared once have parts that are.
+-- Variables that are declared once have parts that are declared once.
 pub once_expandable : (text : Declared) (vs : List Owned) → are_declared_once text vs ≡ true
     → are_expandable text vs ≡ true
 once_expandable text [] h = refl
 once_expandable text (v ∷ vs) h =
-    let a = both_sound (not (has_variable vs v.owner v.name))
+    let a = and_parts (not (has_variable vs v.owner v.name))
     (is_sound (variable_shape text v) && are_declared_once text vs) h in
-    let b = both_sound (is_sound (variable_shape text v)) (are_declared_once text vs) a.1 in
+    let b = and_parts (is_sound (variable_shape text v)) (are_declared_once text vs) a.1 in
     ap (λ c. c && are_expandable text vs) b.0 ∙ once_expandable text vs b.1
 
 -- inputs as they start
@@ -190,7 +174,7 @@ no_image_seen text v e (l ∷ ls) = let h = no_image_seen text v e ls in rw (e, 
 
 image_apart : (xs ys : List LayoutSlot) → image_among (xs ++ ys) ≡ image_among xs ++ image_among ys
 image_apart xs ys = ap (map (λ s. (s.path, s.initial))) (filter_append (λ s. s.is_input) xs ys)
-    ∙ map_append (λ s. (s.path, s.initial)) (filter (λ s. s.is_input) xs) (filter (λ s. s.is_input) ys)
+    ∙ map-append (λ s. (s.path, s.initial)) (filter (λ s. s.is_input) xs) (filter (λ s. s.is_input) ys)
 
 pub image_is : (text : Declared) (vs : List Owned)
     → image_among (layout_slots text vs) ≡ initial_image (plan_inputs_of text vs)
@@ -207,7 +191,7 @@ image_is text (v ∷ vs) =
         else plan_inputs_of text vs)
     by_test true e =
         ap (λ xs. xs ++ initial_image (plan_inputs_of text vs)) (image_seen text v e (leaves_of_variable text v))
-        ∙ sym (map_append (λ i. (i.path, default_of i.kind)) (map (input_of_leaf v) (leaves_of_variable text v))
+        ∙ sym (map-append (λ i. (i.path, default_of i.kind)) (map (input_of_leaf v) (leaves_of_variable text v))
         (plan_inputs_of text vs))
     by_test false e =
         ap (λ xs. xs ++ initial_image (plan_inputs_of text vs)) (no_image_seen text v e (leaves_of_variable text v))
@@ -227,7 +211,7 @@ all_append : (f : LayoutSlot → Bool) (xs ys : List LayoutSlot) → list_all f 
     → list_all f (xs ++ ys) ≡ true
 all_append f [] ys a b = b
 all_append f (x ∷ xs) ys a b =
-    let c = both_sound (f x) (list_all f xs) a in
+    let c = and_parts (f x) (list_all f xs) a in
     ap (λ y. y && list_all f (xs ++ ys)) c.0 ∙ all_append f xs ys c.1 b
 
 pub unretained_all : (text : Declared) (vs : List Owned) → retains_no_input (layout_slots text vs) ≡ true

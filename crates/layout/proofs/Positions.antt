@@ -16,7 +16,7 @@ place_by : (t : Bool) (n l : ℕ) → cond (nat_lt (cond (not t) (1 + n) 0) (suc
 place_by true n l = let f : nat_lt 0 (suc l) ≡ true = grind (arith, nat_tests) in rw f refl
 place_by false n l = behind_by (nat_lt n l) n l refl
 
--- it is the first place, or one behind that among the others
+-- it is the first place, or one more than that among the others
 pub position_step : {X : Type 0} (p : X → Bool) (x : X) (xs : List X)
     → position p (x ∷ xs) ≡ (if p x then Some 0 else option_map suc (position p xs))
 position_step p x xs = place_by (p x) (position_or_len p xs) (length xs)

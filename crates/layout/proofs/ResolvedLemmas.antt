@@ -1,4 +1,4 @@
--- Slots hang on no literal: the layout of a text is that of the text as it was parsed, but for its initial values.
+-- Slots don't depend on literals: the layout of a text is that of the text as it was parsed, but for its initial values.
 use Rattle.std.proofs.Common.{◌≡◌, ℕ, zero, suc, ◌+◌, pos, ◌+ℤ◌, ◌-ℤ◌, Bool, true, false, if◌then◌else◌, List, []}
 use Rattle.std.proofs.Common.{◌∷◌, ◌++◌}
 use Rattle.std.proofs.Common.{map, Option, Some, None, option_map, refl, sym, ap, ap₂, ◌∙◌}
@@ -37,12 +37,13 @@ use Rattle.st_meaning.specs.Scopes.{Name}
 use Rattle.st_meaning.specs.Slots.{Slot}
 use Rattle.st_meaning.specs.StandardBlocks.{StandardBlock, BlockMember, block_of, members_of}
 use Rattle.st_rules.specs.declared.limits.TheConstants.{MAX_TYPE_DEPTH}
-use Rattle.layout.specs.Shapes.{Shape, Leaf, leaves_of, array, parts, Parts, no_parts, part_then, Whole}
+use Rattle.st_rules.specs.TypeRules.{elements_of_array}
+use Rattle.layout.specs.Shapes.{Shape, Leaf, leaves_of, array, parts, Parts, no_parts, part_then, PartsOwner}
 use Rattle.layout.specs.Shapes.{of_structure, of_instance}
 use Rattle.layout.specs.Types.{Site, NamedSite, with_site, site_of_declaration, sites_of_declarations, retention_of}
 use Rattle.layout.specs.Types.{sites_of_blocks, site_of_field, site_of_member, BlockType, block_type_of}
 use Rattle.layout.specs.Types.{own_block_type, block_type_named, instance_of, of_kind}
-use Rattle.layout.specs.Types.{instance_parts, defined_composition, composition_of, lower_of, count_of}
+use Rattle.layout.specs.Types.{instance_parts, defined_composition, composition_of, lower_of}
 use Rattle.layout.specs.Types.{element_of, parts_of, composed_shape, shape_within}
 use Rattle.layout.specs.LayoutVariables.{Owned, owned_variable, global_variable, site_of_global, is_input_address}
 use Rattle.layout.specs.LayoutVariables.{variables_of_names, variables_of_declarations, retention_of_globals}
@@ -50,11 +51,7 @@ use Rattle.layout.specs.LayoutVariables.{variables_of_globals, sites_of_program,
 use Rattle.layout.specs.LayoutVariables.{variables_of_instances, variables_of_resources, configurations_in}
 use Rattle.layout.specs.LayoutVariables.{only_configuration, variables_of_configuration, configuration_of}
 use Rattle.layout.specs.TextLayouts.{further, slots_of_variable, slots_of, slots_of_text}
-use Rattle.layout.proofs.StoreLemmas.{map_append}
-
-pub map_map : {A B C : Type 0} (f : B → C) (g : A → B) (xs : List A) → map f (map g xs) ≡ map (λ x. f (g x)) xs
-map_map f g [] = refl
-map_map f g (x ∷ xs) = ap (λ ys. f (g x) ∷ ys) (map_map f g xs)
+use Rattle.std.proofs.lemmas.List.{map-append}
 
 -- numbers
 same_number : (k : Kind) (n : Number) → number_of (taking_number k n) ≡ number_of n
@@ -68,7 +65,7 @@ same_number k n = by_written n.written
 same_lower : (a : ArrayType) → lower_of (resolved_array a) ≡ lower_of a
 same_lower a = same_number (taken_kind None) a.lower
 
-same_count : (a : ArrayType) → count_of (resolved_array a) ≡ count_of a
+same_count : (a : ArrayType) → elements_of_array (resolved_array a) ≡ elements_of_array a
 same_count a = ap₂ (λ x y. natural ((y -ℤ x) +ℤ pos 1)) (same_number (taken_kind None) a.lower)
     (same_number (taken_kind None) a.upper)
 
@@ -115,14 +112,14 @@ module _ (text : Declared) where
       ≡ map taking (map typed (sites_of_declarations keep ds))
   declarations_typed keep [] = refl
   declarations_typed keep (d ∷ ds) =
-      map_append typed (map (with_site (site_of_declaration keep (resolved_declaration text d))) d.names)
+      map-append typed (map (with_site (site_of_declaration keep (resolved_declaration text d))) d.names)
       (sites_of_declarations keep (map (resolved_declaration text) ds))
       ∙ ap₂ (λ xs ys. xs ++ ys)
       (names_typed (site_of_declaration keep d) (site_of_declaration keep (resolved_declaration text d)) refl d.names)
       (declarations_typed keep ds)
-      ∙ sym (map_append taking (map typed (map (with_site (site_of_declaration keep d)) d.names))
+      ∙ sym (map-append taking (map typed (map (with_site (site_of_declaration keep d)) d.names))
       (map typed (sites_of_declarations keep ds)))
-      ∙ ap (map taking) (sym (map_append typed (map (with_site (site_of_declaration keep d)) d.names)
+      ∙ ap (map taking) (sym (map-append typed (map (with_site (site_of_declaration keep d)) d.names)
       (sites_of_declarations keep ds)))
 
   pub blocks_typed : (bs : List VariableBlock) → map typed (sites_of_blocks (map (resolved_block text) bs))
@@ -139,12 +136,12 @@ module _ (text : Declared) where
           else sites_of_declarations (retention_of b.section) b.declarations ++ sites_of_blocks bs))
       by_section true ih = ih
       by_section false ih =
-          map_append typed (sites_of_declarations (retention_of b.section)
+          map-append typed (sites_of_declarations (retention_of b.section)
           (map (resolved_declaration text) b.declarations)) (sites_of_blocks (map (resolved_block text) bs))
           ∙ ap₂ (λ xs ys. xs ++ ys) (declarations_typed (retention_of b.section) b.declarations) ih
-          ∙ sym (map_append taking (map typed (sites_of_declarations (retention_of b.section) b.declarations))
+          ∙ sym (map-append taking (map typed (sites_of_declarations (retention_of b.section) b.declarations))
           (map typed (sites_of_blocks bs)))
-          ∙ ap (map taking) (sym (map_append typed (sites_of_declarations (retention_of b.section) b.declarations)
+          ∙ ap (map taking) (sym (map-append typed (sites_of_declarations (retention_of b.section) b.declarations)
           (sites_of_blocks bs)))
 
   members_typed : (ms : List BlockMember)
@@ -277,7 +274,7 @@ module _ (text : Declared) where
 
   -- shapes
   module _ (inner other : VariableType → Shape) (same : (t : VariableType) → other (resolved_type t) ≡ inner t) where
-    same_part_list : (w : Whole) (ds es : List NamedSite) → map typed es ≡ map taking (map typed ds)
+    same_part_list : (w : PartsOwner) (ds es : List NamedSite) → map typed es ≡ map taking (map typed ds)
         → parts w (parts_of other es) ≡ parts w (parts_of inner ds)
     same_part_list w ds es h =
         ap (parts w) (parts_are other es ∙ ap (parts_from other) h ∙ same_parts inner other same (map typed ds)
@@ -299,7 +296,7 @@ module _ (text : Declared) where
         same_instance_shape (instance_of taken_text (resolved_type t)) (instance_of text t) (same_instance t)
     same_defined t (Some (declarations.array a)) =
         ap₂ (λ l n. array l n (other (element_of a))) (same_lower a) (same_count a)
-        ∙ ap (array (lower_of a) (count_of a)) (same (element_of a))
+        ∙ ap (array (lower_of a) (elements_of_array a)) (same (element_of a))
     same_defined t (Some (declarations.structure fields)) =
         same_part_list of_structure (map site_of_field fields) (map site_of_field (map (resolved_field text) fields))
         (fields_typed fields)
@@ -330,7 +327,7 @@ module _ (text : Declared) where
   same_shape zero t = refl
   same_shape (suc n) t = same_composed (shape_within n text) (shape_within n taken_text) (λ u. same_shape n u) t
 
--- what the slots of a variable hang on
+-- the parts of a variable on which its slots depend
 abbrev pub Key : Type 0
 Key = Option Owner × Name × VariableType × Bool
 
@@ -368,8 +365,8 @@ IsTaken us vs = map key us ≡ map taking_key (map key vs)
 
 taken_append : (us vs ts ws : List Owned) → IsTaken us ts → IsTaken vs ws → IsTaken (us ++ vs) (ts ++ ws)
 taken_append us vs ts ws h g =
-    map_append key us vs ∙ ap₂ (λ xs ys. xs ++ ys) h g ∙ sym (map_append taking_key (map key ts) (map key ws))
-    ∙ ap (map taking_key) (sym (map_append key ts ws))
+    map-append key us vs ∙ ap₂ (λ xs ys. xs ++ ys) h g ∙ sym (map-append taking_key (map key ts) (map key ws))
+    ∙ ap (map taking_key) (sym (map-append key ts ws))
 
 abbrev key_of : Option Owner → Typed → Key
 key_of o e = (o, e.0, e.1, false)
@@ -477,7 +474,7 @@ module _ (text : Declared) where
   types_taken [] = refl
   types_taken (sources.types ts ∷ rest) =
       ap (λ xs. map (resolved_type_declaration text) ts ++ xs) (types_taken rest)
-      ∙ sym (map_append (resolved_type_declaration text) ts (types_in rest))
+      ∙ sym (map-append (resolved_type_declaration text) ts (types_in rest))
   types_taken (sources.unit u ∷ rest) = types_taken rest
   types_taken (sources.configuration c ∷ rest) = types_taken rest
 

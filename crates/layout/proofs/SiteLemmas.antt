@@ -12,17 +12,18 @@ use Rattle.st_types.specs.Declarations as declarations
 use Rattle.st_types.specs.Declarations.{TypeDefinition}
 use Rattle.st_meaning.specs.NameTypes.{Declared, definition_of, kind_among}
 use Rattle.st_meaning.specs.Scopes.{Name}
-use Rattle.layout.specs.Shapes.{Whole, Shape, plain, array, parts, size, in_bounds, distance, Position, beyond}
+use Rattle.st_rules.specs.TypeRules.{elements_of_array}
+use Rattle.layout.specs.Shapes.{PartsOwner, Shape, plain, array, parts, size, in_bounds, distance, Position, position_after}
 use Rattle.layout.specs.Shapes.{position_of, position_in}
 use Rattle.layout.specs.Types.{Site, NamedSite, site_named, BlockType, instance_of, Composition, of_kind}
 use Rattle.layout.specs.Types.{of_elements}
-use Rattle.layout.specs.Types.{of_parts, instance_parts, defined_composition, composition_of, lower_of, count_of}
+use Rattle.layout.specs.Types.{of_parts, instance_parts, defined_composition, composition_of, lower_of}
 use Rattle.layout.specs.Types.{element_of, parts_of, composed_shape, shape_within}
-use Rattle.layout.specs.Sites.{element_site, member_site, site_behind, site_at}
-use Rattle.layout.specs.Standing.{IsDeclared}
-use Rattle.layout.proofs.ListLemmas.{map_some, if_some, some_is}
+use Rattle.layout.specs.Sites.{element_site, member_site, site_below, site_at}
+use Rattle.layout.specs.VariableSlots.{IsDeclared}
+use Rattle.st_types.proofs.OptionLemmas.{some_is, map_some, if_some}
 
--- only an elementary or an enumerated type is made of itself
+-- only an elementary or an enumerated type has itself as its composition
 no_kind : (b : Option BlockType) (k : Kind) → instance_parts b ≡ of_kind k → ⊥
 no_kind None k h = absurd (cc)
 no_kind (Some b) k h = absurd (cc)
@@ -57,12 +58,12 @@ named_cases : (inner : VariableType → Shape) (d : NamedSite) (ds : List NamedS
     (o : Position) → ((p : Position) → position_in (parts_of inner ds) x xs ≡ Some p → LeadsTo inner ds x xs p.kind)
     → (b : Bool) → bytes_eq x d.name ≡ b
     → (if b then position_of (inner d.site.declared) xs
-    else option_map (beyond (size (inner d.site.declared))) (position_in (parts_of inner ds) x xs)) ≡ Some o
+    else option_map (position_after (size (inner d.site.declared))) (position_in (parts_of inner ds) x xs)) ≡ Some o
     → LeadsTo inner (d ∷ ds) x xs o.kind
 named_cases inner d ds x xs o ih true e h =
     record { own = d.site; is = rw e refl; position = o; on = h; kind = refl }
 named_cases inner d ds x xs o ih false e h =
-    let i = map_some (beyond (size (inner d.site.declared))) (position_in (parts_of inner ds) x xs) o h in
+    let i = map_some (position_after (size (inner d.site.declared))) (position_in (parts_of inner ds) x xs) o h in
     let l = ih i.0 i.1 in let t = l.is in
     record {
       own = l.own;
@@ -79,12 +80,12 @@ leads_to inner (d ∷ ds) x xs o h =
     named_cases inner d ds x xs o (λ p g. leads_to inner ds x xs p g) (bytes_eq x d.name) refl h
 
 step_on : (text : Declared) (s u : Site) (x : Step) (xs : List Step) (k : Kind)
-    → site_behind s (composition_of text s.declared) x ≡ Some u → IsDeclared text u xs k
+    → site_below s (composition_of text s.declared) x ≡ Some u → IsDeclared text u xs k
     → IsDeclared text s (x ∷ xs) k
 step_on text s u x xs k h i =
     record { site = i.site; is = ap (option_and_then (λ v. site_at text v xs)) h ∙ i.is; kind = i.kind }
 
--- the same of another name for the type
+-- the same with another name for the type
 typed_as : (text : Declared) (s : Site) (xs : List Step) (k l : Kind) → k ≡ l → IsDeclared text s xs k
     → IsDeclared text s xs l
 typed_as text s xs k l e i = record { site = i.site; is = i.is; kind = i.kind ∙ ap Some e }
@@ -101,23 +102,23 @@ module _ (text : Declared) (n : ℕ)
 
   by_elements : (s : Site) (a : ArrayType) (xs : List Step) (o : Position)
       → composition_of text s.declared ≡ of_elements a
-      → position_of (array (lower_of a) (count_of a) (shape_within n text (element_of a))) xs ≡ Some o
+      → position_of (array (lower_of a) (elements_of_array a) (shape_within n text (element_of a))) xs ≡ Some o
       → IsDeclared text s xs o.kind
   by_elements s a [] o e h = absurd (cc)
   by_elements s a (Member x ∷ xs) o e h = absurd (cc)
   by_elements s a (Element z ∷ xs) o e h =
-      let b = if_some (in_bounds (lower_of a) (count_of a) z)
-      (option_map (beyond (distance (lower_of a) z * size (shape_within n text (element_of a))))
+      let b = if_some (in_bounds (lower_of a) (elements_of_array a) z)
+      (option_map (position_after (distance (lower_of a) z * size (shape_within n text (element_of a))))
       (position_of (shape_within n text (element_of a)) xs)) o h in
-      let i = map_some (beyond (distance (lower_of a) z * size (shape_within n text (element_of a))))
+      let i = map_some (position_after (distance (lower_of a) z * size (shape_within n text (element_of a))))
       (position_of (shape_within n text (element_of a)) xs) o b.1 in
       let t = b.0 in
       step_on text s (element_site s a (distance (lower_of a) z)) (Element z) xs o.kind
-      (ap (λ c. site_behind s c (Element z)) e ∙ rw t refl)
+      (ap (λ c. site_below s c (Element z)) e ∙ rw t refl)
       (typed_as text (element_site s a (distance (lower_of a) z)) xs i.0.kind o.kind (ap (λ q. q.kind) i.2)
       (ih (element_site s a (distance (lower_of a) z)) xs i.0 i.1))
 
-  by_parts : (s : Site) (w : Whole) (ds : List NamedSite) (xs : List Step) (o : Position)
+  by_parts : (s : Site) (w : PartsOwner) (ds : List NamedSite) (xs : List Step) (o : Position)
       → composition_of text s.declared ≡ of_parts w ds
       → position_of (parts w (parts_of (shape_within n text) ds)) xs ≡ Some o → IsDeclared text s xs o.kind
   by_parts s w ds [] o e h = absurd (cc)
@@ -125,7 +126,7 @@ module _ (text : Declared) (n : ℕ)
   by_parts s w ds (Member x ∷ xs) o e h =
       let l = leads_to (shape_within n text) ds x xs o h in
       step_on text s (member_site s x l.own) (Member x) xs o.kind
-      (ap (λ c. site_behind s c (Member x)) e ∙ ap (option_map (member_site s x)) l.is)
+      (ap (λ c. site_below s c (Member x)) e ∙ ap (option_map (member_site s x)) l.is)
       (typed_as text (member_site s x l.own) xs l.position.kind o.kind l.kind
       (ih (member_site s x l.own) xs l.position l.on))
 

@@ -1,4 +1,4 @@
--- Sizes of types and of what they are made of.
+-- Sizes of types and of their parts.
 use Rattle.std.proofs.Common.{◌≡◌, refl, sym, ap, ap₂, subst, ◌∙◌, arith, ℕ, zero, suc, ◌+◌, ◌*◌, ◌≤◌, List, [], ◌∷◌}
 use Rattle.std.proofs.Common.{◌++◌}
 use Rattle.std.proofs.Common.{map, Bool, true, false, ◌&&◌, if◌then◌else◌, Option, Some, None}
@@ -7,6 +7,7 @@ use denote.Bor.{Bor}
 use Rattle.std.specs.List.{list_all}
 use Rattle.std.proofs.lemmas.List.{append_assoc, append-nil}
 use Rattle.std.proofs.lemmas.Slice.Eq.{bytes_eq-Decides}
+use Rattle.std.proofs.lemmas.Bool.{and_parts}
 use Rattle.st_types.specs.declared.limits.TheConstants.{MAX_PATHS}
 use Rattle.st_types.specs.declared.path.Step.{Step}
 use Rattle.st_types.specs.declared.data_type.ArrayType.{ArrayType}
@@ -16,31 +17,31 @@ use Rattle.st_types.specs.declared.data_type.VariableType.{VariableType}
 use Rattle.st_types.specs.declared.data_type.VariableType.TheVariants.{Simple, Array}
 use Rattle.st_meaning.specs.NameTypes.{Declared}
 use Rattle.st_meaning.specs.Scopes.{Name}
+use Rattle.st_rules.specs.TypeRules.{elements_of_array}
 use Rattle.symbols.specs.Found.{found, or_found}
 use Rattle.symbols.specs.declared.index.Index.{Index}
 use Rattle.layout.specs.Shapes.{size, sizes}
 use Rattle.layout.specs.Types.{Site, NamedSite, Composition, of_kind, of_elements, of_parts, composition_of}
-use Rattle.layout.specs.Types.{composed_shape, parts_of, parts_within, count_of, element_of, shape_within}
+use Rattle.layout.specs.Types.{composed_shape, parts_of, parts_within, element_of, shape_within}
 use Rattle.layout.specs.Types.{is_within_depth}
 use Rattle.layout.proofs.DepthLemmas.{expanded_whole}
 use Rattle.layout.specs.Compositions.{composition_view, named_type}
 use Rattle.layout.specs.declared.compositions.Composition as code
 use Rattle.layout.specs.declared.compositions.Composition.TheVariants.{Kind, Elements, Fields, Block, Standard, Nothing}
 use Rattle.symbols.specs.PlaceTypes.{place_type_view}
-use Rattle.layout.specs.KeptSites.{kept_part, member_part, part_view, parts_behind}
-use Rattle.layout.specs.Sizes.{IsSized, KnowsSizes, cut, name_in}
+use Rattle.layout.specs.KeptSites.{kept_part, member_part, part_view, parts_below}
+use Rattle.layout.specs.Sizes.{IsSized, KnowsSizes, capped_size, name_in}
 use Rattle.layout.specs.Slots.{own_size}
 use Rattle.layout.specs.declared.sites.Part.{Part}
-use Rattle.layout.proofs.LayoutLemmas.{both_sound}
 
--- numbers that are cut off
-cut_sum : (a b : ℕ) → cut (cut a + cut b) ≡ cut (a + b)
+-- numbers that are capped
+pub cut_sum : (a b : ℕ) → capped_size (capped_size a + capped_size b) ≡ capped_size (a + b)
 cut_sum a b = grind (arith)
 
-cut_product : (n a : ℕ) → cut (n * cut a) ≡ cut (n * a)
+cut_product : (n a : ℕ) → capped_size (n * capped_size a) ≡ capped_size (n * a)
 cut_product n a = grind (arith)
 
--- A type goes by its name, wherever that stands.
+-- A type is known by its name, wherever that occurs.
 same_within : (text : Declared) (x : Name) (a b m : ℕ)
     → is_within_depth m text (named_type x a) ≡ is_within_depth m text (named_type x b)
 unfolding is_within_depth
@@ -58,10 +59,10 @@ sized_elsewhere : (text : Declared) (x : Name) (a b n : ℕ) → IsSized text (n
 sized_elsewhere text x a b n h = record {
   depth = h.depth;
   within = λ m le. same_within text x b a m ∙ h.within m le;
-  is = λ m le. h.is m le ∙ ap (λ sh. cut (size sh)) (same_shape text x a b m);
+  is = λ m le. h.is m le ∙ ap (λ sh. capped_size (size sh)) (same_shape text x a b m);
 }
 
--- what is kept beside what was known
+-- one more size besides those that were known
 pub knows_more : (text : Declared) (old new : Index ℕ) (x : Name) (at n : ℕ) → KnowsSizes text old
     → ((q : Name) → found new q ≡ or_found (found old q) (if bytes_eq q x then Some n else None))
     → IsSized text (named_type x at) n → KnowsSizes text new
@@ -82,16 +83,16 @@ knows_more text old new x at n knows added sized q k is b =
         let kept : j ≡ k = cc in knows q k (e ∙ ap Some kept) b
     by_found None e h = by_name (bytes_eq q x) refl h
 
--- the sum of the sizes of types that are expanded so deep
+-- the sum of the sizes of types that are expanded to this depth
 pub sum_within : ℕ → Declared → List VariableType → ℕ
 sum_within m text [] = 0
 sum_within m text (t ∷ ts) = size (shape_within m text t) + sum_within m text ts
 
--- From some depth on these types are expanded whole, and their sizes come to this, with what was there.
+-- From some depth on these types are expanded whole, and their sizes, added to those before, give this.
 pub record AreSized (text : Declared) (ts : List VariableType) (before found : ℕ) : Type 0 where
   pub depth : ℕ
   pub within : (m : ℕ) → depth ≤ m → list_all (is_within_depth m text) ts ≡ true
-  pub is : (m : ℕ) → depth ≤ m → found ≡ cut (before + sum_within m text ts)
+  pub is : (m : ℕ) → depth ≤ m → found ≡ capped_size (before + sum_within m text ts)
 
 sum_append : (m : ℕ) (text : Declared) (ts us : List VariableType)
     → sum_within m text (ts ++ us) ≡ sum_within m text ts + sum_within m text us
@@ -103,7 +104,7 @@ all_append : (f : VariableType → Bool) (ts us : List VariableType) → list_al
     → list_all f (ts ++ us) ≡ true
 all_append f [] us a b = b
 all_append f (t ∷ ts) us a b =
-    let c = both_sound (f t) (list_all f ts) a in
+    let c = and_parts (f t) (list_all f ts) a in
     ap (λ x. x && list_all f (ts ++ us)) c.0 ∙ all_append f ts us c.1 b
 
 pub sized_none : (text : Declared) (n : ℕ) → n ≤ MAX_PATHS → AreSized text [] n n
@@ -115,7 +116,7 @@ sized_none text n small = record {
 }
 
 pub sized_more : (text : Declared) (ts : List VariableType) (t : VariableType) (before a b : ℕ)
-    → AreSized text ts before a → IsSized text t b → AreSized text (ts ++ t ∷ []) before (cut (a + b))
+    → AreSized text ts before a → IsSized text t b → AreSized text (ts ++ t ∷ []) before (capped_size (a + b))
 unfolding sum_within
 sized_more text ts t before a b some one = record {
   depth = some.depth + one.depth;
@@ -124,9 +125,9 @@ sized_more text ts t before a b some one = record {
   is = λ m le.
       let c = some.is m (omega (arith, le)) in let d = one.is m (omega (arith, le)) in
       let e = sum_append m text ts (t ∷ []) in
-      ap (λ x. cut (x + b)) c ∙ ap (λ x. cut (cut (before + sum_within m text ts) + x)) d
+      ap (λ x. capped_size (x + b)) c ∙ ap (λ x. capped_size (capped_size (before + sum_within m text ts) + x)) d
       ∙ cut_sum (before + sum_within m text ts) (size (shape_within m text t))
-      ∙ ap cut (regrouped before (sum_within m text ts) (size (shape_within m text t))
+      ∙ ap capped_size (regrouped before (sum_within m text ts) (size (shape_within m text t))
       (sum_within m text (ts ++ t ∷ [])) e);
 }
   where
@@ -149,27 +150,27 @@ members_all : (f : VariableType → Bool) (s : Site) (ds : List NamedSite)
 members_all f s [] = refl
 members_all f s (d ∷ ds) = ap (λ b. f d.site.declared && b) (members_all f s ds)
 
--- what has no elements, by its parts
+-- a composition without elements, by its parts
 abbrev pub HasNoElements : Composition → Type 0
 HasNoElements (of_kind k) = Unit {0}
 HasNoElements (of_elements a) = ⊥
 HasNoElements (of_parts w ds) = Unit {0}
 
 parts_size : (m : ℕ) (text : Declared) (s : Site) (c : Composition) → HasNoElements c
-    → size (composed_shape (shape_within m text) c) ≡ own_size c + sum_within m text (types_of (parts_behind s c))
+    → size (composed_shape (shape_within m text) c) ≡ own_size c + sum_within m text (types_of (parts_below s c))
 unfolding sum_within
 parts_size m text s (of_kind k) h = omega arith
 parts_size m text s (of_elements a) h = absurd h
 parts_size m text s (of_parts w ds) h = let g = members_sum m text s ds in omega (arith, g)
 
 parts_all : (f : VariableType → Bool) (s : Site) (c : Composition) → HasNoElements c
-    → parts_within f c ≡ list_all f (types_of (parts_behind s c))
+    → parts_within f c ≡ list_all f (types_of (parts_below s c))
 parts_all f s (of_kind k) h = refl
 parts_all f s (of_elements a) h = absurd h
 parts_all f s (of_parts w ds) h = members_all f s ds
 
 pub sized_whole : (text : Declared) (s : Site) (t : VariableType) (c : Composition) (n : ℕ)
-    → composition_of text t ≡ c → HasNoElements c → AreSized text (types_of (parts_behind s c)) (own_size c) n
+    → composition_of text t ≡ c → HasNoElements c → AreSized text (types_of (parts_below s c)) (own_size c) n
     → IsSized text t n
 unfolding shape_within is_within_depth
 sized_whole text s t c n made none h = record {
@@ -184,14 +185,14 @@ sized_whole text s t c n made none h = record {
         ap (parts_within (is_within_depth m text)) made ∙ parts_all (is_within_depth m text) s c none
         ∙ h.within m (omega (arith, le))
 
-    is_at : (m : ℕ) → suc h.depth ≤ m → n ≡ cut (size (shape_within m text t))
+    is_at : (m : ℕ) → suc h.depth ≤ m → n ≡ capped_size (size (shape_within m text t))
     is_at zero le = absurd (omega (arith, le))
     is_at (suc m) le =
-        h.is m (omega (arith, le)) ∙ ap cut (sym (parts_size m text s c none))
-        ∙ ap (λ x. cut (size (composed_shape (shape_within m text) x))) (sym made)
+        h.is m (omega (arith, le)) ∙ ap capped_size (sym (parts_size m text s c none))
+        ∙ ap (λ x. capped_size (size (composed_shape (shape_within m text) x))) (sym made)
 
 pub sized_array : (text : Declared) (t : VariableType) (a : ArrayType) (n : ℕ) → composition_of text t ≡ of_elements a
-    → IsSized text (element_of a) n → IsSized text t (cut (count_of a * n))
+    → IsSized text (element_of a) n → IsSized text t (capped_size (elements_of_array a * n))
 unfolding shape_within is_within_depth
 sized_array text t a n made h = record {
   depth = suc h.depth;
@@ -203,14 +204,14 @@ sized_array text t a n made h = record {
     within_at zero le = absurd (omega (arith, le))
     within_at (suc m) le = ap (parts_within (is_within_depth m text)) made ∙ h.within m (omega (arith, le))
 
-    is_at : (m : ℕ) → suc h.depth ≤ m → cut (count_of a * n) ≡ cut (size (shape_within m text t))
+    is_at : (m : ℕ) → suc h.depth ≤ m → capped_size (elements_of_array a * n) ≡ capped_size (size (shape_within m text t))
     is_at zero le = absurd (omega (arith, le))
     is_at (suc m) le =
-        ap (λ x. cut (count_of a * x)) (h.is m (omega (arith, le)))
-        ∙ cut_product (count_of a) (size (shape_within m text (element_of a)))
-        ∙ ap (λ x. cut (size (composed_shape (shape_within m text) x))) (sym made)
+        ap (λ x. capped_size (elements_of_array a * x)) (h.is m (omega (arith, le)))
+        ∙ cut_product (elements_of_array a) (size (shape_within m text (element_of a)))
+        ∙ ap (λ x. capped_size (size (composed_shape (shape_within m text) x))) (sym made)
 
--- what is too deep, by a part that is
+-- a whole is too deep if a part is
 not_all : (f : VariableType → Bool) (ts : List VariableType) (t : VariableType) (rest : List VariableType)
     → f t ≡ false → list_all f (ts ++ t ∷ rest) ≡ false
 not_all f [] t rest h = ap (λ b. b && list_all f rest) h
@@ -222,7 +223,7 @@ not_all f (u ∷ ts) t rest h = by_test (f u) (not_all f ts t rest h)
 
 pub too_deep : (n : ℕ) (text : Declared) (s : Site) (t : VariableType) (c : Composition) (ts : List VariableType)
     (u : VariableType) (rest : List VariableType) → composition_of text t ≡ c → HasNoElements c
-    → types_of (parts_behind s c) ≡ ts ++ u ∷ rest → is_within_depth n text u ≡ false
+    → types_of (parts_below s c) ≡ ts ++ u ∷ rest → is_within_depth n text u ≡ false
     → is_within_depth (suc n) text t ≡ false
 unfolding is_within_depth
 too_deep n text s t c ts u rest made none are h =
@@ -235,12 +236,12 @@ pub too_deep_array : (n : ℕ) (text : Declared) (t : VariableType) (a : ArrayTy
 unfolding is_within_depth
 too_deep_array n text t a made h = ap (parts_within (is_within_depth n text)) made ∙ h
 
--- the size of a type that is at most so deep
+-- the size of a type that is at most this deep
 pub size_whole : (n : ℕ) (text : Declared) (t : VariableType) (found : ℕ) → is_within_depth n text t ≡ true
-    → IsSized text t found → found ≡ cut (size (shape_within n text t))
+    → IsSized text t found → found ≡ capped_size (size (shape_within n text t))
 size_whole n text t found within h =
     h.is (h.depth + n) (omega arith)
-    ∙ ap (λ sh. cut (size sh)) (expanded_whole text n (h.depth + n) t within (omega arith))
+    ∙ ap (λ sh. capped_size (size sh)) (expanded_whole text n (h.depth + n) t within (omega arith))
 
 pub own_small : (c : Composition) → own_size c ≤ MAX_PATHS
 own_small (of_kind k) = omega arith
@@ -261,7 +262,7 @@ part_types (e ∷ es) (p ∷ ps) h =
     let b : map part_view ps ≡ map kept_part es = cc in
     ap₂ (λ t ts. t ∷ ts) (ap (λ q. q.1.declared) a) (part_types es ps b)
 
--- The sizes of the parts so far come to this.
+-- The sizes of the parts so far give this sum.
 pub record SizedSoFar (text : Declared) (before total : ℕ) (ps left : List Part) : Type 0 where
   pub ts : List VariableType
   pub are : ts ++ map part_type left ≡ map part_type ps
@@ -272,7 +273,7 @@ sized_first text n ps small = record { ts = []; are = refl; sized = sized_none t
 
 pub sized_next : (text : Declared) (before total : ℕ) (ps : List Part) (p : Part) (left : List Part) (n : ℕ)
     → SizedSoFar text before total ps (p ∷ left) → IsSized text (part_type p) n
-    → SizedSoFar text before (cut (total + n)) ps left
+    → SizedSoFar text before (capped_size (total + n)) ps left
 sized_next text before total ps p left n m h = record {
   ts = m.ts ++ part_type p ∷ [];
   are = append_assoc m.ts (part_type p ∷ []) (map part_type left) ∙ m.are;
@@ -310,31 +311,31 @@ no_elements (Block bs) h = tt
 no_elements (Standard b) h = tt
 no_elements Nothing h = tt
 
--- where no part is left, the size is that of the whole
+-- if no part is left, the size is that of the whole
 pub sized_all : (text : Declared) (s : Site) (t : VariableType) (c : Composition) (before total : ℕ)
     (ps left : List Part) → composition_of text t ≡ c → HasNoElements c → before ≡ own_size c
-    → map part_view ps ≡ map kept_part (parts_behind s c)
+    → map part_view ps ≡ map kept_part (parts_below s c)
     → left ≡ [] → SizedSoFar text before total ps left → IsSized text t total
 sized_all text s t c before total ps left made none own parts ended m =
-    let all : m.ts ≡ types_of (parts_behind s c) =
+    let all : m.ts ≡ types_of (parts_below s c) =
     sym (append-nil m.ts) ∙ ap (λ xs. m.ts ++ map part_type xs) (sym ended) ∙ m.are
-    ∙ part_types (parts_behind s c) ps parts in
+    ∙ part_types (parts_below s c) ps parts in
     sized_whole text s t c total made none
-    (subst (λ n. AreSized text (types_of (parts_behind s c)) n total) own
+    (subst (λ n. AreSized text (types_of (parts_below s c)) n total) own
     (subst (λ ts. AreSized text ts before total) all m.sized))
 
--- where the part at hand is too deep, the whole is
+-- if the part at hand is too deep, the whole is
 pub part_too_deep : (n : ℕ) (text : Declared) (s : Site) (t : VariableType) (c : Composition) (before total : ℕ)
     (ps : List Part) (p : Part) (left : List Part) → composition_of text t ≡ c → HasNoElements c
-    → map part_view ps ≡ map kept_part (parts_behind s c) → SizedSoFar text before total ps (p ∷ left)
+    → map part_view ps ≡ map kept_part (parts_below s c) → SizedSoFar text before total ps (p ∷ left)
     → is_within_depth n text (part_type p) ≡ false → is_within_depth (suc n) text t ≡ false
 part_too_deep n text s t c before total ps p left made none parts m h =
     too_deep n text s t c m.ts (part_type p) (map part_type left) made none
-    (sym (part_types (parts_behind s c) ps parts) ∙ sym m.are) h
+    (sym (part_types (parts_below s c) ps parts) ∙ sym m.are) h
 
--- the answer for a type that is at most so deep
+-- the answer for a type that is at most this deep
 pub answered : (n : ℕ) (text : Declared) (t : VariableType) (o : Option ℕ) → ((m : ℕ) → o ≡ Some m → IsSized text t m)
     → (o ≡ None → is_within_depth n text t ≡ false) → is_within_depth n text t ≡ true
-    → o ≡ Some (cut (size (shape_within n text t)))
+    → o ≡ Some (capped_size (size (shape_within n text t)))
 answered n text t (Some m) some none within = ap Some (size_whole n text t m within (some m refl))
 answered n text t None some none within = let h = none refl in absurd (cc)

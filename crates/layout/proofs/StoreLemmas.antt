@@ -1,4 +1,4 @@
--- The store of the initial values: what it has, and that each value is one that its type holds.
+-- The store of the initial values: its entries, and that each value is one that its type holds.
 use Rattle.std.proofs.Common.{◌≡◌, ℕ, suc, pos, Bool, true, false, not, ◌||◌, if◌then◌else◌, List, [], ◌∷◌}
 use Rattle.std.proofs.Common.{◌++◌, map, slice_get, Option, Some, None, option_map, option_and_then, Result, Ok, Err}
 use Rattle.std.proofs.Common.{refl}
@@ -33,8 +33,12 @@ use Rattle.layout.specs.TextLayouts.{leaves_of_variable, slot_of_leaf, slots_of_
 use Rattle.layout.specs.TextLayouts.{variable_of_leaf}
 use Rattle.layout.specs.TextLayouts.{plan_variables_of, input_of_leaf, plan_inputs_of, variable_slots, input_slots}
 use Rattle.layout.specs.TextLayouts.{types_of_slots, initial_values, initial_image}
-use Rattle.layout.proofs.ListLemmas.{both, both_are, turned, turned_back, neither, some_is, any_append}
 use Rattle.layout.proofs.OwnPaths.{filter_append}
+use Rattle.std.proofs.lemmas.Bool.{not_from_false, or_parts, and_parts, and_from}
+use Rattle.st_types.proofs.OptionLemmas.{some_is}
+use Rattle.std.proofs.lemmas.List.{map-append}
+use Rattle.st_types.proofs.TestLemmas.{false_from_not}
+use Rattle.std.proofs.lemmas.List.Folds.{list_any-append}
 
 -- 0 is a value of each type
 default_held : (k : Kind) → holds k (pos 0) ≡ true
@@ -69,7 +73,7 @@ fitting_is k (Ok v) = by_test (may_replace (default_of k) v) refl
   where
     by_test : (b : Bool) → may_replace (default_of k) v ≡ b → IsOfIfThere k (if b then Some v else None)
     by_test true h =
-        let t = both (same_kind k v.kind) (holds v.kind v.number) h in
+        let t = and_parts (same_kind k v.kind) (holds v.kind v.number) h in
         record { kind = sym (same_kind_is k v.kind t.0); held = t.1 }
     by_test false h = tt
 
@@ -95,7 +99,7 @@ initial_is text l s = value_is l.kind (option_and_then (λ u. constant_of l.kind
 fits_itself : (v : Datum) → holds v.kind v.number ≡ true → fitting v.kind (Ok v) ≡ Some v
 fits_itself v h =
     let k = same_kind-refl v.kind in
-    let t : may_replace (default_of v.kind) v ≡ true = both_are (same_kind v.kind v.kind) (holds v.kind v.number) k h in
+    let t : may_replace (default_of v.kind) v ≡ true = and_from (same_kind v.kind v.kind) (holds v.kind v.number) k h in
     ap (λ b. if b then Some v else None) t
 
 pub written_value : (text : Declared) (s : Site) (l : Literal) (v : Datum) → s.initial ≡ Some (constant l)
@@ -106,11 +110,6 @@ written_value text s l v e f h =
 pub unwritten_value : (text : Declared) (s : Site) (k : Kind) → s.initial ≡ None
     → initial_at text s [] k ≡ default_of k
 unwritten_value text s k e = ap (initial_value k) (ap (constant_of k) e)
-
--- variables and inputs by their slots
-pub map_append : {A B : Type 0} (f : A → B) (xs ys : List A) → map f (xs ++ ys) ≡ map f xs ++ map f ys
-map_append f [] ys = refl
-map_append f (x ∷ xs) ys = ap (λ zs. f x ∷ zs) (map_append f xs ys)
 
 abbrev slot : Path → Kind → Bool → Slot
 slot p k input = record { path = p; kind = k; is_input = input }
@@ -153,7 +152,7 @@ module _ (text : Declared) where
           h
           ∙ ap (λ xs. xs ++ variable_slots (slots_of text vs)) (sym (no_variables v e (leaves_of_variable text v)))
       by_test false e h =
-          map_append variable_slot (map (variable_of_leaf text v) (leaves_of_variable text v))
+          map-append variable_slot (map (variable_of_leaf text v) (leaves_of_variable text v))
           (plan_variables_of text vs)
           ∙ ap₂ (λ xs ys. xs ++ ys) (variable_leaves text v e (leaves_of_variable text v)) h
 
@@ -168,13 +167,13 @@ module _ (text : Declared) where
           else plan_inputs_of text vs)
           ≡ input_slots (slots_of_variable text v) ++ input_slots (slots_of text vs)
       by_test true e h =
-          map_append input_slot (map (input_of_leaf v) (leaves_of_variable text v)) (plan_inputs_of text vs)
+          map-append input_slot (map (input_of_leaf v) (leaves_of_variable text v)) (plan_inputs_of text vs)
           ∙ ap₂ (λ xs ys. xs ++ ys) (input_leaves v e (leaves_of_variable text v)) h
       by_test false e h =
           h
           ∙ ap (λ xs. xs ++ input_slots (slots_of text vs)) (sym (no_inputs v e (leaves_of_variable text v)))
 
--- what the stores have
+-- the entries of the stores
 variable_types : (vs : List PlanVariable) → shape_of (initial_values vs) ≡ types_of_slots (map variable_slot vs)
 variable_types [] = refl
 variable_types (v ∷ vs) = ap (λ xs. (v.path, v.initial.kind) ∷ xs) (variable_types vs)
@@ -198,7 +197,7 @@ held_leaves : (text : Declared) (v : Owned) (ls : List Leaf) (rest : List PlanVa
     → all_held (initial_values (map (variable_of_leaf text v) ls ++ rest)) ≡ true
 held_leaves text v [] rest h = h
 held_leaves text v (l ∷ ls) rest h =
-    both_are (holds (initial_at text v.site l.steps l.kind).kind (initial_at text v.site l.steps l.kind).number)
+    and_from (holds (initial_at text v.site l.steps l.kind).kind (initial_at text v.site l.steps l.kind).number)
     (all_held (initial_values (map (variable_of_leaf text v) ls ++ rest))) (initial_is text l v.site).held
     (held_leaves text v ls rest h)
 
@@ -216,9 +215,9 @@ initial_values_held text (v ∷ vs) = by_test v.is_input (initial_values_held te
 pub initial_image_held : (is : List PlanInput) → all_held (initial_image is) ≡ true
 initial_image_held [] = refl
 initial_image_held (i ∷ is) =
-    both_are (holds i.kind (pos 0)) (all_held (initial_image is)) (default_held i.kind) (initial_image_held is)
+    and_from (holds i.kind (pos 0)) (all_held (initial_image is)) (default_held i.kind) (initial_image_held is)
 
--- where each path has one slot, it stands once in the image and the variables
+-- if each path has one slot, it occurs once in the image and the variables
 abbrev stands_in : Path → List (Path × Kind) → Bool
 stands_in p es = list_any (λ d. same_path p d.0) es
 
@@ -261,7 +260,7 @@ first_apart l ls h = by_test (stands_in l.path (types_of_slots ls)) refl
         let d : ◌≡◌ {A = Option ℕ} (Some 0) (Some (suc i.number)) = sym b ∙ c ∙ a in
         absurd (cc)
 
-others_layout : (l : Slot) (ls : List Slot) → IsLayout (l ∷ ls) → IsLayout ls
+pub others_layout : (l : Slot) (ls : List Slot) → IsLayout (l ∷ ls) → IsLayout ls
 others_layout l ls h k m g = by_test (same_path m.path l.path) refl (h (suc k) m g)
   where
     by_test : (b : Bool) → same_path m.path l.path ≡ b
@@ -276,16 +275,16 @@ others_layout l ls h k m g = by_test (same_path m.path l.path) refl (h (suc k) m
 layout_distinct : (ls : List Slot) → IsLayout ls → is_distinct (types_of_slots ls) ≡ true
 layout_distinct [] h = refl
 layout_distinct (l ∷ ls) h =
-    both_are (not (stands_in l.path (types_of_slots ls))) (is_distinct (types_of_slots ls))
-    (turned_back (stands_in l.path (types_of_slots ls)) (first_apart l ls h))
+    and_from (not (stands_in l.path (types_of_slots ls))) (is_distinct (types_of_slots ls))
+    (not_from_false (stands_in l.path (types_of_slots ls)) (first_apart l ls h))
     (layout_distinct ls (others_layout l ls h))
 
--- parted into inputs and variables
+-- split into inputs and variables
 none_of : (p : Path) (f : Slot → Bool) (ls : List Slot) → stands_in p (types_of_slots ls) ≡ false
     → stands_in p (types_of_slots (filter f ls)) ≡ false
 none_of p f [] h = refl
 none_of p f (l ∷ ls) h =
-    let n = neither (same_path p l.path) (stands_in p (types_of_slots ls)) h in
+    let n = or_parts (same_path p l.path) (stands_in p (types_of_slots ls)) h in
     by_test (f l) n.0 (none_of p f ls n.1)
   where
     by_test : (b : Bool) → same_path p l.path ≡ false → stands_in p (types_of_slots (filter f ls)) ≡ false
@@ -293,19 +292,19 @@ none_of p f (l ∷ ls) h =
     by_test true n m = ap₂ (λ a b. a || b) n m
     by_test false n m = m
 
--- an entry between others, of a path that they have not
+-- an entry between others that don't have its path
 between : (es fs : List (Path × Kind)) (e : Path × Kind) → stands_in e.0 es ≡ false → stands_in e.0 fs ≡ false
     → is_distinct (es ++ fs) ≡ true → is_distinct (es ++ e ∷ fs) ≡ true
-between [] fs e h g d = both_are (not (stands_in e.0 fs)) (is_distinct fs) (turned_back (stands_in e.0 fs) g) d
+between [] fs e h g d = and_from (not (stands_in e.0 fs)) (is_distinct fs) (not_from_false (stands_in e.0 fs) g) d
 between (c ∷ es) fs e h g d =
-    let n = neither (same_path e.0 c.0) (stands_in e.0 es) h in
-    let b = both (not (stands_in c.0 (es ++ fs))) (is_distinct (es ++ fs)) d in
+    let n = or_parts (same_path e.0 c.0) (stands_in e.0 es) h in
+    let b = and_parts (not (stands_in c.0 (es ++ fs))) (is_distinct (es ++ fs)) d in
     let a : (stands_in c.0 es || stands_in c.0 fs) ≡ false =
-    sym (any_append (λ q. same_path c.0 q.0) es fs) ∙ turned (stands_in c.0 (es ++ fs)) b.0 in
-    let m = neither (stands_in c.0 es) (stands_in c.0 fs) a in
-    both_are (not (stands_in c.0 (es ++ e ∷ fs))) (is_distinct (es ++ e ∷ fs))
-    (turned_back (stands_in c.0 (es ++ e ∷ fs))
-    (any_append (λ q. same_path c.0 q.0) es (e ∷ fs)
+    sym (list_any-append (λ q. same_path c.0 q.0) es fs) ∙ false_from_not (stands_in c.0 (es ++ fs)) b.0 in
+    let m = or_parts (stands_in c.0 es) (stands_in c.0 fs) a in
+    and_from (not (stands_in c.0 (es ++ e ∷ fs))) (is_distinct (es ++ e ∷ fs))
+    (not_from_false (stands_in c.0 (es ++ e ∷ fs))
+    (list_any-append (λ q. same_path c.0 q.0) es (e ∷ fs)
     ∙ ap₂ (λ x y. x || y) m.0 (ap₂ (λ x y. x || y) (path_turned e.0 c.0 n.0) m.1)))
     (between es fs e n.1 g b.1)
 
@@ -313,8 +312,8 @@ parted_distinct : (ls : List Slot) → is_distinct (types_of_slots ls) ≡ true
     → is_distinct (types_of_slots (input_slots ls) ++ types_of_slots (variable_slots ls)) ≡ true
 parted_distinct [] h = refl
 parted_distinct (l ∷ ls) h =
-    let b = both (not (stands_in l.path (types_of_slots ls))) (is_distinct (types_of_slots ls)) h in
-    let n = turned (stands_in l.path (types_of_slots ls)) b.0 in
+    let b = and_parts (not (stands_in l.path (types_of_slots ls))) (is_distinct (types_of_slots ls)) h in
+    let n = false_from_not (stands_in l.path (types_of_slots ls)) b.0 in
     let i = none_of l.path (λ m. m.is_input) ls n in
     let v = none_of l.path (λ m. not m.is_input) ls n in
     by_test l.is_input i v (parted_distinct ls b.1)
@@ -324,16 +323,16 @@ parted_distinct (l ∷ ls) h =
         → is_distinct (types_of_slots (input_slots ls) ++ types_of_slots (variable_slots ls)) ≡ true
         → is_distinct (types_of_slots (if b then l ∷ input_slots ls else input_slots ls)
         ++ types_of_slots (if not b then l ∷ variable_slots ls else variable_slots ls)) ≡ true
-    by_test true i v d = both_are
+    by_test true i v d = and_from
         (not (stands_in l.path (types_of_slots (input_slots ls) ++ types_of_slots (variable_slots ls))))
         (is_distinct (types_of_slots (input_slots ls) ++ types_of_slots (variable_slots ls)))
-        (turned_back (stands_in l.path (types_of_slots (input_slots ls) ++ types_of_slots (variable_slots ls)))
-        (any_append (λ q. same_path l.path q.0) (types_of_slots (input_slots ls)) (types_of_slots (variable_slots ls))
+        (not_from_false (stands_in l.path (types_of_slots (input_slots ls) ++ types_of_slots (variable_slots ls)))
+        (list_any-append (λ q. same_path l.path q.0) (types_of_slots (input_slots ls)) (types_of_slots (variable_slots ls))
         ∙ ap₂ (λ x y. x || y) i v)) d
     by_test false i v d =
         between (types_of_slots (input_slots ls)) (types_of_slots (variable_slots ls)) (l.path, l.kind) i v d
 
--- the initial values are a store, with the inputs as a life starts
+-- the initial values are a store, with the inputs as at the start of a life
 pub initial_store_is : (text : Declared) (vs : List Owned) → IsLayout (slots_of text vs)
     → IsStore (initial_image (plan_inputs_of text vs)) (initial_values (plan_variables_of text vs))
 initial_store_is text vs h = record {

@@ -1,4 +1,4 @@
--- What a plan has at the path of a part: the initial value and the retention that the declarations tell.
+-- A plan's values at the path of a part: the initial value and the retention that are declared.
 use Rattle.std.proofs.Common.{◌≡◌, ℕ, zero, suc, Bool, true, false, not, ◌&&◌, ◌||◌, if◌then◌else◌, List, [], ◌∷◌}
 use Rattle.std.proofs.Common.{◌++◌}
 use Rattle.std.proofs.Common.{map, slice_get, Option, Some, option_map, refl, sym, ap, ap₂, ◌∙◌}
@@ -18,10 +18,13 @@ use Rattle.layout.specs.LayoutVariables.{Owned}
 use Rattle.layout.specs.TextLayouts.{further, variable_path, variable_shape, leaves_of_variable, variable_of_leaf}
 use Rattle.layout.specs.TextLayouts.{plan_variables_of}
 use Rattle.layout.specs.TextLayouts.{initial_values}
-use Rattle.layout.specs.Standing.{path_to, is_named_so, has_variable, are_declared_once, variable_at, later}
-use Rattle.layout.proofs.ListLemmas.{map_some, some_is, both, turned, neither, or_false, any_append}
+use Rattle.layout.specs.VariableSlots.{path_to, is_variable, has_variable, are_declared_once, variable_at, later}
 use Rattle.layout.proofs.LeafLemmas.{leaf, position, at_shape, of_shape}
 use Rattle.layout.proofs.VariableLemmas.{variable_is}
+use Rattle.std.proofs.lemmas.Bool.{or_parts, and_parts}
+use Rattle.st_types.proofs.OptionLemmas.{some_is, map_some}
+use Rattle.st_types.proofs.TestLemmas.{false_from_not, or_false}
+use Rattle.std.proofs.lemmas.List.Folds.{list_any-append}
 
 -- whether the variable of the path is retained
 abbrev pub retained_among : List PlanVariable → Path → Bool
@@ -80,7 +83,7 @@ module _ (text : Declared) (v : Owned) (xs : List Step) (k : Kind) where
       by_test false e zero g ih = absurd (not_the_first l g e)
       by_test false e (suc n) g ih = ih n g
 
-  -- what is retained among the leaves
+  -- the retention of the leaves
   retained_leaves : (ls : List Leaf) (n : ℕ) → slice_get ls n ≡ Some (leaf xs k)
       → retained_among (map (variable_of_leaf text v) ls) its_path ≡ retained_at text v.site xs
   retained_leaves [] n h = absurd (cc)
@@ -121,8 +124,8 @@ module _ (text : Declared) (v : Owned) (xs : List Step) (k : Kind) where
       by_test false e zero g ih = absurd (not_the_first l g e)
       by_test false e (suc n) g ih = ih n g
 
--- a variable of another name has none of these paths
-other_path : (o : Option Owner) (x : Name) (v : Owned) (xs ys : List Step) → is_named_so o x v ≡ false
+-- a variable with another name has none of these paths
+other_path : (o : Option Owner) (x : Name) (v : Owned) (xs ys : List Step) → is_variable o x v ≡ false
     → same_path (further (path_to o x) xs) (further (variable_path v) ys) ≡ false
 other_path o x v xs ys h = ap (λ b. b && same_steps xs ys) h
 
@@ -130,13 +133,13 @@ module _ (text : Declared) (o : Option Owner) (x : Name) (xs : List Step) where
   abbrev path : Path
   path = further (path_to o x) xs
 
-  value_behind : (v : Owned) → is_named_so o x v ≡ false → (ls : List Leaf) (rest : List PlanVariable)
+  value_behind : (v : Owned) → is_variable o x v ≡ false → (ls : List Leaf) (rest : List PlanVariable)
       → get (initial_values (map (variable_of_leaf text v) ls ++ rest)) path ≡ get (initial_values rest) path
   value_behind v e [] rest = refl
   value_behind v e (l ∷ ls) rest =
       let d = other_path o x v xs l.steps e in let h = value_behind v e ls rest in rw (d, h) refl
 
-  not_retained : (v : Owned) → is_named_so o x v ≡ false → (ls : List Leaf)
+  not_retained : (v : Owned) → is_variable o x v ≡ false → (ls : List Leaf)
       → retained_among (map (variable_of_leaf text v) ls) path ≡ false
   not_retained v e [] = refl
   not_retained v e (l ∷ ls) =
@@ -146,15 +149,15 @@ module _ (text : Declared) (o : Option Owner) (x : Name) (xs : List Step) where
       ≡ false
   none_retained [] h = refl
   none_retained (v ∷ vs) h =
-      let n = neither (is_named_so o x v) (has_variable vs o x) h in
+      let n = or_parts (is_variable o x v) (has_variable vs o x) h in
       by_test v.is_input n.0 (none_retained vs n.1)
     where
-      by_test : (b : Bool) → is_named_so o x v ≡ false → retained_among (plan_variables_of text vs) path ≡ false
+      by_test : (b : Bool) → is_variable o x v ≡ false → retained_among (plan_variables_of text vs) path ≡ false
           → retained_among (if b then plan_variables_of text vs
           else map (variable_of_leaf text v) (leaves_of_variable text v) ++ plan_variables_of text vs) path ≡ false
       by_test true e ih = ih
       by_test false e ih =
-          any_append (λ w. same_path path w.path && w.retained)
+          list_any-append (λ w. same_path path w.path && w.retained)
           (map (variable_of_leaf text v) (leaves_of_variable text v))
           (plan_variables_of text vs)
           ∙ ap₂ (λ a b. a || b) (not_retained v e (leaves_of_variable text v)) ih
@@ -168,20 +171,20 @@ module _ (text : Declared) (o : Option Owner) (x : Name) (xs : List Step) where
       sym a ∙ ap (position_of (variable_shape text v)) e ∙ h in
       ap (λ q. q.kind) (some_is b)
 
-  -- each part has the initial value that its declarations tell
+  -- each part has the initial value that is declared
   pub value_told : (vs : List Owned) → are_declared_once text vs ≡ true → (e : ℕ × Owned) → variable_at text vs o x
       ≡ Some e
       → e.1.is_input ≡ false → (p : Position) → position_of (variable_shape text e.1) xs ≡ Some p
       → get (initial_values (plan_variables_of text vs)) path ≡ Some (initial_at text e.1.site xs p.kind)
   value_told [] once e h i p g = absurd (cc)
   value_told (v ∷ vs) once e h i p g =
-      let a = both (not (has_variable vs v.owner v.name))
+      let a = and_parts (not (has_variable vs v.owner v.name))
       (is_sound (variable_shape text v) && are_declared_once text vs) once in
-      let b = both (is_sound (variable_shape text v)) (are_declared_once text vs) a.1 in
-      by_variable (is_named_so o x v) refl v.is_input refl h b.0
+      let b = and_parts (is_sound (variable_shape text v)) (are_declared_once text vs) a.1 in
+      by_variable (is_variable o x v) refl v.is_input refl h b.0
       (λ f j n q. value_told vs b.1 f j n p q)
     where
-      by_variable : (t : Bool) → is_named_so o x v ≡ t → (n : Bool) → v.is_input ≡ n
+      by_variable : (t : Bool) → is_variable o x v ≡ t → (n : Bool) → v.is_input ≡ n
           → (if t then Some (0, v) else option_map (later text v) (variable_at text vs o x))
           ≡ Some e
           → is_sound (variable_shape text v) ≡ true
@@ -217,20 +220,20 @@ module _ (text : Declared) (o : Option Owner) (x : Name) (xs : List Step) where
           passed true = refl
           passed false = value_behind v r (leaves_of_variable text v) (plan_variables_of text vs)
 
-  -- and it is retained as they tell
+  -- and its retention is the declared one
   pub retention_told : (vs : List Owned) → are_declared_once text vs ≡ true → (e : ℕ × Owned)
       → variable_at text vs o x ≡ Some e → e.1.is_input ≡ false → (p : Position)
       → position_of (variable_shape text e.1) xs ≡ Some p
       → retained_among (plan_variables_of text vs) path ≡ retained_at text e.1.site xs
   retention_told [] once e h i p g = absurd (cc)
   retention_told (v ∷ vs) once e h i p g =
-      let a = both (not (has_variable vs v.owner v.name))
+      let a = and_parts (not (has_variable vs v.owner v.name))
       (is_sound (variable_shape text v) && are_declared_once text vs) once in
-      let b = both (is_sound (variable_shape text v)) (are_declared_once text vs) a.1 in
-      by_variable (is_named_so o x v) refl v.is_input refl h (turned (has_variable vs v.owner v.name) a.0)
+      let b = and_parts (is_sound (variable_shape text v)) (are_declared_once text vs) a.1 in
+      by_variable (is_variable o x v) refl v.is_input refl h (false_from_not (has_variable vs v.owner v.name) a.0)
       (λ f j n q. retention_told vs b.1 f j n p q)
     where
-      by_variable : (t : Bool) → is_named_so o x v ≡ t → (n : Bool) → v.is_input ≡ n
+      by_variable : (t : Bool) → is_variable o x v ≡ t → (n : Bool) → v.is_input ≡ n
           → (if t then Some (0, v) else option_map (later text v) (variable_at text vs o x))
           ≡ Some e
           → has_variable vs v.owner v.name ≡ false
@@ -248,7 +251,7 @@ module _ (text : Declared) (o : Option Owner) (x : Name) (xs : List Step) where
           let g' : position_of (variable_shape text v) xs
           ≡ Some p = ap (λ d. position_of (variable_shape text d.1) xs) q ∙ g in
           let s = variable_is o x v r in
-          any_append (λ w. same_path path w.path && w.retained)
+          list_any-append (λ w. same_path path w.path && w.retained)
           (map (variable_of_leaf text v) (leaves_of_variable text v))
           (plan_variables_of text vs)
           ∙ ap₂ (λ a b. a || b)
@@ -268,7 +271,7 @@ module _ (text : Declared) (o : Option Owner) (x : Name) (xs : List Step) where
               ≡ retained_among (plan_variables_of text vs) path
           passed true = refl
           passed false =
-              any_append (λ w. same_path path w.path && w.retained)
+              list_any-append (λ w. same_path path w.path && w.retained)
               (map (variable_of_leaf text v) (leaves_of_variable text v)) (plan_variables_of text vs)
               ∙ ap (λ b. b || retained_among (plan_variables_of text vs) path)
               (not_retained v r (leaves_of_variable text v))

@@ -1,5 +1,5 @@
--- In the layout of variables that are declared once each path has one slot, and each variable stands where its
--- declaration says.
+-- In the layout of variables that are declared once each path has one slot, and each variable is at the place that
+-- its declaration gives it.
 use Rattle.std.proofs.Common.{◌≡◌, inl, inr, ℕ, zero, suc, ◌+◌, Bool, true, false, not, ◌&&◌, ◌||◌, if◌then◌else◌, List}
 use Rattle.std.proofs.Common.{[]}
 use Rattle.std.proofs.Common.{◌∷◌, ◌++◌, length, map, slice_get, Option, Some, option_map, refl, sym, ap, ap₂, ◌∙◌}
@@ -13,46 +13,40 @@ use Rattle.st_types.specs.Paths.{Path, same_owner, same_path, is_within}
 use Rattle.st_meaning.specs.NameTypes.{Declared}
 use Rattle.st_meaning.specs.Scopes.{Name}
 use Rattle.st_meaning.specs.Slots.{Slot, slot_of, IsLayout}
-use Rattle.st_types.specs.Comparisons.{same_path_is, same_path_itself}
+use Rattle.st_types.specs.Comparisons.{same_path_is, same_path_itself, same_owner_itself, same_owner_is}
 use Rattle.layout.specs.Shapes.{size, Leaf, Position, position_of, leads_on, is_sound}
 use Rattle.layout.specs.LayoutVariables.{Owned}
 use Rattle.layout.specs.TextLayouts.{further, variable_path, variable_shape, leaves_of_variable, slot_of_leaf}
 use Rattle.layout.specs.TextLayouts.{slots_of_variable}
 use Rattle.layout.specs.TextLayouts.{slots_of}
-use Rattle.layout.specs.Standing.{path_to, is_named_so, has_variable, are_declared_once, variable_at, later}
-use Rattle.layout.specs.Standing.{position_among}
-use Rattle.layout.specs.Standing.{has_slot_within}
-use Rattle.layout.specs.Standing.{slot, Stands}
-use Rattle.layout.proofs.ListLemmas.{get_left, get_right, get_split, get_map, length_map, map_some, both, both_are}
-use Rattle.layout.proofs.ListLemmas.{turned}
-use Rattle.layout.proofs.ListLemmas.{same_name, name_itself, neither, or_here, or_later, or_false, any_append}
+use Rattle.layout.specs.VariableSlots.{path_to, is_variable, has_variable, are_declared_once, variable_at, later}
+use Rattle.layout.specs.VariableSlots.{position_among}
+use Rattle.layout.specs.VariableSlots.{has_slot_within}
+use Rattle.layout.specs.VariableSlots.{slot, LiesAt}
+use Rattle.layout.proofs.ListLemmas.{get_right, get_split}
+use Rattle.layout.proofs.ListLemmas.{same_name, name_itself}
 use Rattle.layout.proofs.LeafLemmas.{leaf, position, begin, length_leaves, at_shape, of_shape, begin_shape}
+use Rattle.std.proofs.lemmas.Bool.{or_parts, and_parts, and_from, or_left, or_right}
+use Rattle.std.proofs.lemmas.Option.{slice_get-map}
+use Rattle.st_types.proofs.ListLemmas.{get_first, length_map}
+use Rattle.st_types.proofs.OptionLemmas.{map_some}
+use Rattle.st_types.proofs.TestLemmas.{false_from_not, or_false}
+use Rattle.std.proofs.lemmas.List.Folds.{list_any-append}
 
-pub owner_itself : (o : Option Owner) → same_owner o o ≡ true
-owner_itself o = (both (same_owner o o) true (both (same_owner o o && true) true (whole o)).0).0
-  where
-    whole : (o : Option Owner) → ((same_owner o o && true) && true) ≡ true
-    whole o = same_path_itself (path_to o [])
-
-owner_is : (o p : Option Owner) → same_owner o p ≡ true → o ≡ p
-owner_is o p h = ap (λ q. q.owner)
-    (same_path_is (path_to o []) (path_to p [])
-    (both_are (same_owner o p && true) true (both_are (same_owner o p) true h refl) refl))
-
-pub variable_is : (o : Option Owner) (x : Name) (v : Owned) → is_named_so o x v ≡ true → path_to o x ≡ variable_path v
+pub variable_is : (o : Option Owner) (x : Name) (v : Owned) → is_variable o x v ≡ true → path_to o x ≡ variable_path v
 variable_is o x v h =
-    let b = both (same_owner o v.owner) (bytes_eq x v.name) h in
-    ap₂ path_to (owner_is o v.owner b.0) (same_name x v.name b.1)
+    let b = and_parts (same_owner o v.owner) (bytes_eq x v.name) h in
+    ap₂ path_to (same_owner_is o v.owner b.0) (same_name x v.name b.1)
 
-pub variable_itself : (v : Owned) → is_named_so v.owner v.name v ≡ true
+pub variable_itself : (v : Owned) → is_variable v.owner v.name v ≡ true
 variable_itself v =
-    both_are (same_owner v.owner v.owner) (bytes_eq v.name v.name) (owner_itself v.owner) (name_itself v.name)
+    and_from (same_owner v.owner v.owner) (bytes_eq v.name v.name) (same_owner_itself v.owner) (name_itself v.name)
 
 or_is : (a b c d : Bool) → a ≡ c → b ≡ d → (a || b) ≡ (c || d)
 or_is a b c d h g = ap₂ (λ x y. x || y) h g
 
 -- which slots of a variable are within a path
-within_one : (o : Option Owner) (x : Name) (v : Owned) (xs : List Step) (b : Bool) → is_named_so o x v ≡ b
+within_one : (o : Option Owner) (x : Name) (v : Owned) (xs : List Step) (b : Bool) → is_variable o x v ≡ b
     → (ls : List Leaf)
     → list_any (λ l. is_within (further (path_to o x) xs) l.path) (map (slot_of_leaf v) ls) ≡ (b && begin ls xs)
 within_one o x v xs true e [] = refl
@@ -68,8 +62,8 @@ module _ (text : Declared) where
       → has_slot_within (slots_of text vs) (further (path_to o x) xs) ≡ false
   none_within [] o x xs h = refl
   none_within (v ∷ vs) o x xs h =
-      let n = neither (is_named_so o x v) (has_variable vs o x) h in
-      any_append (λ l. is_within (further (path_to o x) xs) l.path) (slots_of_variable text v) (slots_of text vs)
+      let n = or_parts (is_variable o x v) (has_variable vs o x) h in
+      list_any-append (λ l. is_within (further (path_to o x) xs) l.path) (slots_of_variable text v) (slots_of text vs)
       ∙ or_is (list_any (λ l. is_within (further (path_to o x) xs) l.path) (slots_of_variable text v))
       (has_slot_within (slots_of text vs) (further (path_to o x) xs)) false false
       (within_one o x v xs false n.0 (leaves_of_variable text v)) (none_within vs o x xs n.1)
@@ -78,7 +72,7 @@ module _ (text : Declared) where
       → has_variable vs v.owner v.name ≡ false → is_sound (variable_shape text v) ≡ true
       → ((f : ℕ × Owned) → variable_at text vs o x ≡ Some f
       → has_slot_within (slots_of text vs) (further (path_to o x) xs) ≡ leads_on (variable_shape text f.1) xs)
-      → (b : Bool) → is_named_so o x v ≡ b
+      → (b : Bool) → is_variable o x v ≡ b
       → (if b then Some (0, v) else option_map (later text v) (variable_at text vs o x))
       ≡ Some e
       → has_slot_within (slots_of_variable text v ++ slots_of text vs) (further (path_to o x) xs)
@@ -89,7 +83,7 @@ module _ (text : Declared) where
       let n : has_slot_within (slots_of text vs) (further (path_to o x) xs) ≡ false =
       ap (λ p. has_slot_within (slots_of text vs) (further p xs)) s
       ∙ none_within vs v.owner v.name xs new in
-      any_append (λ l. is_within (further (path_to o x) xs) l.path) (slots_of_variable text v) (slots_of text vs)
+      list_any-append (λ l. is_within (further (path_to o x) xs) l.path) (slots_of_variable text v) (slots_of text vs)
       ∙ or_is (list_any (λ l. is_within (further (path_to o x) xs) l.path) (slots_of_variable text v))
       (has_slot_within (slots_of text vs) (further (path_to o x) xs)) (begin (leaves_of_variable text v) xs) false
       (within_one o x v xs true r (leaves_of_variable text v)) n
@@ -97,7 +91,7 @@ module _ (text : Declared) where
       ∙ ap (λ d. leads_on (variable_shape text d.1) xs) q
   only_cases v vs o x xs e new sound ih false r h =
       let i = map_some (later text v) (variable_at text vs o x) e h in
-      any_append (λ l. is_within (further (path_to o x) xs) l.path) (slots_of_variable text v) (slots_of text vs)
+      list_any-append (λ l. is_within (further (path_to o x) xs) l.path) (slots_of_variable text v) (slots_of text vs)
       ∙ or_is (list_any (λ l. is_within (further (path_to o x) xs) l.path) (slots_of_variable text v))
       (has_slot_within (slots_of text vs) (further (path_to o x) xs)) false (leads_on (variable_shape text i.0.1) xs)
       (within_one o x v xs false r (leaves_of_variable text v)) (ih i.0 i.1)
@@ -108,18 +102,18 @@ module _ (text : Declared) where
       → has_slot_within (slots_of text vs) (further (path_to o x) xs) ≡ leads_on (variable_shape text e.1) xs
   only_declared [] once o x e xs h = absurd (cc)
   only_declared (v ∷ vs) once o x e xs h =
-      let a = both (not (has_variable vs v.owner v.name))
+      let a = and_parts (not (has_variable vs v.owner v.name))
       (is_sound (variable_shape text v) && are_declared_once text vs) once in
-      let b = both (is_sound (variable_shape text v)) (are_declared_once text vs) a.1 in
-      only_cases v vs o x xs e (turned (has_variable vs v.owner v.name) a.0) b.0
-      (λ f g. only_declared vs b.1 o x f xs g) (is_named_so o x v) refl h
+      let b = and_parts (is_sound (variable_shape text v)) (are_declared_once text vs) a.1 in
+      only_cases v vs o x xs e (false_from_not (has_variable vs v.owner v.name) a.0) b.0
+      (λ f g. only_declared vs b.1 o x f xs g) (is_variable o x v) refl h
 
-  -- where the parts of a variable stand
+  -- the places of the parts of a variable
   at_cases : (v : Owned) (vs : List Owned) (o : Option Owner) (x : Name) (xs : List Step) (n : Position) (e : ℕ × Owned)
       → ((f : ℕ × Owned) → variable_at text vs o x ≡ Some f → position_of (variable_shape text f.1) xs ≡ Some n
       → slice_get (slots_of text vs) (f.0 + n.number)
       ≡ Some (slot (further (path_to o x) xs) n.kind f.1.is_input))
-      → (b : Bool) → is_named_so o x v ≡ b
+      → (b : Bool) → is_variable o x v ≡ b
       → (if b then Some (0, v) else option_map (later text v) (variable_at text vs o x))
       ≡ Some e
       → position_of (variable_shape text e.1) xs ≡ Some n
@@ -133,10 +127,10 @@ module _ (text : Declared) where
       let z : 0 ≡ e.0 = ap (λ d. d.0) q in
       let k : e.0 + n.number ≡ n.number = omega arith in
       let m : slice_get (slots_of_variable text v) n.number ≡ Some (slot_of_leaf v (leaf xs n.kind)) =
-      get_map (slot_of_leaf v) (leaves_of_variable text v) n.number
+      slice_get-map (slot_of_leaf v) (leaves_of_variable text v) n.number
       ∙ ap (option_map (slot_of_leaf v)) (at_shape (variable_shape text v) xs n g') in
       ap (slice_get (slots_of_variable text v ++ slots_of text vs)) k
-      ∙ get_left (slots_of_variable text v) (slots_of text vs) n.number (slot_of_leaf v (leaf xs n.kind)) m
+      ∙ get_first (slots_of_variable text v) (slots_of text vs) n.number (slot_of_leaf v (leaf xs n.kind)) m
       ∙ ap₂ (λ p i. Some (slot (further p xs) n.kind i)) (sym s) (ap (λ d. d.1.is_input) q)
   at_cases v vs o x xs n e ih false r h g =
       let i = map_some (later text v) (variable_at text vs o x) e h in
@@ -154,11 +148,11 @@ module _ (text : Declared) where
       → slice_get (slots_of text vs) (e.0 + n.number) ≡ Some (slot (further (path_to o x) xs) n.kind e.1.is_input)
   at_declared [] o x e xs n h g = absurd (cc)
   at_declared (v ∷ vs) o x e xs n h g =
-      at_cases v vs o x xs n e (λ f i j. at_declared vs o x f xs n i j) (is_named_so o x v) refl h g
+      at_cases v vs o x xs n e (λ f i j. at_declared vs o x f xs n i j) (is_variable o x v) refl h g
 
   pub variable_stands : (vs : List Owned) → are_declared_once text vs ≡ true → (o : Option Owner) (x : Name) (k : ℕ)
       (v : Owned) → variable_at text vs o x ≡ Some (k, v)
-      → Stands (slots_of text vs) v.is_input (path_to o x) (variable_shape text v) k
+      → LiesAt (slots_of text vs) v.is_input (path_to o x) (variable_shape text v) k
   variable_stands vs once o x k v h = record {
     at = λ xs n g. at_declared vs o x (k, v) xs n h g;
     only = λ xs. only_declared vs once o x (k, v) xs h;
@@ -169,7 +163,7 @@ module _ (text : Declared) where
     number : position_among text vs l.path ≡ Some (position k l.kind)
     named : has_variable vs l.path.owner l.path.name ≡ true
 
-  other_variable : (v : Owned) (vs : List Owned) (p : Path) (t : Bool) → is_named_so p.owner p.name v ≡ t
+  other_variable : (v : Owned) (vs : List Owned) (p : Path) (t : Bool) → is_variable p.owner p.name v ≡ t
       → has_variable vs v.owner v.name ≡ false → has_variable vs p.owner p.name ≡ true → t ≡ false
   other_variable v vs p true e new old =
       let s = variable_is p.owner p.name v e in
@@ -182,34 +176,34 @@ module _ (text : Declared) where
       → slice_get (slots_of text vs) k ≡ Some l → IsLocated vs k l
   located [] once k l h = absurd (cc)
   located (v ∷ vs) once k l h =
-      let a = both (not (has_variable vs v.owner v.name))
+      let a = and_parts (not (has_variable vs v.owner v.name))
       (is_sound (variable_shape text v) && are_declared_once text vs) once in
-      let b = both (is_sound (variable_shape text v)) (are_declared_once text vs) a.1 in
+      let b = and_parts (is_sound (variable_shape text v)) (are_declared_once text vs) a.1 in
       elim (get_split (slots_of_variable text v) (slots_of text vs) k l h) [
         | inl g ↦
             let i = map_some (slot_of_leaf v) (slice_get (leaves_of_variable text v) k) l
-            (sym (get_map (slot_of_leaf v) (leaves_of_variable text v) k) ∙ g) in
+            (sym (slice_get-map (slot_of_leaf v) (leaves_of_variable text v) k) ∙ g) in
             let o = of_shape (variable_shape text v) b.0 k i.0 i.1 in
             let r = variable_itself v in
             subst (λ m. IsLocated (v ∷ vs) k m) i.2 (record {
               number = rw r o;
-              named = or_here (is_named_so v.owner v.name v) (has_variable vs v.owner v.name) r;
+              named = or_left (is_variable v.owner v.name v) (has_variable vs v.owner v.name) r;
             })
         | inr g ↦
             let i = located vs b.1 g.0 l g.2 in
             let n = i.number in
-            let t = other_variable v vs l.path (is_named_so l.path.owner l.path.name v) refl
-            (turned (has_variable vs v.owner v.name) a.0) i.named in
+            let t = other_variable v vs l.path (is_variable l.path.owner l.path.name v) refl
+            (false_from_not (has_variable vs v.owner v.name) a.0) i.named in
             let s = length_slots v in let e = g.1 in
             let f : size (variable_shape text v) + g.0 ≡ k = omega arith in
             record {
               number = rw (t, n, f) refl;
-              named = or_later (is_named_so l.path.owner l.path.name v)
+              named = or_right (is_variable l.path.owner l.path.name v)
                   (has_variable vs l.path.owner l.path.name) i.named;
             }
       ]
 
-  -- a path of the layout has the slot and the type that its declaration and its steps tell
+  -- a path of the layout has the slot and the type that its declaration and its steps give
   pub slot_numbered : (vs : List Owned) → are_declared_once text vs ≡ true → (k : ℕ) (l : Slot)
       → slice_get (slots_of text vs) k ≡ Some l → position_among text vs l.path ≡ Some (position k l.kind)
   slot_numbered vs once k l h = (located vs once k l h).number

@@ -1,4 +1,4 @@
--- What declared types are made of, as the definitions see it.
+-- Compositions of declared types, as the definitions see them.
 use Rattle.std.specs.Prelude.{ℕ, map}
 use Rattle.st_types.specs.declared.data_type.SimpleType.TheVariants.{Named}
 use Rattle.st_types.specs.declared.data_type.VariableType.{VariableType}
@@ -27,11 +27,11 @@ composition_view (Block bs) = of_parts of_instance (sites_of_blocks (map variabl
 composition_view (Standard b) = of_parts of_instance (map site_of_member (members_of (block_view b)))
 composition_view Nothing = nothing
 
--- a type of this name, wherever it stands
+-- a type of this name, at any place
 abbrev pub named_type : Name → ℕ → VariableType
 named_type x at = Simple (Named (record { name = x; place = at }))
 
--- They are those of the text.
+-- They are the types of the text.
 pub record ServesTypes (types : Types) (text : Declared) : Type 0 where
   pub names : ServesText types.names text
   pub enumerated : HasEnumerations types.enumerated (enumerations_of text.types)

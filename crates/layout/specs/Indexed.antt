@@ -1,4 +1,4 @@
--- What a layout shows: its slots by their numbers, and the layout text of a record.
+-- The contents of a layout: its slots by their numbers, and the layout text of a record.
 use Rattle.std.specs.Prelude.{ℕ, List, map, Bool, false, Option, Some, None, slice_get, option_map}
 use Rattle.st_types.specs.Paths.{Path}
 use Rattle.st_meaning.specs.Slots.{slot_of}
@@ -10,7 +10,7 @@ pub record LayoutView : Type 0 where
   pub slots : List LayoutSlot
   pub text : List ℕ
 
--- a slot, by its path and what stands there
+-- a slot, by its path and its facts
 abbrev pub slot_of_entry : Path × SlotFacts → LayoutSlot
 slot_of_entry e = record { path = e.0; initial = e.1.initial; retained = e.1.retained; is_input = e.1.is_input }
 
@@ -28,7 +28,7 @@ slot_number ss p = slot_of (map slot_view ss) p
 abbrev pub path_numbered : List LayoutSlot → ℕ → Option Path
 path_numbered ss n = option_map (λ s. s.path) (slice_get ss n)
 
--- whether it is retained; a slot that is not there is not
+-- whether it is retained; a slot that doesn't exist is not
 abbrev pub is_retained : Option LayoutSlot → Bool
 is_retained None = false
 is_retained (Some s) = s.retained

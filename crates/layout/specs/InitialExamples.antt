@@ -43,8 +43,7 @@ modes =
 abbrev pub mode : Kind
 mode = Enumerated 3 0
 
--- TYPE T0 : STRUCT x : INT; END_STRUCT; T1 : STRUCT x : T0; END_STRUCT; .. END_TYPE, so many of them, with names of one
--- byte each
+-- TYPE T0 : STRUCT x : INT; END_STRUCT; T1 : STRUCT x : T0; END_STRUCT; .. END_TYPE, each type with a name of one byte
 abbrev pub byte_name : ℕ → Name
 byte_name n = (128 + n) ∷ []
 

@@ -9,14 +9,14 @@ use Rattle.layout.specs.LayoutVariables.{Owned, owned_variable, owner_in, progra
 use Rattle.layout.specs.Slots.{owner_view}
 use Rattle.layout.specs.declared.configurations.ProgramInstance as code
 
--- whose it is, and the name of its program
+-- its owner, and the name of its program
 abbrev pub OwnedProgram : Type 0
 OwnedProgram = Owner × Name
 
 abbrev pub instance_view : code.ProgramInstance → OwnedProgram
 instance_view i = (owner_view i.owner, i.program.now)
 
--- that of a resource
+-- the instance of a resource
 abbrev pub instance_on : Name → Instance → OwnedProgram
 instance_on resource i = (owner_in resource i, i.program.name)
 

@@ -28,15 +28,15 @@ variables_among ss = map variable_of (filter (λ s. not s.is_input) ss)
 abbrev pub inputs_among : List LayoutSlot → List PlanInput
 inputs_among ss = map input_of (filter (λ s. s.is_input) ss)
 
--- inputs as they start, and that none is retained
+-- inputs as they start, none of which is retained
 abbrev pub image_among : List LayoutSlot → Store
 image_among ss = map (λ s. (s.path, s.initial)) (filter (λ s. s.is_input) ss)
 
 abbrev pub retains_no_input : List LayoutSlot → Bool
 retains_no_input ss = list_all (λ s. not (s.is_input && s.retained)) ss
 
--- The slots are those of the text, with the initial values and the retention that its declarations tell, and inputs as
--- a life starts; they are not too many, nor are its instances of blocks.
+-- The slots are those of the text, with the initial values and the retention that it declares, and inputs as at the
+-- start of a life; neither they nor the instances of blocks are too many.
 pub record IsLayoutOf (source : Source) (ss : List LayoutSlot) : Type 0 where
   pub slots : map slot_view ss ≡ slots_of_text source
   pub variables : variables_among ss ≡ plan_variables_of_text source

@@ -1,4 +1,4 @@
--- What the declarations say of a variable and of its parts, as code keeps it.
+-- Declared facts about a variable and its parts, as code keeps them.
 use Rattle.std.specs.Prelude.{◌≡◌, ℕ, zero, suc, ◌+◌, pos, ◌+ℤ◌, List, [], ◌∷◌, map, Bool, Option, option_map}
 use denote.Bor.{Bor}
 use Rattle.st_types.specs.declared.path.Step as path
@@ -10,9 +10,10 @@ use Rattle.st_types.specs.Initials.{Initial}
 use Rattle.st_types.specs.InitialViews.{initial_view}
 use Rattle.st_types.specs.declared.declaration.Retention.{Retention}
 use Rattle.st_meaning.specs.Plans.{is_retained_by, retained_so_far}
+use Rattle.st_rules.specs.TypeRules.{elements_of_array}
 use Rattle.symbols.specs.PlaceTypes.{place_type_view}
 use Rattle.layout.specs.Types as made
-use Rattle.layout.specs.Types.{NamedSite, of_kind, of_elements, of_parts, lower_of, count_of}
+use Rattle.layout.specs.Types.{NamedSite, of_kind, of_elements, of_parts, lower_of}
 use Rattle.layout.specs.Sites.{element_site, member_site}
 use Rattle.layout.specs.declared.sites.Part.{Part}
 use Rattle.layout.specs.declared.sites.PartStep.{PartStep}
@@ -25,7 +26,7 @@ pub record KeptSite : Type 0 where
   pub initial : Option Initial
   pub retained : Bool
 
--- what a declaration or a whole gives, or nothing
+-- the initial value that a declaration or a whole gives, or nothing
 abbrev pub given_view : Option (Bor code.Initial) → Option Initial
 given_view = option_map (λ i. initial_view i.now)
 
@@ -56,7 +57,7 @@ kept_part p = (p.0, kept p.1)
 abbrev pub member_part : made.Site → NamedSite → path.Step × made.Site
 member_part s d = (steps.Member d.name, member_site s d.name d.site)
 
--- A declaration says this of retention, or nothing.
+-- The declaration's word on retention, or nothing.
 abbrev pub IsSaid : List (Option Retention) → Option Retention → Type 0
 IsSaid rs said = (so : Bool) → retained_so_far so rs ≡ retained_so_far so (said ∷ [])
 
@@ -64,13 +65,13 @@ IsSaid rs said = (so : Bool) → retained_so_far so rs ≡ retained_so_far so (s
 abbrev pub element_part : made.Site → ArrayType → ℕ → path.Step × made.Site
 element_part s a i = (steps.Element (lower_of a +ℤ pos i), element_site s a i)
 
--- so many elements from this number on
+-- `n` elements from this number on
 abbrev pub element_parts : made.Site → ArrayType → ℕ → ℕ → List (path.Step × made.Site)
 element_parts s a i zero = []
 element_parts s a i (suc n) = element_part s a i ∷ element_parts s a (i + 1) n
 
--- the parts of what is made so, one level down, in the order of the layout
-abbrev pub parts_behind : made.Site → made.Composition → List (path.Step × made.Site)
-parts_behind s (of_kind k) = []
-parts_behind s (of_elements a) = element_parts s a 0 (count_of a)
-parts_behind s (of_parts w ds) = map (member_part s) ds
+-- the parts of this composition, one level down, in the order of the layout
+abbrev pub parts_below : made.Site → made.Composition → List (path.Step × made.Site)
+parts_below s (of_kind k) = []
+parts_below s (of_elements a) = element_parts s a 0 (elements_of_array a)
+parts_below s (of_parts w ds) = map (member_part s) ds

@@ -146,7 +146,7 @@ abbrev pub configured : List GlobalBlock → List Resource → Configuration
 configured globals resources =
     record { name = identifier (codes "C"); globals = globals; resources = resources }
 
--- a text of types, units and one configuration; and one with a program's variables as its only declarations, in the
+-- a text of types, units and one configuration; and one whose only declarations are a program's variables, in the
 -- instance R/P
 abbrev pub text_of : List TypeDeclaration → List OrganisationUnit → Configuration → Source
 text_of ts us c = sources.types ts ∷ append_units us (sources.configuration c ∷ [])
@@ -177,7 +177,7 @@ steps_shown (PathElement z ∷ xs) = codes "[" ++ digit_text z ++ codes "]" ++ s
 abbrev pub path_shown : Path → List ℕ
 path_shown p = owner_text p.owner ++ p.name ++ steps_shown p.steps
 
--- what the layout of a text has: paths with retention and with initial values
+-- the slots of a text's layout: paths with retention and with initial values
 abbrev pub retentions_in : Source → List (List ℕ × Bool)
 retentions_in source = map (λ v. (path_shown v.path, v.retained)) (plan_variables_of_text source)
 
@@ -262,7 +262,7 @@ abbrev pub configured_twice : Source
 configured_twice =
     sources.configuration instance_p ∷ sources.unit one_variable ∷ sources.configuration instance_p ∷ []
 
--- instances of Pr, of a block and of what is not there
+-- instances of Pr, of a block and of a name that isn't declared
 abbrev pub instances_of_no_program : Source
 instances_of_no_program = text_of [] (fb ∷ one_variable ∷ []) (configured [] (resource (codes "R") (
     instance (codes "P") (codes "PR")
@@ -324,7 +324,7 @@ words_of_retention = text_of (point ∷ []) (words ∷ program_with (
     ∷ variables_in (sections.Local None) (without_initial (codes "N") (plain Int) ∷ [])
     ∷ []) ∷ []) instance_p
 
--- variables of types that are none: the program's own, a function, a standard function, and a name that is not there
+-- variables of names that aren't types: the program's own, a function, a standard function, and an unknown name
 abbrev pub types_that_are_none : Source
 types_that_are_none = text_of [] (
     unit_with (sorts.Function (Elementary Int 0)) (codes "HALF")

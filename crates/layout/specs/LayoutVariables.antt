@@ -1,4 +1,4 @@
--- The variables of a whole layout as they are declared, in its order: the globals as they stand, inputs of the plant
+-- The variables of a whole layout as they are declared, in its order: the globals in their order, inputs of the plant
 -- among them, then by resources and their instances the variables of each instance's program.
 use Rattle.std.specs.Prelude.{List, [], ◌∷◌, ◌++◌, map, Bool, true, false, Option, Some, None}
 use Rattle.st_types.specs.declared.identifier.Identifier.{Identifier}
@@ -23,8 +23,8 @@ use Rattle.st_meaning.specs.ResolvedUnits.{resolved_source}
 use Rattle.st_meaning.specs.Scopes.{Name}
 use Rattle.layout.specs.Types.{Site, NamedSite, sites_of_blocks}
 
--- a variable of a layout: the program's instance that it belongs to, or nobody; its name; what its declaration says of
--- it; and whether its value comes from the plant
+-- a variable of a layout: the program's instance that it belongs to, or nobody; its name; its declared facts; and
+-- whether its value comes from the plant
 pub record Owned : Type 0 where
   pub owner : Option Owner
   pub name : Name
@@ -50,7 +50,7 @@ is_input_address Output = false
 abbrev pub global_variable : Site → Bool → Identifier → Owned
 global_variable s input x = record { owner = None; name = x.name; site = s; is_input = input }
 
--- a global at the address of an input is one; one at the address of an output is a global as others
+-- a global at the address of an input is an input; one at the address of an output is a global like others
 abbrev pub variables_of_names : Site → GlobalNames → List Owned
 variables_of_names s (located x a) = global_variable s (is_input_address a.direction) x ∷ []
 variables_of_names s (listed xs) = map (global_variable s false) xs
@@ -65,7 +65,7 @@ variables_of_globals [] = []
 variables_of_globals (b ∷ bs) =
     variables_of_declarations (retention_of_globals b.qualifier) b.declarations ++ variables_of_globals bs
 
--- the variables of a program; none where the unit is no program, or where there is none of the name
+-- the variables of a program; none if the unit isn't a program, or if there is none of the name
 abbrev pub sites_of_program : UnitSort → List VariableBlock → List NamedSite
 sites_of_program Program bs = sites_of_blocks bs
 sites_of_program FunctionBlock bs = []
@@ -89,7 +89,7 @@ variables_of_resources text [] = []
 variables_of_resources text (r ∷ rs) =
     variables_of_instances text r.name.name r.instances ++ variables_of_resources text rs
 
--- a text has a layout where it has exactly one configuration
+-- a text has a layout if it has exactly one configuration
 abbrev pub configurations_in : Source → List Configuration
 configurations_in [] = []
 configurations_in (sources.types ts ∷ rest) = configurations_in rest

@@ -1,4 +1,4 @@
--- The slots of a whole layout, and what variables add to it.
+-- The slots of a whole layout, and how variables add to it.
 use Rattle.std.specs.Prelude.{◌≡◌, ℕ, ◌+◌, List, [], ◌∷◌, ◌++◌, Bool, true, ◌&&◌}
 use Rattle.st_types.specs.Sources.{Source}
 use Rattle.st_meaning.specs.NameTypes.{Declared, declared_in}
@@ -19,16 +19,16 @@ abbrev pub layout_size : Declared → List Owned → ℕ
 layout_size text [] = 0
 layout_size text (v ∷ vs) = size (variable_shape text v) + layout_size text vs
 
--- No two parts of one whole have one name.
+-- No two parts of one whole have the same name.
 abbrev pub are_expandable : Declared → List Owned → Bool
 are_expandable text [] = true
 are_expandable text (v ∷ vs) = is_sound (variable_shape text v) && are_expandable text vs
 
 -- the variables of a text in which each literal has its type
-abbrev pub variables_in : Source → List Owned
-variables_in source = variables_of_configuration (declared_in source) (only_configuration (configurations_in source))
+abbrev pub owned_variables : Source → List Owned
+owned_variables source = variables_of_configuration (declared_in source) (only_configuration (configurations_in source))
 
--- their slots behind those that were there, and their instances beside them
+-- their slots after those that were there, and their instances added to them
 pub record GrowsBy (text : Declared) (vs : List Owned) (old new : Growing) : Type 0 where
   pub slots : new.slots.items ≡ old.slots.items ++ layout_slots text vs
   pub instances : new.instances ≡ old.instances + instances_of text vs

@@ -6,7 +6,7 @@ pub mod TextLayouts
 pub mod Libraries
 pub mod Names
 pub mod LayoutExamples
-pub mod Standing
+pub mod VariableSlots
 pub mod InitialExamples
 pub mod LibraryExamples
 pub mod PartExamples

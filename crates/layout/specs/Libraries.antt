@@ -1,4 +1,4 @@
--- From a text to what its runs need: its functions and blocks, and the programs of its instances.
+-- From a text to the parts that its runs need: its functions and blocks, and the programs of its instances.
 use Rattle.std.specs.Prelude.{List, [], ◌∷◌, ◌++◌, map, Bool, true, false, if◌then◌else◌, Option, Some, None}
 use Rattle.st_types.specs.declared.path.Owner.{Owner}
 use Rattle.st_types.specs.declared.configuration.Instance.{Instance}
@@ -90,7 +90,7 @@ library_of text = record { functions = functions_among text text.units; blocks =
 abbrev pub program_of_unit : Declared → Owner → OrganisationUnit → Program
 program_of_unit text owner u = record { library = library_of text; owner = owner; body = body_of_unit text u }
 
--- an instance of what is no program has none
+-- an instance of a unit that isn't a program has none
 abbrev pub program_by_sort : Declared → Owner → UnitSort → OrganisationUnit → List Program
 program_by_sort text owner units.Program u = program_of_unit text owner u ∷ []
 program_by_sort text owner units.FunctionBlock u = []
@@ -115,13 +115,13 @@ abbrev pub programs_of_configuration : Declared → Option Configuration → Lis
 programs_of_configuration text None = []
 programs_of_configuration text (Some c) = programs_of_resources text c.resources
 
--- a unit that no other one calls
+-- a unit that no other one can call
 abbrev pub is_program : UnitSort → Bool
 is_program units.Program = true
 is_program units.FunctionBlock = false
 is_program (units.Function t) = false
 
--- of a text, all of it over the literals as they are resolved: its functions and blocks
+-- of a text whose literals are all resolved: its functions and blocks
 abbrev pub library_of_text : Source → Library
 library_of_text source = library_of (declared_of source)
 

@@ -1,4 +1,4 @@
--- Words for worked examples of a text in the meaning's words: texts with functions, blocks in blocks and externals.
+-- Words for worked examples of a text in the terms of the meaning: texts with functions, blocks in blocks and externals.
 use Rattle.std.specs.Prelude.{ℕ, pos, List, [], ◌∷◌, map, Some, None, codes}
 use Rattle.st_types.specs.declared.kind.Kind.TheVariants.{Int, Dint, Bool as Boolean}
 use Rattle.st_types.specs.declared.operator.BinaryOperator.TheVariants.{Add}

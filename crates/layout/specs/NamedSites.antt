@@ -16,6 +16,6 @@ named_site_view d = record {
   };
 }
 
--- one more of the same declaration
+-- another variable of the same declaration
 abbrev pub named_as : made.NamedSite → Identifier → made.NamedSite
 named_as d x = made.with_site d.site x

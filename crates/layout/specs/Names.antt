@@ -1,4 +1,4 @@
--- What is asked of a text's names, so that each path stands once: in each scope of variables no name stands twice.
+-- The rule on names that makes each path unique: in each scope of variables no name occurs twice.
 use Rattle.std.specs.Prelude.{List, [], ◌∷◌, map, Bool, true, not, ◌&&◌, Option, Some, None}
 use Rattle.std.specs.List.{list_all}
 use Rattle.st_types.specs.declared.unit.UnitSort.{UnitSort}
@@ -12,7 +12,7 @@ use Rattle.st_meaning.specs.Scopes.{Name, contains_name}
 use Rattle.layout.specs.Types.{NamedSite, sites_of_blocks, site_of_field}
 use Rattle.layout.specs.LayoutVariables.{variables_of_globals, declared_of, configuration_of}
 
--- no name stands twice
+-- no name occurs twice
 abbrev pub are_different : List Name → Bool
 are_different [] = true
 are_different (x ∷ xs) = not (contains_name xs x) && are_different xs
@@ -48,7 +48,7 @@ is_configuration_different None = true
 is_configuration_different (Some c) = are_different (map (λ v. v.name) (variables_of_globals c.globals))
     && (are_different (map (λ r. r.name.name) c.resources) && list_all has_different_instances c.resources)
 
--- No two fields of one structure have one name, no two variables of one unit, no two globals, no two resources and no
+-- No two fields of one structure have the same name, nor two variables of one unit, two globals, two resources, or
 -- two instances of one resource.
 abbrev pub has_different_names : Source → Bool
 has_different_names source =

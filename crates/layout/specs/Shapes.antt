@@ -1,4 +1,4 @@
--- Shapes of variables: their elementary parts in the order of the layout, and where each of them stands.
+-- Shapes of variables: their elementary parts in the order of the layout, and the position of each.
 use Rattle.std.specs.Prelude.{ℕ, zero, suc, ◌+◌, ◌*◌, nat_lt, ℤ, pos, ◌+ℤ◌, ◌-ℤ◌, int_le, int_lt, List, [], ◌∷◌, ◌++◌}
 use Rattle.std.specs.Prelude.{map}
 use Rattle.std.specs.Prelude.{Bool, true, false, not, ◌&&◌, ◌||◌, if◌then◌else◌, Option, Some, None, option_map}
@@ -9,18 +9,18 @@ use Rattle.st_types.specs.declared.path.Step.TheVariants.{Member, Element}
 use Rattle.st_meaning.specs.Operators.{natural}
 use Rattle.st_meaning.specs.Scopes.{Name}
 
--- whose parts they are
-pub data Whole : Type 0 where
-  of_structure : Whole
-  of_instance : Whole
+-- the owner of the parts
+pub data PartsOwner : Type 0 where
+  of_structure : PartsOwner
+  of_instance : PartsOwner
 
--- a variable of an elementary or enumerated type; an array, by its lower bound, the number of its elements and what
--- they are; the parts of a structure or of a block's instance
+-- a variable of an elementary or enumerated type; an array, by its lower bound, the number and the shape of its
+-- elements; the parts of a structure or of a block's instance
 mutual
   pub data Shape : Type 0 where
     plain : Kind → Shape
     array : ℤ → ℕ → Shape → Shape
-    parts : Whole → Parts → Shape
+    parts : PartsOwner → Parts → Shape
 
   pub data Parts : Type 0 where
     no_parts : Parts
@@ -38,7 +38,7 @@ abbrev mutual
   sizes (part_then x sh ps) = size sh + sizes ps
 
 -- how many instances of blocks there are, at every depth
-abbrev pub instances_of_whole : Whole → ℕ
+abbrev pub instances_of_whole : PartsOwner → ℕ
 instances_of_whole of_structure = 0
 instances_of_whole of_instance = 1
 
@@ -81,18 +81,18 @@ abbrev mutual
 abbrev pub in_bounds : ℤ → ℕ → ℤ → Bool
 in_bounds lower count z = int_le lower z && int_lt z (lower +ℤ pos count)
 
--- how many elements stand before the one at the subscript
+-- how many elements come before the one at the subscript
 abbrev pub distance : ℤ → ℤ → ℕ
 distance lower z = natural (z -ℤ lower)
 
--- where an elementary part stands among those of its variable, and its type
+-- the position of an elementary part among those of its variable, and its type
 pub record Position : Type 0 where
   pub number : ℕ
   pub kind : Kind
 
--- the same position, where so many parts stand before
-abbrev pub beyond : ℕ → Position → Position
-beyond n p = record { number = n + p.number; kind = p.kind }
+-- the same position, with `n` more parts before it
+abbrev pub position_after : ℕ → Position → Position
+position_after n p = record { number = n + p.number; kind = p.kind }
 
 -- the position of the elementary part that the steps lead to
 abbrev mutual
@@ -102,7 +102,7 @@ abbrev mutual
   position_of (array lower count sh) [] = None
   position_of (array lower count sh) (Member x ∷ xs) = None
   position_of (array lower count sh) (Element z ∷ xs) = if in_bounds lower count z
-      then option_map (beyond (distance lower z * size sh)) (position_of sh xs) else None
+      then option_map (position_after (distance lower z * size sh)) (position_of sh xs) else None
   position_of (parts w ps) [] = None
   position_of (parts w ps) (Member x ∷ xs) = position_in ps x xs
   position_of (parts w ps) (Element z ∷ xs) = None
@@ -110,9 +110,9 @@ abbrev mutual
   pub position_in : Parts → Name → List Step → Option Position
   position_in no_parts x xs = None
   position_in (part_then y sh ps) x xs =
-      if bytes_eq x y then position_of sh xs else option_map (beyond (size sh)) (position_in ps x xs)
+      if bytes_eq x y then position_of sh xs else option_map (position_after (size sh)) (position_in ps x xs)
 
--- the steps to some elementary part begin with these
+-- the steps to an elementary part begin with these
 abbrev mutual
   pub leads_on : Shape → List Step → Bool
   leads_on (plain k) [] = true
@@ -137,7 +137,7 @@ abbrev pub has_name : Parts → Name → Bool
 has_name no_parts x = false
 has_name (part_then y sh ps) x = bytes_eq x y || has_name ps x
 
--- no two parts of one whole have one name
+-- no two parts of one whole have the same name
 abbrev mutual
   pub is_sound : Shape → Bool
   is_sound (plain k) = true

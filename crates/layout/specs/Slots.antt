@@ -1,4 +1,4 @@
--- The slots of a layout with what they start with, and those of the parts of a variable.
+-- The slots of a layout with their initial values, and those of the parts of a variable.
 use Rattle.std.specs.Prelude.{ℕ, ◌+◌, List, [], ◌∷◌, ◌++◌, map, Bool, false, if◌then◌else◌, option_map}
 use Rattle.st_types.specs.declared.path.Owner.{Owner}
 use Rattle.st_types.specs.declared.path.Step.{Step}
@@ -23,8 +23,8 @@ owner_view o = record { resource = o.resource.now; instance = o.instance.now }
 abbrev pub path_at : Root → List PartStep → Path
 path_at r xs = record { owner = option_map owner_view r.owner; name = r.name.now; steps = map step_view xs }
 
--- the slot of an elementary part, of which the whole is declared so and reached by this path; an input starts as its
--- type does and is never retained, whatever is declared
+-- the slot of an elementary part of a whole with this declaration and this path; an input starts with the default of
+-- its type and is never retained, whatever is declared
 abbrev pub slot_at : Declared → made.Site → Bool → Path → Leaf → LayoutSlot
 slot_at text s input p l = record {
   path = further p l.steps;
@@ -33,11 +33,11 @@ slot_at text s input p l = record {
   is_input = input;
 }
 
--- the slots of what is declared so, of a type that is expanded so deep
+-- the slots of a whole with this declaration, whose type is expanded to this depth
 abbrev pub slots_within : ℕ → Declared → made.Site → Bool → Path → List LayoutSlot
 slots_within n text s input p = map (slot_at text s input p) (leaves_of (shape_within n text s.declared))
 
--- those of its parts, each behind its step
+-- those of its parts, each after its step
 abbrev pub slots_of_parts : ℕ → Declared → Bool → Path → List (Step × made.Site) → List LayoutSlot
 slots_of_parts n text input p [] = []
 slots_of_parts n text input p (e ∷ es) =
@@ -51,7 +51,7 @@ abbrev pub instances_of_parts : ℕ → Declared → List (Step × made.Site) �
 instances_of_parts n text [] = 0
 instances_of_parts n text (e ∷ es) = instance_count (shape_within n text e.1.declared) + instances_of_parts n text es
 
--- what has no parts has a slot of its own
+-- a whole without parts has a slot of its own
 abbrev pub own_slots : made.Composition → KeptSite → Bool → Path → List LayoutSlot
 own_slots (of_kind k) s input p = record {
   path = p;

@@ -1,4 +1,4 @@
--- The layout of a text: its slots, what a plan has of them, and how many instances of blocks it has.
+-- The layout of a text: its slots, the plan's variables and inputs, and how many instances of blocks it has.
 use Rattle.std.specs.Prelude.{ℕ, ◌+◌, List, [], ◌∷◌, ◌++◌, map, not, if◌then◌else◌, filter}
 use Rattle.st_types.specs.declared.path.Step.{Step}
 use Rattle.st_types.specs.declared.kind.Kind.{Kind}
@@ -17,7 +17,7 @@ use Rattle.layout.specs.Types.{shape_of_type}
 use Rattle.layout.specs.Sites.{initial_at, retained_at, default_of}
 use Rattle.layout.specs.LayoutVariables.{Owned, declared_of, layout_variables}
 
--- what is reached from a path by further steps
+-- the path that further steps lead to from a path
 abbrev pub further : Path → List Step → Path
 further p xs = record { owner = p.owner; name = p.name; steps = p.steps ++ xs }
 
@@ -70,7 +70,7 @@ abbrev pub instances_of : Declared → List Owned → ℕ
 instances_of text [] = 0
 instances_of text (v ∷ vs) = instance_count (variable_shape text v) + instances_of text vs
 
--- of slots, those of variables and those of inputs, and what stands there: paths with their types
+-- of slots, those of variables and those of inputs, and their contents: paths with their types
 abbrev pub variable_slots : List Slot → List Slot
 variable_slots ls = filter (λ l. not l.is_input) ls
 
@@ -80,14 +80,14 @@ input_slots ls = filter (λ l. l.is_input) ls
 abbrev pub types_of_slots : List Slot → List (Path × Kind)
 types_of_slots ls = map (λ l. (l.path, l.kind)) ls
 
--- variables as they start, and inputs as a life starts: 0 or FALSE
+-- variables with their initial values, and inputs as at the start of a life: 0 or FALSE
 abbrev pub initial_values : List PlanVariable → Store
 initial_values vs = map (λ v. (v.path, v.initial)) vs
 
 abbrev pub initial_image : List PlanInput → Store
 initial_image is = map (λ i. (i.path, default_of i.kind)) is
 
--- of a text, all of it over the literals as they are resolved: the slots in the order of the layout, inputs among them
+-- of a text whose literals are all resolved: the slots in the order of the layout, inputs among them
 abbrev pub slots_of_text : Source → List Slot
 slots_of_text source = slots_of (declared_of source) (layout_variables source)
 

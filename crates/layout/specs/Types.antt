@@ -1,6 +1,6 @@
--- What a declared type is made of, and its shape. Every declared thing, whether a variable, a field or a member of a
--- block's instance, has a site: what its declaration says of it.
-use Rattle.std.specs.Prelude.{ℕ, zero, suc, ℤ, pos, ◌+ℤ◌, ◌-ℤ◌, List, [], ◌∷◌, ◌++◌, map, if◌then◌else◌, is_none}
+-- Compositions and shapes of declared types. Every declared thing, whether a variable, a field or a member of a
+-- block's instance, has a site: its declared facts.
+use Rattle.std.specs.Prelude.{ℕ, zero, suc, ℤ, List, [], ◌∷◌, ◌++◌, map, if◌then◌else◌, is_none}
 use Rattle.std.specs.Prelude.{Bool, true, false, Option, Some, None, bytes_eq}
 use Rattle.std.specs.List.{list_all}
 use Rattle.st_types.specs.declared.identifier.Identifier.{Identifier}
@@ -20,15 +20,16 @@ use Rattle.st_types.specs.Declarations.{Field, TypeDefinition, Declaration, Vari
 use Rattle.st_types.specs.Units.{OrganisationUnit}
 use Rattle.st_meaning.specs.Bodies.{is_external}
 use Rattle.st_meaning.specs.NameTypes.{Declared, type_named, unit_named, definition_of, elementary, kind_among}
-use Rattle.st_meaning.specs.Operators.{number_of, natural}
+use Rattle.st_meaning.specs.Operators.{number_of}
 use Rattle.st_meaning.specs.Scopes.{Name}
 use Rattle.st_meaning.specs.StandardBlocks.{BlockMember, block_of, members_of}
 use Rattle.st_rules.specs.declared.limits.TheConstants.{MAX_TYPE_DEPTH}
-use Rattle.layout.specs.Shapes.{Whole, of_structure, of_instance, Shape, Parts, plain, array, parts, no_parts}
+use Rattle.st_rules.specs.TypeRules.{elements_of_array}
+use Rattle.layout.specs.Shapes.{PartsOwner, of_structure, of_instance, Shape, Parts, plain, array, parts, no_parts}
 use Rattle.layout.specs.Shapes.{part_then}
 
--- what the declarations say of a variable or of a part of one: its type, its initial value where one is written, and
--- what they say of retention, from the outermost in
+-- the declared facts about a variable or a part of one: its type, its initial value if one is written, and its words
+-- on retention, from the outermost in
 pub record Site : Type 0 where
   pub declared : VariableType
   pub initial : Option Initial
@@ -63,7 +64,7 @@ retention_of (Output keep) = keep
 retention_of (Local keep) = keep
 retention_of _ = None
 
--- the variables of a unit as they stand, constants among them; externals are no variables of its own
+-- the variables of a unit in their order, constants among them; externals aren't variables of its own
 abbrev pub sites_of_blocks : List VariableBlock → List NamedSite
 sites_of_blocks [] = []
 sites_of_blocks (b ∷ bs) = if is_external b.section
@@ -77,7 +78,7 @@ site_of_field f = record {
   site = record { declared = f.declared; initial = f.initial; retentions = [] };
 }
 
--- members of a standard block have no initial value of their own, and say nothing of retention
+-- members of a standard block have no initial value of their own, and don't mention retention
 abbrev pub site_of_member : BlockMember → NamedSite
 site_of_member m = record {
   name = m.0;
@@ -105,20 +106,20 @@ block_type_named text x = elim (block_of x) [
   | None ↦ own_block_type (unit_named text.units x)
 ]
 
--- the block of which a variable of this type is an instance: its type is a name that is no type of the text
+-- the block of which a variable of this type is an instance: its type is a name that isn't a type of the text
 abbrev pub instance_of : Declared → VariableType → Option BlockType
 instance_of text (types.Simple (Named x)) =
     if is_none (type_named text.types x.name) then block_type_named text x.name else None
 instance_of text (types.Simple (Elementary k at)) = None
 instance_of text (types.Array a) = None
 
--- what a type is made of
+-- the composition of a type
 pub data Composition : Type 0 where
   of_kind : Kind → Composition
   of_elements : ArrayType → Composition
-  of_parts : Whole → List NamedSite → Composition
+  of_parts : PartsOwner → List NamedSite → Composition
 
--- what is no type has no part
+-- a name that isn't a type has no part
 abbrev pub nothing : Composition
 nothing = of_parts of_structure []
 
@@ -137,27 +138,24 @@ abbrev pub composition_of : Declared → VariableType → Composition
 composition_of text t = elim (kind_among text.types t)
     [ Some k ↦ of_kind k | None ↦ defined_composition text t (definition_of text t) ]
 
--- the bounds of an array as a lower bound and a number of elements
+-- the lower bound of an array
 abbrev pub lower_of : ArrayType → ℤ
 lower_of a = number_of a.lower
-
-abbrev pub count_of : ArrayType → ℕ
-count_of a = natural ((number_of a.upper -ℤ number_of a.lower) +ℤ pos 1)
 
 abbrev pub element_of : ArrayType → VariableType
 element_of a = types.Simple a.element
 
--- the shape of what is made so, by the shapes of the types of its parts
+-- the shape of this composition, by the shapes of the types of its parts
 abbrev pub parts_of : (VariableType → Shape) → List NamedSite → Parts
 parts_of inner [] = no_parts
 parts_of inner (d ∷ ds) = part_then d.name (inner d.site.declared) (parts_of inner ds)
 
 abbrev pub composed_shape : (VariableType → Shape) → Composition → Shape
 composed_shape inner (of_kind k) = plain k
-composed_shape inner (of_elements a) = array (lower_of a) (count_of a) (inner (element_of a))
+composed_shape inner (of_elements a) = array (lower_of a) (elements_of_array a) (inner (element_of a))
 composed_shape inner (of_parts w ds) = parts w (parts_of inner ds)
 
--- The shape of a type that is at most so many deep; what is deeper has no part.
+-- The shape of a type that is at most `n` deep; a deeper one has no part.
 unfoldable pub shape_within : ℕ → Declared → VariableType → Shape
 shape_within zero text t = parts of_structure no_parts
 shape_within (suc n) text t = composed_shape (shape_within n text) (composition_of text t)
@@ -166,7 +164,7 @@ shape_within (suc n) text t = composed_shape (shape_within n text) (composition_
 abbrev pub shape_of_type : Declared → VariableType → Shape
 shape_of_type text t = shape_within MAX_TYPE_DEPTH text t
 
--- A type is at most so many deep: each type that it is made of is at most one less.
+-- A type is at most `n` deep: each type that it is made of is at most one less.
 abbrev pub parts_within : (VariableType → Bool) → Composition → Bool
 parts_within inner (of_kind k) = true
 parts_within inner (of_elements a) = inner (element_of a)

@@ -13,7 +13,7 @@ use crate::sites::{Part, Site};
 use st_types::VariableBlock;
 use std::alloc::{AllocError, Global};
 
-/// A member, with what its block's instance retains.
+/// A member, with its retention in its block's instance.
 fn variable_part<'a>(whole: Site<'a>, variable: NamedSite<'a>) -> Part<'a>
     ensures { (s : made.Site) → site_view whole.entry ≡ kept s
         → part_view result ≡ kept_part (member_part s (named_site_view variable.entry)) }

@@ -62,7 +62,7 @@ fn push_result<'a>(
     Ok(())
 }
 
-/// What variables start with.
+/// The initial values of variables.
 fn started_values(alloc: Global, slots: &[LayoutSlot]) -> Result<Vec<Value>, AllocError>
     ensures { IfOk result (λ values. values.items ≡ map (λ v. v.initial) (variables_among slots.now)) }
 {
@@ -75,8 +75,8 @@ fn started_values(alloc: Global, slots: &[LayoutSlot]) -> Result<Vec<Value>, All
     Ok(values)
 }
 
-/// The values of a function's result and then of all its variables as a call begins. There are none where these are
-/// more than a layout has room for.
+/// The values of a function's result and then of all its variables at the beginning of a call. There are none if these
+/// are more than a layout has room for.
 pub fn fresh_values<'a>(
     alloc: Global,
     types: &Types<'a>,

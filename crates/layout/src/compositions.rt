@@ -1,4 +1,4 @@
-//! What declared types are made of.
+//! Compositions of declared types.
 
 ghost use Rattle.std.specs.Prelude.{◌≡◌, ℕ, Some, IfOk, option_map};
 ghost use Rattle.st_types.specs.DeclarationViews.{type_definition_view};
@@ -34,7 +34,7 @@ impl Drop for Types<'_> {
     }
 }
 
-/// What a type is made of.
+/// The composition of a type.
 #[derive(Clone, Copy)]
 pub enum Composition<'a> {
     /// An elementary or an enumerated type.
@@ -47,11 +47,11 @@ pub enum Composition<'a> {
     Block(&'a [VariableBlock]),
     /// A standard function block.
     Standard(StandardBlock),
-    /// It is no type.
+    /// It isn't a type.
     Nothing,
 }
 
-/// What a declared type is made of, where it is no enumerated one.
+/// The composition of a declared type that isn't enumerated.
 fn of_definition<'a>(definition: &'a TypeDefinition) -> Composition<'a>
     ensures { (text : Declared) (x : VariableType) → composition_view result
         ≡ defined_composition text x (Some (type_definition_view definition.now)) }
@@ -63,7 +63,7 @@ fn of_definition<'a>(definition: &'a TypeDefinition) -> Composition<'a>
     }
 }
 
-/// What an instance of a unit is made of; only function blocks have instances.
+/// The composition of an instance of a unit; only function blocks have instances.
 fn of_unit<'a>(unit: &'a Unit) -> Composition<'a>
     ensures { composition_view result ≡ instance_parts (own_block_type (Some (unit_view unit.now))) }
 {
@@ -94,7 +94,7 @@ impl<'a> Types<'a> {
         self.names.unit_named(name)
     }
 
-    /// What an instance is made of, by the name of its block.
+    /// The composition of an instance, by the name of its block.
     fn instance_named(&self, name: &Name) -> Composition<'a>
         ensures { (text : Declared) → ServesTypes self.now text
             → composition_view result ≡ instance_parts (block_type_named text name.now) }
@@ -108,7 +108,7 @@ impl<'a> Types<'a> {
         }
     }
 
-    /// What a type is made of, by its name.
+    /// The composition of a type, by its name.
     pub fn composition_named(&self, name: &Name) -> Composition<'a>
         ensures { (text : Declared) (at : ℕ) → ServesTypes self.now text
             → composition_view result ≡ composition_of text (named_type name.now at) }
@@ -132,7 +132,7 @@ impl<'a> Types<'a> {
         }
     }
 
-    /// What a type is made of.
+    /// The composition of a type.
     pub fn composition_of(&self, declared: PlaceType<'a>) -> Composition<'a>
         ensures { (text : Declared) → ServesTypes self.now text
             → composition_view result ≡ composition_of text (place_type_view declared.entry) }

@@ -10,7 +10,7 @@ use crate::slots::OwnerNames;
 use st_types::{Configuration, Instance, LibraryElement, Name, Resource, Source};
 use std::alloc::{AllocError, Global};
 
-/// The configuration of a text; none where it has none or more than one.
+/// The configuration of a text; none if it has none or more than one.
 pub fn only_configuration(source: &Source) -> Option<&Configuration>
     ensures { option_map (λ c. configuration_view c.now) result
         ≡ only_configuration (configurations_in (source_view source.now)) }
@@ -55,7 +55,7 @@ fn push_instances<'a>(
     Ok(())
 }
 
-/// The instances of programs, by resources and as they stand.
+/// The instances of programs, by resources and in their order.
 pub fn instances_in<'a>(
     alloc: Global,
     resources: &'a [Resource],

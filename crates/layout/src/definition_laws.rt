@@ -31,12 +31,12 @@ ghost use Rattle.layout.specs.TextLayouts.{plan_inputs_of};
 ghost use Rattle.layout.specs.TextLayouts.{variable_slots, input_slots, types_of_slots, initial_values};
 ghost use Rattle.layout.specs.TextLayouts.{initial_image, slots_of_text, plan_variables_of_text};
 ghost use Rattle.layout.specs.TextLayouts.{plan_inputs_of_text};
-ghost use Rattle.layout.specs.Standing.{path_to, are_declared_once, variable_at, position_among, Stands};
-ghost use Rattle.layout.specs.Standing.{IsDeclared};
+ghost use Rattle.layout.specs.VariableSlots.{path_to, are_declared_once, variable_at, position_among, LiesAt};
+ghost use Rattle.layout.specs.VariableSlots.{IsDeclared};
 ghost use Rattle.layout.specs.Names.{has_different_names};
 
-/// A shape has as many leaves as its size says. A part stands among them where its position says, and nowhere else
-/// where no two parts of one whole have one name; then steps lead on exactly where those to some leaf begin so.
+/// A shape has as many leaves as its size says. A part is among them at its position, and nowhere else if no two parts
+/// of one whole have the same name; then steps lead on exactly when those to some leaf begin with them.
 pub fn leaves_of_shapes()
     ensures count { (sh : Shape) → length (leaves_of sh) ≡ size sh }
     ensures there { (sh : Shape) (xs : List Step) (o : Position) → position_of sh xs ≡ Some o
@@ -47,9 +47,9 @@ pub fn leaves_of_shapes()
         → list_any (λ l. begins_with l.steps xs) (leaves_of sh) ≡ leads_on sh xs }
 {}
 
-/// In the layout of variables that are declared once each path has one slot, which its declaration and its steps tell
-/// with its type. Each variable stands with all its parts from its own first slot on, and its slots are exactly those
-/// whose paths begin with its name.
+/// In the layout of variables that are declared once each path has one slot, given with its type by its declaration and
+/// its steps. Each variable takes consecutive slots with all its parts, and its slots are exactly those whose paths
+/// begin with its name.
 pub fn layouts_of_declared_variables()
     ensures once { (text : Declared) (vs : List Owned) → are_declared_once text vs ≡ true
         → IsLayout (slots_of text vs) }
@@ -58,7 +58,7 @@ pub fn layouts_of_declared_variables()
         → position_among text vs l.path ≡ Some record { number = k; kind = l.kind } }
     ensures stands { (text : Declared) (vs : List Owned) → are_declared_once text vs ≡ true → (o : Option Owner)
         (x : Name) (k : ℕ) (v : Owned) → variable_at text vs o x ≡ Some (k, v)
-        → Stands (slots_of text vs) v.is_input (path_to o x) (variable_shape text v) k }
+        → LiesAt (slots_of text vs) v.is_input (path_to o x) (variable_shape text v) k }
     ensures own { (text : Declared) (vs : List Owned) → are_declared_once text vs ≡ true → (o : Option Owner)
         (x : Name) (k : ℕ) (v : Owned) → variable_at text vs o x ≡ Some (k, v)
         → filter (λ l. is_within (path_to o x) l.path) (slots_of text vs) ≡ slots_of_variable text v }
@@ -70,14 +70,14 @@ pub fn parts_are_declared()
         → position_of (shape_of_type text s.declared) xs ≡ Some o → IsDeclared text s xs o.kind }
 {}
 
-/// The shape of a type that is at most 64 deep is the same however far it is expanded.
-pub fn types_are_expanded_whole()
+/// The shape of a type that is at most 64 deep is the same at every depth of expansion from there on.
+pub fn types_are_fully_expanded()
     ensures { (text : Declared) (t : VariableType) (n : ℕ) → is_within_depth MAX_TYPE_DEPTH text t ≡ true
         → MAX_TYPE_DEPTH ≤ n → shape_within n text t ≡ shape_of_type text t }
 {}
 
-/// Each part of a variable starts with the value that its declarations tell, and is retained as they tell. A written
-/// constant that is one of the type is the value; where none is written it is 0, FALSE, T#0s or the first name.
+/// Each part of a variable starts with its declared value, and is retained as declared. A written constant that is one
+/// of the type is the value; if none is written it is 0, FALSE, T#0s or the first name.
 pub fn variables_start_as_declared()
     ensures written { (text : Declared) (s : Site) (l : Literal) (v : Datum) → s.initial ≡ Some (constant l)
         → value_of_literal l ≡ Ok v → holds v.kind v.number ≡ true → initial_at text s [] v.kind ≡ v }
@@ -107,14 +107,13 @@ pub fn initial_values_fill_the_layout()
     ensures held { (text : Declared) (vs : List Owned) → all_held (initial_values (plan_variables_of text vs)) ≡ true }
 {}
 
-/// Slots hang on no literal: those of a text are the ones that it has as it is parsed.
-pub fn slots_hang_on_no_literal()
+/// Slots don't depend on literals: those of a text are the same before its literals are resolved.
+pub fn slots_depend_on_no_literal()
     ensures { (source : Source) → slots_of_text source ≡ slots_of (declared_in source)
         (variables_of_configuration (declared_in source) (only_configuration (configurations_in source))) }
 {}
 
-/// In a text whose names stand once in their scopes each path of the layout stands once, and the initial values are a
-/// store.
+/// In a text whose names occur once in their scopes each path of the layout occurs once, and the initial values are a store.
 pub fn layouts_of_texts()
     ensures once { (source : Source) → has_different_names source ≡ true
         → are_declared_once (declared_of source) (layout_variables source) ≡ true }

@@ -1,16 +1,16 @@
-//! The elements of an array, with what its initial value gives each.
+//! The elements of an array, with the initial value of each.
 
-ghost use Rattle.std.specs.Prelude.{◌≡◌, ◌++◌, ◌≤ℤ◌, ◌^◌, neg_ℤ, pos, ℕ, map, option_map, replicate, slice_get, IfOk};
+ghost use Rattle.std.specs.Prelude.{◌≡◌, ◌++◌, ℕ, map, option_map, replicate, slice_get, IfOk};
 ghost use Rattle.st_types.specs.Initials.{Elements, element_then, elements_of};
 ghost use Rattle.st_types.specs.InitialViews.{element_view};
 ghost use Rattle.st_meaning.specs.Operators.{natural, number_of};
+ghost use Rattle.st_rules.specs.TypeRules.{elements_of_array};
 ghost use Rattle.layout.specs.Types as made;
-ghost use Rattle.layout.specs.Types.{count_of};
 ghost use Rattle.layout.specs.Sites.{element_initial, given, listed_elements};
 ghost use Rattle.layout.specs.KeptSites.{element_part, element_parts, given_view, kept, kept_part, part_view, site_view};
 
 use crate::sites::{Part, PartStep, Site};
-use st_meaning::number_of;
+use st_decl::{bound, elements_of_array};
 use st_types::{ArrayType, Initial, InitialElement, Number};
 use std::alloc::{AllocError, Global};
 use symbols::PlaceType;
@@ -26,7 +26,7 @@ fn times_of(count: &Number) -> u64
     }
 }
 
-/// Appends what so many elements are given.
+/// Appends the same initial value for each of `count` elements.
 fn push_repeated<'a>(
     given: &mut Vec<Option<&'a Initial>>,
     times: u64,
@@ -41,7 +41,7 @@ fn push_repeated<'a>(
     Ok(())
 }
 
-/// Appends what an entry of a list gives the elements that it stands for.
+/// Appends the initial values that an entry of a list gives its elements.
 fn push_listed_element<'a>(
     given: &mut Vec<Option<&'a Initial>>,
     element: &'a InitialElement,
@@ -61,7 +61,7 @@ fn push_listed_element<'a>(
     }
 }
 
-/// What a list gives the elements of an array, from the first on.
+/// The initial values that a list gives the elements of an array, from the first on.
 fn listed_elements<'a>(
     alloc: Global,
     elements: &'a [InitialElement],
@@ -76,7 +76,7 @@ fn listed_elements<'a>(
     Ok(given)
 }
 
-/// What an initial value gives the elements of an array, from the first on. Those behind the last are given nothing.
+/// The initial values that a whole gives the elements of an array, from the first on. Those after the last have none.
 fn given_elements<'a>(
     alloc: Global,
     initial: Option<&'a Initial>,
@@ -90,7 +90,7 @@ fn given_elements<'a>(
     }
 }
 
-/// What the element of this number is given, from 0.
+/// The initial value of the element with this number, from 0.
 fn element_initial<'a>(listed: &[Option<&'a Initial>], number: usize) -> Option<&'a Initial>
     ensures { given_view result ≡ given (slice_get (map given_view listed.now) number) }
 {
@@ -98,28 +98,6 @@ fn element_initial<'a>(listed: &[Option<&'a Initial>], number: usize) -> Option<
         Some(initial) => *initial,
         None => None,
     }
-}
-
-/// The number of a bound, of at most 64 bits.
-fn bound(number: &Number) -> i128
-    ensures value { result ≡ number_of number.now }
-    ensures least { neg_ℤ (pos (2 ^ 64)) ≤ℤ result }
-    ensures greatest { result ≤ℤ pos (2 ^ 64) }
-{
-    let _magnitude = number.magnitude;
-    number_of(number)
-}
-
-/// How many elements an array has.
-pub fn count_of(array: &ArrayType) -> u128
-    ensures { result ≡ count_of array.now }
-{
-    let lower = bound(&array.lower);
-    let upper = bound(&array.upper);
-    if upper < lower {
-        return 0;
-    }
-    (upper - lower + 1) as u128
 }
 
 /// The element of this number, from 0.
@@ -150,10 +128,10 @@ pub fn elements_of<'a>(
     array: &'a ArrayType,
 ) -> Result<Vec<Part<'a>>, AllocError>
     ensures { IfOk result (λ parts. (s : made.Site) → site_view whole.entry ≡ kept s → map part_view parts.items
-        ≡ map kept_part (element_parts s array.now 0 (count_of array.now))) }
+        ≡ map kept_part (element_parts s array.now 0 (elements_of_array array.now))) }
 {
     let listed = given_elements(alloc, whole.initial)?;
-    let count = count_of(array);
+    let count = elements_of_array(array);
     let mut parts = Vec::new(alloc);
     for _ in 0..count {
         parts.push(element_part(whole, array, &listed, parts.len()))?;

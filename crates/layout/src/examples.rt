@@ -1,4 +1,4 @@
-//! Worked examples of layouts and of texts in the meaning's words, by topic, each proved by computation.
+//! Worked examples of layouts and of texts in the terms of the meaning, by topic, each proved by computation.
 
 pub mod initial_values;
 pub mod layouts;

@@ -1,4 +1,4 @@
-//! The expansion of a variable into its elementary parts, which stops where a layout has no room for more.
+//! The expansion of a variable into its elementary parts, which stops when a layout has no room for more.
 
 ghost use Rattle.std.specs.Prelude.{◌≡◌, ◌≤◌, ◌+◌, ◌++◌, length, IfErr, OnOk, true};
 ghost use Rattle.st_meaning.specs.NameTypes.{Declared};
@@ -25,7 +25,7 @@ use st_types::limits::MAX_PATHS;
 use std::alloc::Global;
 use symbols::StandardBlock;
 
-/// The slots so far, and where the next ones stand.
+/// The slots so far, to which the next ones are appended.
 #[derive(Drop)]
 pub struct Growing<'a> {
     pub slots: Vec<LayoutSlot>,
@@ -76,7 +76,7 @@ fn count_instance(grown: &mut Growing) -> Result<(), LayoutError>
     Ok(())
 }
 
-/// What a part is itself, whatever its own parts are: a slot, an instance of a block, or nothing.
+/// Adds the part itself, without its own parts: a slot, an instance of a block, or nothing.
 fn push_own<'a>(
     alloc: Global,
     grown: &mut Growing,
@@ -105,7 +105,7 @@ fn push_own<'a>(
     }
 }
 
-/// Appends the slots of what is declared so, whose type is expanded at most so deep.
+/// Appends the slots of a declared whole, whose type is expanded at most to this depth.
 pub fn push_site<'a>(
     depth: usize,
     alloc: Global,

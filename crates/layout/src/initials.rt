@@ -9,7 +9,7 @@ ghost use Rattle.layout.specs.KeptSites.{given_view};
 use st_meaning::value_of_number;
 use st_types::{Initial, Kind, Literal, Value};
 
-/// The value, where it is of the type.
+/// The value, if it is one of the type.
 fn fitted(kind: Kind, value: Value) -> Option<Value>
     ensures { result ≡ fitting kind (Ok value) }
 {
@@ -20,7 +20,7 @@ fn fitted(kind: Kind, value: Value) -> Option<Value>
     }
 }
 
-/// The value of a literal, where it is of the type.
+/// The value of a literal, if it is one of the type.
 fn fitting(kind: Kind, literal: &Literal) -> Option<Value>
     ensures { result ≡ fitting kind (value_of_literal literal.now) }
 {
@@ -29,7 +29,7 @@ fn fitting(kind: Kind, literal: &Literal) -> Option<Value>
             Ok(value) => fitted(kind, value),
             Err(_) => None,
         },
-        Literal::Truth(_, truth) => fitted(kind, Value::truth(*truth)),
+        Literal::Truth(_, truth) => fitted(kind, Value::from_bool(*truth)),
         Literal::Duration(_, duration) => match Value::new(Kind::Time, i128::from(*duration)) {
             Ok(value) => fitted(kind, value),
             Err(_) => None,
@@ -57,8 +57,8 @@ fn default_of(kind: Kind) -> Value
     }
 }
 
-/// The value that a part of this type starts with: the declared one, else the default of its type; an input starts with
-/// the default.
+/// The value that a part of this type starts with: the declared one, or else the default of its type; an input starts
+/// with the default.
 pub fn started(kind: Kind, initial: Option<&Initial>, is_input: bool) -> Value
     ensures { result ≡ (if is_input then default_of kind
         else initial_value kind (constant_of kind (given_view initial.entry))) }

@@ -30,10 +30,10 @@ use std::marker::Model;
 /// The layout of a text: a slot for each elementary part of its variables, at most 4,096. Contracts see the slots, and
 /// the layout text of a record.
 ///
-/// The globals come as they stand, inputs among them, then by resources the variables of each program's instance. A slot
-/// has a number from 0, and each path one slot.
+/// The globals come in their order, inputs among them, then by resources the variables of each program's instance. A
+/// slot has a number from 0, and each path one slot.
 pub struct Layout {
-    /// What stands in the slot of each path, in the order of the slots.
+    /// The facts of the slot of each path, in the order of the slots.
     slots: IndexMap<Path, SlotFacts>,
     /// A line `PATH TYPE` with LF for each retained slot.
     text: Vec<u8>,
@@ -64,9 +64,9 @@ impl Layout {
     /// The layout of a text that breaks no rule, from its tree in which each literal has its type.
     ///
     /// It has exactly the paths of the text in order, with their types, their initial values and their retention. It is
-    /// refused (M1) exactly where these are more than 4,096, or where the text has more than 4,096 instances of
-    /// function blocks at every depth; the expansion stops there. Of the tree of another text nothing is said, nor how
-    /// long it takes.
+    /// refused (M1) exactly when these are more than 4,096, or when the text has more than 4,096 instances of function
+    /// blocks at every depth; the expansion stops there. This says nothing about the tree of another text, nor how long
+    /// that takes.
     pub fn build(alloc: Global, source: &Source) -> Result<Layout, LayoutError>
         ensures ok { IfOk result (λ layout. (text : trees.Source) → source_view source.now ≡ resolved_source text
             → IsWellTyped text → IsLayoutOf text layout.slots) }
@@ -93,7 +93,7 @@ impl Layout {
         self.slots.len()
     }
 
-    /// The number of a path's slot, from 0; none where the layout has no such path.
+    /// The number of a path's slot, from 0; none if the layout has no such path.
     pub fn slot(&self, path: &Path) -> Option<u16>
         ensures { result ≡ slot_number self.now.slots path.now }
     {
@@ -103,7 +103,7 @@ impl Layout {
         }
     }
 
-    /// The path of a slot by its number; none where there is no such slot.
+    /// The path of a slot by its number; none if there is no such slot.
     pub fn path(&self, slot: u16) -> Option<&Path>
         ensures { option_map (λ p. p.now) result ≡ path_numbered self.now.slots slot }
     {
@@ -113,7 +113,7 @@ impl Layout {
         }
     }
 
-    /// Whether a slot is kept over a power failure (RETAIN); one that is not there is not.
+    /// Whether a slot is kept over a power failure (RETAIN); a slot that doesn't exist is not.
     pub fn retained(&self, slot: u16) -> bool
         ensures { result ≡ is_retained (slice_get self.now.slots slot) }
     {
@@ -130,7 +130,7 @@ impl Layout {
         &self.text
     }
 
-    /// What stands in the slots, by their numbers.
+    /// The facts of the slots, by their numbers.
     pub fn facts(&self) -> &[SlotFacts]
         ensures { result.now ≡ map facts_of self.now.slots }
     {

@@ -12,7 +12,7 @@ pub enum LayoutError {
     /// More than 4,096 paths, inputs among them, or more than 4,096 instances of function blocks at every depth.
     #[error("M1")]
     TooLarge,
-    /// Memory ran out.
+    /// An allocation failed.
     #[error("M3")]
     OutOfMemory,
 }

@@ -10,7 +10,7 @@ ghost use Rattle.layout.specs.TextLayouts.{instances_of};
 ghost use Rattle.layout.specs.Compositions.{ServesTypes};
 ghost use Rattle.layout.specs.Growth.{Exceeds};
 ghost use Rattle.layout.specs.Instances.{instance_view, variables_of_programs};
-ghost use Rattle.layout.specs.Layouts.{GrowsBy, are_expandable, layout_size, layout_slots, variables_in};
+ghost use Rattle.layout.specs.Layouts.{GrowsBy, are_expandable, layout_size, layout_slots, owned_variables};
 ghost use Rattle.layout.specs.Variables.{variable_view};
 ghost use Rattle.layout.specs.declared.limits.TheConstants.{MAX_INSTANCES};
 
@@ -113,7 +113,7 @@ fn push_programs<'a>(
     Ok(())
 }
 
-/// Appends the slots of a configuration: of its globals as they stand, and then of its programs' instances.
+/// Appends the slots of a configuration: of its globals in their order, and then of its programs' instances.
 fn push_configuration<'a>(
     alloc: Global,
     grown: &mut Growing<'a>,
@@ -141,20 +141,20 @@ fn push_configuration<'a>(
     Ok(())
 }
 
-/// The slots of a text in which each literal has its type, in the order of its layout. A text that has not exactly one
-/// configuration has none.
+/// The slots of a text in which each literal has its type, in the order of its layout. A text that doesn't have exactly
+/// one configuration has none.
 pub fn slots_in(alloc: Global, source: &Source) -> Result<Vec<LayoutSlot>, LayoutError>
     ensures ok { IfOk result (λ slots. are_expandable (declared_in (source_view source.now))
-        (variables_in (source_view source.now)) ≡ true → slots.items
-        ≡ layout_slots (declared_in (source_view source.now)) (variables_in (source_view source.now))) }
+        (owned_variables (source_view source.now)) ≡ true → slots.items
+        ≡ layout_slots (declared_in (source_view source.now)) (owned_variables (source_view source.now))) }
     ensures room { IfOk result (λ slots. length slots.items ≤ MAX_PATHS) }
     ensures few { OnOk result (are_expandable (declared_in (source_view source.now))
-        (variables_in (source_view source.now)) ≡ true → instances_of (declared_in (source_view source.now))
-        (variables_in (source_view source.now)) ≤ MAX_INSTANCES) }
+        (owned_variables (source_view source.now)) ≡ true → instances_of (declared_in (source_view source.now))
+        (owned_variables (source_view source.now)) ≤ MAX_INSTANCES) }
     ensures err { IfErr result (λ e. are_expandable (declared_in (source_view source.now))
-        (variables_in (source_view source.now)) ≡ true → Exceeds
-        (layout_size (declared_in (source_view source.now)) (variables_in (source_view source.now)))
-        (instances_of (declared_in (source_view source.now)) (variables_in (source_view source.now))) e) }
+        (owned_variables (source_view source.now)) ≡ true → Exceeds
+        (layout_size (declared_in (source_view source.now)) (owned_variables (source_view source.now)))
+        (instances_of (declared_in (source_view source.now)) (owned_variables (source_view source.now))) e) }
 {
     let Some(configuration) = only_configuration(source) else {
         return Ok(Vec::new(alloc));

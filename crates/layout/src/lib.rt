@@ -1,7 +1,7 @@
 //! The layout of a text: the elementary parts of its variables in order, with their initial values and retention.
 //!
-//! What a layout is stands in `specs/`, and is held to laws and worked examples by contracts of functions that do
-//! nothing. The code takes a declared type apart one level at a time.
+//! `specs/` defines layouts, and contracts of functions that do nothing hold the definition to laws and worked
+//! examples. The code takes a declared type apart one level at a time.
 #![tactic(auto)]
 
 mod block_members;
@@ -36,10 +36,9 @@ pub use compositions::{Composition, Types};
 pub use configurations::{ProgramInstance, instances_in, only_configuration};
 pub use definition_laws::{
     initial_values_fill_the_layout, layouts_of_declared_variables, layouts_of_texts,
-    leaves_of_shapes, parts_are_declared, slots_hang_on_no_literal, types_are_expanded_whole,
+    leaves_of_shapes, parts_are_declared, slots_depend_on_no_literal, types_are_fully_expanded,
     variables_start_as_declared,
 };
-pub use elements::count_of;
 pub use enumerations::enumerations_in;
 pub use laws::{accepted_texts_declare_names_once, what_is_too_large};
 pub use layout::Layout;

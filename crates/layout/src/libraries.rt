@@ -1,4 +1,4 @@
-//! Laws of a text in the words of the meaning.
+//! Laws of a text in the terms of the meaning.
 
 ghost use Rattle.std.specs.Prelude.{◌≡◌, List, [], Option, Some, true};
 ghost use Rattle.std.specs.List.{list_all};
@@ -32,7 +32,7 @@ pub fn instances_have_the_members_of_their_blocks()
         → composition_of text t ≡ of_parts of_instance b.members }
 {}
 
-/// The variables with which a call of a function begins are a store.
+/// The variables at the beginning of a call of a function are a store.
 pub fn functions_start_with_a_store()
     ensures { (text : Declared) → are_types_and_units_different text ≡ true → (x : Name) (f : Function)
         → function_in (library_of text).functions x ≡ Some f → IsStore [] f.fresh }

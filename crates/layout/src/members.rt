@@ -1,4 +1,4 @@
-//! The parts of a whole, one level down, with what their declarations say.
+//! The parts of a whole, one level down, with their declared facts.
 
 ghost use Rattle.std.specs.Prelude.{◌≡◌, ◌++◌, ◌∷◌, [], map, OnOk};
 ghost use Rattle.st_types.specs.DeclarationViews.{field_view};
@@ -17,7 +17,7 @@ use st_types::{Field, Initial, InitialMember, Retention};
 use std::alloc::AllocError;
 use symbols::{PlaceType, place_type};
 
-/// What a list of a structure's fields gives a field.
+/// The initial value that a list of a structure's fields gives a field.
 fn field_initial<'a>(members: &'a [InitialMember], name: &[u8]) -> Option<&'a Initial>
     ensures { given_view result
         ≡ field_initial (members_of (map member_view members.now)) name.now }
@@ -30,7 +30,7 @@ fn field_initial<'a>(members: &'a [InitialMember], name: &[u8]) -> Option<&'a In
     None
 }
 
-/// What the initial value of a whole gives a field or a member of it.
+/// The initial value that a whole gives one of its fields or members.
 fn member_initial<'a>(initial: Option<&'a Initial>, name: &[u8]) -> Option<&'a Initial>
     ensures { given_view result
         ≡ member_initial (given_view initial.entry) name.now }
@@ -41,7 +41,7 @@ fn member_initial<'a>(initial: Option<&'a Initial>, name: &[u8]) -> Option<&'a I
     }
 }
 
-/// Whether what is declared so within what is retained or not is retained.
+/// Whether a part with this declaration is retained, in a whole that is retained or not.
 pub fn is_retained_within(retained: bool, said: Option<Retention>) -> bool
     ensures { result ≡ retained_so_far retained (said ∷ []) }
 {
@@ -52,7 +52,7 @@ pub fn is_retained_within(retained: bool, said: Option<Retention>) -> bool
     }
 }
 
-/// A field or a member by its name, with what the whole gives it, and else with what its own declaration says.
+/// A field or a member by its name, with the value that the whole gives it, or else that of its own declaration.
 #[tactic(auto, using(crate::proofs::KeptSiteLemmas::retained_appended))]
 pub fn member_of<'a>(
     whole: Site<'a>,

@@ -17,11 +17,11 @@ pub struct NamedSite<'a> {
     pub name: &'a [u8],
     pub declared: PlaceType<'a>,
     pub initial: Option<&'a Initial>,
-    /// What the block of variables in which it stands says of retention.
+    /// The word of its block of variables on retention.
     pub said: Option<Retention>,
 }
 
-/// What a block of variables says of their retention.
+/// The word of a block of variables on their retention.
 fn retention_of(section: Section) -> Option<Retention>
     ensures { result ≡ retention_of section }
 {
@@ -35,7 +35,7 @@ fn retention_of(section: Section) -> Option<Retention>
     }
 }
 
-/// Whether a block of variables declares externals, which are no variables of its unit.
+/// Whether a block of variables declares externals, which aren't variables of its unit.
 fn is_external(section: Section) -> bool
     ensures { result ≡ is_external section }
 {
@@ -69,7 +69,7 @@ fn push_names<'a>(
     Ok(())
 }
 
-/// Appends the variables of declarations, of which their block says this of retention.
+/// Appends the variables of declarations whose block has this word on retention.
 fn push_declarations<'a>(
     sites: &mut Vec<NamedSite<'a>>,
     said: Option<Retention>,
@@ -90,7 +90,7 @@ fn push_declarations<'a>(
     Ok(())
 }
 
-/// Appends the variables of a block, but for externals.
+/// Appends the variables of a block, except externals.
 fn push_block<'a>(
     sites: &mut Vec<NamedSite<'a>>,
     block: &'a VariableBlock,

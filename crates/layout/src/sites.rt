@@ -1,4 +1,4 @@
-//! What the declarations say of a variable or of a part of one.
+//! Declared facts about a variable or a part of one.
 
 use st_types::Initial;
 use symbols::PlaceType;
@@ -9,7 +9,7 @@ pub struct Site<'a> {
     pub declared: PlaceType<'a>,
     /// The initial value that is written for it.
     pub initial: Option<&'a Initial>,
-    /// Whether it is retained, by the innermost declaration so far that says something of it.
+    /// Whether it is retained, by the innermost declaration so far that mentions retention.
     pub retained: bool,
 }
 

@@ -1,4 +1,4 @@
-//! Sizes of types: how many slots a variable of a type takes, cut off where a layout has no room for them.
+//! Sizes of types: how many slots a variable of a type takes, capped above the number that a layout has room for.
 
 ghost use Rattle.std.specs.Prelude.{◌≡◌, ◌+◌, ◌*◌, ℕ, IfNone, IfOk, IfSome, OnOk, Some, false, option_map, true};
 ghost use Rattle.st_rules.specs.declared.limits.TheConstants.{MAX_TYPE_DEPTH};
@@ -8,36 +8,36 @@ ghost use Rattle.symbols.specs.PlaceTypes.{place_type_view};
 ghost use Rattle.layout.specs.Shapes.{size};
 ghost use Rattle.layout.specs.Types.{is_within_depth, shape_of_type};
 ghost use Rattle.layout.specs.Compositions.{ServesTypes, composition_view};
-ghost use Rattle.layout.specs.Sizes.{IsSized, KnowsSizes, ServesSizes, cut, name_in};
+ghost use Rattle.layout.specs.Sizes.{IsSized, KnowsSizes, ServesSizes, capped_size, name_in};
 ghost use Rattle.layout.specs.Slots.{own_size};
 
 use crate::compositions::{Composition, Types};
-use crate::elements::count_of;
 use crate::parts::parts_of;
 use crate::sites::Site;
+use st_decl::elements_of_array;
 use st_rules::limits::MAX_TYPE_DEPTH;
 use st_types::limits::MAX_PATHS;
 use st_types::{Identifier, SimpleType};
 use std::alloc::{AllocError, Global};
 use symbols::{Index, PlaceType};
 
-/// The sum of two sizes, cut off.
+/// The sum of two sizes, capped.
 pub fn sum(a: usize, b: usize) -> usize
-    ensures { result ≡ cut (a + b) }
+    ensures { result ≡ capped_size (a + b) }
 {
     a.saturating_add(b).min(MAX_PATHS + 1)
 }
 
-/// The size of so many elements, cut off.
+/// The size of `count` elements, capped.
 pub fn product(count: u128, size: usize) -> usize
-    ensures { result ≡ cut (count * size) }
+    ensures { result ≡ capped_size (count * size) }
 {
     count
         .saturating_mul(size as u128)
         .min(MAX_PATHS as u128 + 1) as usize
 }
 
-/// The size of what has no parts.
+/// The size of a whole without parts.
 fn own_size(composed: Composition) -> usize
     ensures { result ≡ own_size (composition_view composed.entry) }
 {
@@ -60,7 +60,7 @@ fn name_of_simple(declared: &SimpleType) -> Option<&Identifier>
     }
 }
 
-/// The name that a type is.
+/// The name of a type that is a name.
 fn name_of<'a>(declared: PlaceType<'a>) -> Option<&'a Identifier>
     ensures { option_map (λ x. x.now) result ≡ name_in (place_type_view declared.entry) }
 {
@@ -71,7 +71,7 @@ fn name_of<'a>(declared: PlaceType<'a>) -> Option<&'a Identifier>
     }
 }
 
-/// The size of a type whose name was asked for before.
+/// The size of a type whose name was looked up before.
 fn known_size<'a>(known: &Index<'a, usize>, declared: PlaceType<'a>) -> Option<usize>
     ensures { IfSome result (λ size. (text : Declared) → KnowsSizes text known.now
         → IsSized text (place_type_view declared.entry) size) }
@@ -97,7 +97,7 @@ fn remember<'a>(
     Ok(())
 }
 
-/// The size of a type, where it is at most so deep.
+/// The size of a type, if it is at most this deep.
 fn size_within<'a>(
     depth: usize,
     alloc: Global,
@@ -124,7 +124,7 @@ fn size_within<'a>(
         let Some(size) = size_within(depth - 1, alloc, known, types, element)? else {
             return Ok(None);
         };
-        let size = product(count_of(array), size);
+        let size = product(elements_of_array(array), size);
         remember(known, declared, size)?;
         return Ok(Some(size));
     }
@@ -174,8 +174,8 @@ impl<'a> Sizes<'a> {
         &self.types
     }
 
-    /// How many slots a variable of the type takes; 4,097 where it takes more than 4,096. Of a type that is more than
-    /// 64 deep, as none is of a text that breaks no rule, nothing is said, and the answer may be None.
+    /// How many slots a variable of the type takes; 4,097 if it takes more than 4,096. For a type that is more than 64
+    /// deep, which no text that breaks no rule has, nothing is promised, and the answer may be None.
     pub fn size_of(
         &mut self,
         alloc: Global,
@@ -184,7 +184,7 @@ impl<'a> Sizes<'a> {
         ensures serves { OnOk result ((text : Declared) → ServesSizes self.old text → ServesSizes self.new text) }
         ensures size { IfOk result (λ answer. (text : Declared) → ServesSizes self.old text
             → is_within_depth MAX_TYPE_DEPTH text (place_type_view declared.entry) ≡ true
-            → answer ≡ Some (cut (size (shape_of_type text (place_type_view declared.entry))))) }
+            → answer ≡ Some (capped_size (size (shape_of_type text (place_type_view declared.entry))))) }
     {
         let answer = size_within(
             MAX_TYPE_DEPTH,

@@ -12,7 +12,7 @@ use st_meaning::{PlanInput, PlanVariable};
 use st_types::Path;
 use std::alloc::{AllocError, Global};
 
-/// What stands in a slot.
+/// The facts of a slot.
 fn facts_of(slot: &LayoutSlot) -> SlotFacts
     ensures { result ≡ facts_of slot.now }
 {
@@ -23,8 +23,8 @@ fn facts_of(slot: &LayoutSlot) -> SlotFacts
     }
 }
 
-/// Slots by their paths, in their order. No path stands twice in a text that breaks no rule; else the last of its slots
-/// takes the place of the first.
+/// Slots by their paths, in their order. No path occurs twice in a text that breaks no rule; otherwise the last of its
+/// slots takes the place of the first.
 pub fn indexed(alloc: Global, slots: &[LayoutSlot]) -> Result<IndexMap<Path, SlotFacts>, AllocError>
     ensures all { IfOk result (λ index. index.entries ≡ insert_all same_path [] (map entry_of slots.now)) }
     ensures few { IfOk result (λ index. index_map_len index ≤ length slots.now) }
@@ -36,7 +36,7 @@ pub fn indexed(alloc: Global, slots: &[LayoutSlot]) -> Result<IndexMap<Path, Slo
     Ok(index)
 }
 
-/// Appends the variable of a slot; an input is none.
+/// Appends the variable of a slot; an input isn't one.
 fn push_variable(
     alloc: Global,
     variables: &mut Vec<PlanVariable>,
@@ -73,7 +73,7 @@ pub fn plan_variables(
     Ok(variables)
 }
 
-/// Appends the input of a slot; a variable is none.
+/// Appends the input of a slot; a variable isn't one.
 fn push_input(
     alloc: Global,
     inputs: &mut Vec<PlanInput>,

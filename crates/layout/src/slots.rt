@@ -30,7 +30,7 @@ impl Drop for LayoutSlot {
     }
 }
 
-/// What stands in a slot of a layout, beside its path.
+/// The facts of a slot of a layout, besides its path.
 #[derive(Clone, Copy)]
 pub struct SlotFacts {
     /// The value that it starts with, which has its type: 0, FALSE, T#0s or the first name for an input.
@@ -48,7 +48,7 @@ pub struct OwnerNames<'a> {
     pub instance: &'a Name,
 }
 
-/// A variable of a layout: whose it is, its name, and whether its value comes from the plant.
+/// A variable of a layout: its owner, its name, and whether its value comes from the plant.
 #[derive(Clone, Copy)]
 pub struct Root<'a> {
     /// The instance of a program, or nobody for a global.

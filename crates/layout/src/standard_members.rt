@@ -1,6 +1,6 @@
 //! The members of standard blocks.
 //!
-//! IEC 61131-3:2003, tables 34 to 37; behind inputs and outputs stand the members that texts can't reach.
+//! IEC 61131-3:2003, tables 34 to 37; after inputs and outputs come the members that texts can't reach.
 
 ghost use Rattle.std.specs.Prelude.{◌≡◌, ◌++◌, map, OnOk};
 ghost use Rattle.st_types.specs.declared.kind.Kind.TheVariants.{Bool, Int, Time};
@@ -24,7 +24,7 @@ struct StandardMember {
     kind: Kind,
 }
 
-fn truth(name: &'static [u8]) -> StandardMember
+fn bool_member(name: &'static [u8]) -> StandardMember
     ensures { standard_member_view result ≡ (name.now, Bool) }
 {
     StandardMember {
@@ -51,7 +51,7 @@ fn duration(name: &'static [u8]) -> StandardMember
     }
 }
 
-/// A member with what its block's instance retains.
+/// A member with its retention in its block's instance.
 fn member_part<'a>(whole: Site<'a>, member: StandardMember) -> Part<'a>
     ensures { (s : made.Site) → site_view whole.entry ≡ kept s
         → part_view result ≡ kept_part (member_part s (site_of_member (standard_member_view member))) }
@@ -90,28 +90,40 @@ fn push_inputs<'a>(
         ++ map kept_part (map (member_part s) (map site_of_member (inputs_of (block_view block))))) }
 {
     match block {
-        StandardBlock::Sr => push_members(parts, whole, &[truth(b"S1"), truth(b"R")]),
-        StandardBlock::Rs => push_members(parts, whole, &[truth(b"S"), truth(b"R1")]),
-        StandardBlock::RTrig | StandardBlock::FTrig => push_members(parts, whole, &[truth(b"CLK")]),
+        StandardBlock::Sr => push_members(parts, whole, &[bool_member(b"S1"), bool_member(b"R")]),
+        StandardBlock::Rs => push_members(parts, whole, &[bool_member(b"S"), bool_member(b"R1")]),
+        StandardBlock::RTrig | StandardBlock::FTrig => push_members(
+            parts,
+            whole,
+            &[bool_member(b"CLK")],
+        ),
         StandardBlock::Ctu => {
-            push_members(parts, whole, &[truth(b"CU"), truth(b"R"), number(b"PV")])
+            push_members(
+                parts,
+                whole,
+                &[bool_member(b"CU"), bool_member(b"R"), number(b"PV")],
+            )
         }
         StandardBlock::Ctd => {
-            push_members(parts, whole, &[truth(b"CD"), truth(b"LD"), number(b"PV")])
+            push_members(
+                parts,
+                whole,
+                &[bool_member(b"CD"), bool_member(b"LD"), number(b"PV")],
+            )
         }
         StandardBlock::Ctud => push_members(
             parts,
             whole,
             &[
-                truth(b"CU"),
-                truth(b"CD"),
-                truth(b"R"),
-                truth(b"LD"),
+                bool_member(b"CU"),
+                bool_member(b"CD"),
+                bool_member(b"R"),
+                bool_member(b"LD"),
                 number(b"PV"),
             ],
         ),
         StandardBlock::Ton | StandardBlock::Tof | StandardBlock::Tp => {
-            push_members(parts, whole, &[truth(b"IN"), duration(b"PT")])
+            push_members(parts, whole, &[bool_member(b"IN"), duration(b"PT")])
         }
     }
 }
@@ -126,16 +138,24 @@ fn push_outputs<'a>(
         ++ map kept_part (map (member_part s) (map site_of_member (outputs_of (block_view block))))) }
 {
     match block {
-        StandardBlock::Sr | StandardBlock::Rs => push_members(parts, whole, &[truth(b"Q1")]),
-        StandardBlock::RTrig | StandardBlock::FTrig => push_members(parts, whole, &[truth(b"Q")]),
+        StandardBlock::Sr | StandardBlock::Rs => push_members(parts, whole, &[bool_member(b"Q1")]),
+        StandardBlock::RTrig | StandardBlock::FTrig => push_members(
+            parts,
+            whole,
+            &[bool_member(b"Q")],
+        ),
         StandardBlock::Ctu | StandardBlock::Ctd => {
-            push_members(parts, whole, &[truth(b"Q"), number(b"CV")])
+            push_members(parts, whole, &[bool_member(b"Q"), number(b"CV")])
         }
         StandardBlock::Ctud => {
-            push_members(parts, whole, &[truth(b"QU"), truth(b"QD"), number(b"CV")])
+            push_members(
+                parts,
+                whole,
+                &[bool_member(b"QU"), bool_member(b"QD"), number(b"CV")],
+            )
         }
         StandardBlock::Ton | StandardBlock::Tof | StandardBlock::Tp => {
-            push_members(parts, whole, &[truth(b"Q"), duration(b"ET")])
+            push_members(parts, whole, &[bool_member(b"Q"), duration(b"ET")])
         }
     }
 }
@@ -152,11 +172,15 @@ fn push_hidden<'a>(
     match block {
         StandardBlock::Sr | StandardBlock::Rs => Ok(()),
         StandardBlock::RTrig | StandardBlock::FTrig | StandardBlock::Ctu | StandardBlock::Ctd => {
-            push_members(parts, whole, &[truth(b"M")])
+            push_members(parts, whole, &[bool_member(b"M")])
         }
-        StandardBlock::Ctud => push_members(parts, whole, &[truth(b"MU"), truth(b"MD")]),
+        StandardBlock::Ctud => push_members(
+            parts,
+            whole,
+            &[bool_member(b"MU"), bool_member(b"MD")],
+        ),
         StandardBlock::Ton | StandardBlock::Tof | StandardBlock::Tp => {
-            push_members(parts, whole, &[truth(b"RUN"), duration(b"START")])
+            push_members(parts, whole, &[bool_member(b"RUN"), duration(b"START")])
         }
     }
 }

@@ -124,7 +124,7 @@ pub fn globals_of<'a>(
     Ok(variables)
 }
 
-/// The variables of a program; none where the unit is no program, or where there is none.
+/// The variables of a program; none if the unit isn't a program, or if there is none.
 fn program_sites<'a>(
     alloc: Global,
     unit: Option<&'a Unit>,

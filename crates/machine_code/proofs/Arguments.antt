@@ -2,17 +2,17 @@
 use Rattle.std.proofs.Common.{◌≡◌, ℕ, ◌+◌, ◌≤◌, List, [], ◌∷◌, ◌++◌, length, map}
 use Rattle.std.proofs.Common.{refl, ap, subst, arith}
 use Rattle.st_types.specs.Values.{Datum}
-use Rattle.st_meaning.specs.Failures.{StandIns, ill_typed}
+use Rattle.st_meaning.specs.Failures.{StuckFaults, ill_typed}
 use Rattle.st_meaning.specs.Ticks.{Run, follow, ◌>>=◌, attempt}
 use Rattle.slot_trees.specs.SlotTrees.{Place, place, SlotArgument, given, copied}
 use Rattle.slot_trees.specs.SlotEvaluation.{slot_at}
 use Rattle.slot_trees.specs.SlotExecution.{Slots, stored_at}
-use Rattle.slot_trees.specs.SlotRuns.{slots_begun}
-use Rattle.machine_code.specs.declared.instr.Instr.TheVariants.{Fetch, Store, StoreAt}
+use Rattle.slot_trees.specs.SlotRuns.{bound_input_slots}
+use Rattle.machine_code.specs.declared.instr.Instr.TheVariants.{LoadRaw, Store, StoreAt}
 use Rattle.machine_code.specs.Tracking.{Tracked}
 use Rattle.machine_code.specs.Machine.{Ending, slot_number}
 use Rattle.machine_code.specs.Growing.{Code, ◌◂◌}
-use Rattle.machine_code.specs.Sites.{Site, slot_in, end_of}
+use Rattle.machine_code.specs.UnitFrames.{UnitFrame, slot_in, end_of}
 use Rattle.machine_code.specs.Codes.{CodeUnits, stores_code, given_members, place_code, inputs_code}
 use Rattle.machine_code.specs.Codes.{outputs_code}
 use Rattle.machine_code.specs.Fitting.{UnitCall, AllBelow, PlaceFits, ArgumentsFit}
@@ -29,7 +29,7 @@ use Rattle.machine_code.proofs.UnitCalls.{UnitsRun}
 use Rattle.machine_code.proofs.Expressions.{scope, expr_runs, led_runs, subscripts_run}
 
 -- the values of inputs: the memory still holds the unit's, and they are for these members
-pub record Given (memory : ℕ) (s : Site) (told : ℕ) (below : Tracked) (members : List ℕ)
+pub record Given (memory : ℕ) (s : UnitFrame) (told : ℕ) (below : Tracked) (members : List ℕ)
     (xs : List (ℕ × Datum) × Tracked) (m : Tracked) : Type 0 where
   pub holds : Holds memory s told below xs.1 m
   pub members_are : map (λ e. e.0) xs.0 ≡ members
@@ -38,13 +38,13 @@ abbrev pub values_of : List (ℕ × Datum) → List Datum
 values_of xs = map (λ e. e.1) xs
 
 -- values on the stack, the first on top, are assigned to slots of a unit
-module _ (t : StandIns) (now memory : ℕ) (F : Code) (s : Site) (room : end_of s ≤ memory) (told : ℕ)
+module _ (t : StuckFaults) (now memory : ℕ) (F : Code) (s : UnitFrame) (room : end_of s ≤ memory) (told : ℕ)
     (below : Tracked) where
-  -- of a function, of whose marks nothing is told
+  -- of a function, whose marks are unknown
   pub begun_runs : (ks : List ℕ) (xs : List Datum) (vs : Slots) (c : Code) (st : List Datum) (m : Tracked) (b : ℕ)
       → length xs ≡ length ks → AllBelow s.size ks → Holds memory s told below (unmarked_values vs) m
       → Has F (length c) (stores_code s.start ks c)
-      → Gives (attempt t (slots_begun vs ks xs) b) b (λ us n. Holds memory s told below (unmarked_values us) n)
+      → Gives (attempt t (bound_input_slots vs ks xs) b) b (λ us n. Holds memory s told below (unmarked_values us) n)
       (λ us n a. G t now F (length c) st n a)
       (G t now F (length (stores_code s.start ks c)) (xs ++ st) m b)
   begun_runs [] [] vs c st m b e lt holds has = gives.given m holds
@@ -53,7 +53,7 @@ module _ (t : StandIns) (now memory : ℕ) (F : Code) (s : Site) (room : end_of 
   begun_runs (k ∷ ks) (x ∷ xs) vs c st m b e lt holds has =
       let d = stores_code s.start ks c in
       one t now F d (Store (s.start + k)) (x ∷ (xs ++ st)) m b (part (stores_grow s.start ks c) (same_code _) has)
-      (attempt_then t (stored_at vs k x) (λ us. slots_begun us ks xs)
+      (attempt_then t (stored_at vs k x) (λ us. bound_input_slots us ks xs)
       (storing_own t memory s room told below _ _ vs m k x _ b _ holds lt.0 (λ us n h.
       begun_runs ks xs us c st n b (omega arith) lt.1 h (part (same_code c) (put d _) has))))
 
@@ -74,8 +74,8 @@ module _ (t : StandIns) (now memory : ℕ) (F : Code) (s : Site) (room : end_of 
       (storing t memory s room told below _ _ vs m (at + x.0) x.1 _ b _ holds lt.0 (λ us n h.
       stored_runs at xs us c st n b lt.1 h (part (same_code c) (put d _) has'))))
 
-module _ (t : StandIns) (now memory : ℕ) (small : memory ≤ 65536) (F : Code) (units : MarkedUnits) (codes : CodeUnits)
-    (CallFits : UnitCall → Type 0) (run : UnitsRun t now memory F units codes CallFits) (s : Site)
+module _ (t : StuckFaults) (now memory : ℕ) (small : memory ≤ 65536) (F : Code) (units : MarkedUnits) (codes : CodeUnits)
+    (CallFits : UnitCall → Type 0) (run : UnitsRun t now memory F units codes CallFits) (s : UnitFrame)
     (room : end_of s ≤ memory) (told : ℕ) (below : Tracked) where
   -- a value on the stack is assigned to a place
   pub storing_place : {B : Type 0} (p : Place) (c : Code) (st : List Datum) (x : Datum) (f : Tracked → Run B)
@@ -129,7 +129,7 @@ module _ (t : StandIns) (now memory : ℕ) (small : memory ≤ 65536) (F : Code)
       let q = place_code codes s p Store StoreAt d in
       let low = outputs_grow codes run.grow s at rest c in
       let up = place_grows codes run.grow s p Store StoreAt d in
-      one t now F q (Fetch (s.start + (at + o))) st m b (part (grows_on low up) (same_code _) has)
+      one t now F q (LoadRaw (s.start + (at + o))) st m b (part (grows_on low up) (same_code _) has)
       (looking t memory s room told below _ _ ill_typed vs m (at + o) _ b _ holds fits.0 (λ v us n h.
       storing_place p d st v _ _ _ us n b fits.1 h (part low (put _ _) has) (λ us n a h.
       outputs_run at rest c st us n a fits.2 h (part (same_code c) (put_on _ up) has))))

@@ -8,33 +8,29 @@ use Rattle.std.specs.List.{list_any}
 use Rattle.std.proofs.lemmas.Bool.Decides.{nat_tests}
 use Rattle.st_types.specs.Values.{Datum}
 use Rattle.st_types.specs.declared.fault.Fault.{Fault}
-use Rattle.st_meaning.specs.Failures.{Failure, valueless, ill_typed, StandIns, or_failure}
+use Rattle.st_meaning.specs.Failures.{Failure, valueless, ill_typed, StuckFaults, or_failure}
 use Rattle.st_meaning.specs.Evaluation.{known}
 use Rattle.st_meaning.specs.Stores.{may_replace}
 use Rattle.st_meaning.specs.StandardBlocks.{BlockMember, members_of}
 use Rattle.symbols.specs.Standard.{block_view}
 use Rattle.machine_code.specs.declared.mark.Mark.{Mark}
 use Rattle.machine_code.specs.declared.instr.Instr.{Instr}
-use Rattle.machine_code.specs.declared.instr.Instr.TheVariants.{Fetch}
+use Rattle.machine_code.specs.declared.instr.Instr.TheVariants.{LoadRaw}
 use Rattle.machine_code.specs.declared.instr.Instr.TheVariants.{Step}
 use Rattle.machine_code.specs.declared.instr.Instr.TheVariants.{ForTest, ForStep}
 use Rattle.machine_code.specs.Memories.{plain}
 use Rattle.machine_code.specs.Memories as plainly
 use Rattle.machine_code.specs.Machine.{Ending, on_result, runs, most, on_variable}
 use Rattle.machine_code.specs.Simulation.{Likeness, AllFrom, LooksOnly}
-use Rattle.machine_code.specs.Tracking.{Tracked, tracked, tracking, with_mark, seen, assigned, looked, written}
+use Rattle.machine_code.specs.Tracking.{Tracked, tracked, tracking, with_mark, seen, assigned, looked, assigned_slot}
 use Rattle.machine_code.specs.Tracking.{replaced, overwritten, is_read_in, is_assigned_in, read_by, assigned_by}
 use Rattle.machine_code.specs.Tracking.{memory_of, AreOfKind}
 use Rattle.machine_code.specs.Asking.{takes_as_it_is, FailsWith}
 use Rattle.machine_code.proofs.MarkLemmas.{set_here, set_elsewhere, set_long, there_within, within_there, mark_here}
 use Rattle.machine_code.proofs.MarkLemmas.{mark_elsewhere, mark_long, seen_assigns, assigned_reads, assigned_assigns}
 use Rattle.machine_code.proofs.Simulating.{exec_alike}
-
-same_place : (j k : ℕ) → (j == k) ≡ true → j ≡ k
-same_place j k e = grind (arith, nat_tests)
-
-other_place : (j k : ℕ) → (j == k) ≡ false → j ≡ k → ⊥
-other_place j k e is = grind (arith, nat_tests)
+use Rattle.std.proofs.lemmas.Bool.{or_parts}
+use Rattle.st_types.proofs.TestLemmas.{equal_numbers, other_numbers}
 
 other_way : (j k : ℕ) → (j ≡ k → ⊥) → k ≡ j → ⊥
 other_way j k apart e = apart (sym e)
@@ -70,40 +66,40 @@ seen_of_assigned (Some y) r a = rw (r, a) refl
 seen_of_assigned None r a = refl
 
 module _ (k : ℕ) (m : Tracked) (j : ℕ) where
-  -- the slot is not read where another one is looked up, or where it is assigned
+  -- the slot is not read if another one is looked up, or if it is assigned
   still_unread : is_read_in m k ≡ false → (j ≡ k → is_assigned_in m k ≡ true)
       → is_read_in (after_look m j) k ≡ false
   still_unread unread assigned = by_test (j == k) refl
     where
       by_test : (b : Bool) → (j == k) ≡ b → is_read_in (after_look m j) k ≡ false
       by_test true e =
-          let is = same_place j k e in
+          let is = equal_numbers j k e in
           subst (λ i. is_read_in (after_look m i) k ≡ false) (sym is)
           (ap read_by (mark_here seen m.marks k) ∙ seen_of_assigned (slice_get m.marks k) unread (assigned is))
       by_test false e =
-          ap read_by (mark_elsewhere seen m.marks j k (other_way j k (other_place j k e))) ∙ unread
+          ap read_by (mark_elsewhere seen m.marks j k (other_way j k (other_numbers j k e))) ∙ unread
 
   look_assigns : is_assigned_in (after_look m j) k ≡ is_assigned_in m k
   look_assigns = by_test (j == k) refl
     where
       by_test : (b : Bool) → (j == k) ≡ b → is_assigned_in (after_look m j) k ≡ is_assigned_in m k
       by_test true e =
-          let is = same_place j k e in
+          let is = equal_numbers j k e in
           subst (λ i. is_assigned_in (after_look m i) k ≡ is_assigned_in m k) (sym is)
           (ap assigned_by (mark_here seen m.marks k) ∙ seen_assigns (slice_get m.marks k))
-      by_test false e = ap assigned_by (mark_elsewhere seen m.marks j k (other_way j k (other_place j k e)))
+      by_test false e = ap assigned_by (mark_elsewhere seen m.marks j k (other_way j k (other_numbers j k e)))
 
-  write_reads : (v : Datum) → is_read_in (written m j v) k ≡ is_read_in m k
+  write_reads : (v : Datum) → is_read_in (assigned_slot m j v) k ≡ is_read_in m k
   write_reads v = by_test (j == k) refl
     where
-      by_test : (b : Bool) → (j == k) ≡ b → is_read_in (written m j v) k ≡ is_read_in m k
+      by_test : (b : Bool) → (j == k) ≡ b → is_read_in (assigned_slot m j v) k ≡ is_read_in m k
       by_test true e =
-          let is = same_place j k e in
-          subst (λ i. is_read_in (written m i v) k ≡ is_read_in m k) (sym is)
+          let is = equal_numbers j k e in
+          subst (λ i. is_read_in (assigned_slot m i v) k ≡ is_read_in m k) (sym is)
           (ap read_by (mark_here assigned m.marks k) ∙ assigned_reads (slice_get m.marks k))
-      by_test false e = ap read_by (mark_elsewhere assigned m.marks j k (other_way j k (other_place j k e)))
+      by_test false e = ap read_by (mark_elsewhere assigned m.marks j k (other_way j k (other_numbers j k e)))
 
-  write_assigns : (v : Datum) → (j ≡ k → ⊥) → is_assigned_in (written m j v) k ≡ is_assigned_in m k
+  write_assigns : (v : Datum) → (j ≡ k → ⊥) → is_assigned_in (assigned_slot m j v) k ≡ is_assigned_in m k
   write_assigns v apart = ap assigned_by (mark_elsewhere assigned m.marks j k (other_way j k apart))
 
 -- Values that are alike stay so.
@@ -123,10 +119,10 @@ same_set vs us i j v same long = by_test (j == i) refl
 
     by_test : (b : Bool) → (j == i) ≡ b → slice_get (slice_set vs j v) i ≡ slice_get (slice_set us j v) i
     by_test true e =
-        subst (λ n. slice_get (slice_set vs j v) n ≡ slice_get (slice_set us j v) n) (same_place j i e)
+        subst (λ n. slice_get (slice_set vs j v) n ≡ slice_get (slice_set us j v) n) (equal_numbers j i e)
         (at (nat_lt j (length vs)) refl)
     by_test false e =
-        let apart = other_way j i (other_place j i e) in
+        let apart = other_way j i (other_numbers j i e) in
         set_elsewhere vs i j v apart ∙ same ∙ sym (set_elsewhere us i j v apart)
 
 module _ (k : ℕ) (m : Tracked) (us : List Datum) (w : Without k m us) where
@@ -146,15 +142,15 @@ module _ (k : ℕ) (m : Tracked) (us : List Datum) (w : Without k m us) where
 
       by_test : (b a : Bool) → (j == k) ≡ b → is_assigned_in m k ≡ a
           → AreOfKind (slice_get m.values j) (slice_get us j)
-      by_test false a e is = itself _ _ (w.others j (other_place j k e))
+      by_test false a e is = itself _ _ (w.others j (other_numbers j k e))
       by_test true true e is =
-          subst (λ i. AreOfKind (slice_get m.values i) (slice_get us i)) (sym (same_place j k e))
+          subst (λ i. AreOfKind (slice_get m.values i) (slice_get us i)) (sym (equal_numbers j k e))
           (itself _ _ (w.here is))
       by_test true false e is =
-          subst (λ i. AreOfKind (slice_get m.values i) (slice_get us i)) (sym (same_place j k e))
+          subst (λ i. AreOfKind (slice_get m.values i) (slice_get us i)) (sym (equal_numbers j k e))
           (apart_so _ _ (w.apart is))
 
-  -- after a look elsewhere, or at what is assigned
+  -- after a look elsewhere, or at an assigned slot
   looked_without : (j : ℕ) → (j ≡ k → is_assigned_in m k ≡ true) → Without k (after_look m j) us
   looked_without j assigned = record {
     long = mark_long seen m.marks j ∙ w.long;
@@ -167,7 +163,7 @@ module _ (k : ℕ) (m : Tracked) (us : List Datum) (w : Without k m us) where
 
   -- after a write
   written_without : (j : ℕ) (v old : Datum) → slice_get m.values j ≡ Some old
-      → Without k (written m j v) (slice_set us j v)
+      → Without k (assigned_slot m j v) (slice_set us j v)
   written_without j v old at = record {
     long = mark_long assigned m.marks j ∙ w.long ∙ sym (set_long m.values j v);
     many = set_long m.values j v ∙ w.many ∙ sym (set_long us j v);
@@ -180,27 +176,27 @@ module _ (k : ℕ) (m : Tracked) (us : List Datum) (w : Without k m us) where
       in_values : j < length m.values
       in_values = there_within m.values j old at
 
-      here_by : (b : Bool) → (j == k) ≡ b → is_assigned_in (written m j v) k ≡ true
+      here_by : (b : Bool) → (j == k) ≡ b → is_assigned_in (assigned_slot m j v) k ≡ true
           → slice_get (slice_set m.values j v) k ≡ slice_get (slice_set us j v) k
       here_by true e is =
-          subst (λ i. slice_get (slice_set m.values j v) i ≡ slice_get (slice_set us j v) i) (same_place j k e)
+          subst (λ i. slice_get (slice_set m.values j v) i ≡ slice_get (slice_set us j v) i) (equal_numbers j k e)
           (set_here m.values j v in_values ∙ sym (set_here us j v (let l = w.many in let n = in_values in omega arith)))
       here_by false e is =
-          same_set m.values us k j v (w.here (sym (write_assigns k m j v (other_place j k e)) ∙ is)) w.many
+          same_set m.values us k j v (w.here (sym (write_assigns k m j v (other_numbers j k e)) ∙ is)) w.many
 
-      assigned_here : is_assigned_in (written m j v) j ≡ true
+      assigned_here : is_assigned_in (assigned_slot m j v) j ≡ true
       assigned_here =
           let mark = within_there m.marks j (let l = w.long in let i = in_values in omega arith) in
           ap assigned_by (mark_here assigned m.marks j) ∙ assigned_assigns (slice_get m.marks j) mark.0 mark.1
 
-      apart_by : (b : Bool) → (j == k) ≡ b → is_assigned_in (written m j v) k ≡ false
+      apart_by : (b : Bool) → (j == k) ≡ b → is_assigned_in (assigned_slot m j v) k ≡ false
           → AreApart (slice_get (slice_set m.values j v) k) (slice_get (slice_set us j v) k)
       apart_by true e is =
-          absurd (let f : true ≡ false = sym (subst (λ i. is_assigned_in (written m j v) i ≡ true) (same_place j k e)
+          absurd (let f : true ≡ false = sym (subst (λ i. is_assigned_in (assigned_slot m j v) i ≡ true) (equal_numbers j k e)
           assigned_here) ∙ is in cc)
       apart_by false e is =
-          let a = w.apart (sym (write_assigns k m j v (other_place j k e)) ∙ is) in
-          let elsewhere = other_way j k (other_place j k e) in
+          let a = w.apart (sym (write_assigns k m j v (other_numbers j k e)) ∙ is) in
+          let elsewhere = other_way j k (other_numbers j k e) in
           record {
             there = a.there;
             instead = a.instead;
@@ -210,7 +206,7 @@ module _ (k : ℕ) (m : Tracked) (us : List Datum) (w : Without k m us) where
             unknown = a.unknown;
           }
 
-module _ (t u : StandIns) (k : ℕ) where
+module _ (t u : StuckFaults) (k : ℕ) where
   abbrev Good : Tracked → List Datum → Ending Tracked → Ending (List Datum) → Type 0
   Good = Meets k u.missing
 
@@ -221,7 +217,7 @@ module _ (t u : StandIns) (k : ℕ) where
     by = λ w read. absurd (let f : true ≡ false = sym read ∙ ap (λ n. is_read_in n k) is ∙ w.unread in cc);
   }
 
-  -- what was looked up goes on alike, where it is the same
+  -- a look at a value goes on alike if it is the same in both
   looking : (m : Tracked) (us : List Datum) (j : ℕ) (f : Datum → Tracked → Ending Tracked)
       (g : Datum → List Datum → Ending (List Datum)) → ((v : Datum) (n : Tracked) (xs : List Datum)
       → Good n xs (f v n) (g v xs)) → (e : Failure) → Without k m us → (j ≡ k → is_assigned_in m k ≡ true)
@@ -269,13 +265,13 @@ module _ (t u : StandIns) (k : ℕ) where
       by_test : Without k m us → is_read_in (memory_of (on_variable tracking t m j f)) k ≡ true → (b a : Bool)
           → (j == k) ≡ b → is_assigned_in m k ≡ a → FailsWith u.missing (on_variable plain u us j g)
       by_test w read false a e is =
-          alike w (λ same. absurd (other_place j k e same)) (w.others j (other_place j k e)) read
+          alike w (λ same. absurd (other_numbers j k e same)) (w.others j (other_numbers j k e)) read
       by_test w read true true e is =
-          alike w (λ same. is) (subst (λ i. slice_get m.values i ≡ slice_get us i) (sym (same_place j k e)) (w.here is))
+          alike w (λ same. is) (subst (λ i. slice_get m.values i ≡ slice_get us i) (sym (equal_numbers j k e)) (w.here is))
           read
       by_test w read true false e is =
           let a = w.apart is in
-          missed us g a.instead (slice_get us j) (ap (slice_get us) (same_place j k e) ∙ a.other) a.unknown
+          missed us g a.instead (slice_get us j) (ap (slice_get us) (equal_numbers j k e) ∙ a.other) a.unknown
 
   look_meets : (m : Tracked) (us : List Datum) (j : ℕ) (f : Datum → Tracked → Ending Tracked)
       (g : Datum → List Datum → Ending (List Datum)) → (j ≡ k → ⊥) → ((v : Datum) (n : Tracked) (xs : List Datum)
@@ -292,10 +288,10 @@ module _ (t u : StandIns) (k : ℕ) where
       (g : List Datum → Ending (List Datum)) → ((n : Tracked) (xs : List Datum) → Good n xs (f n) (g xs))
       → Without k m us → slice_get m.values j ≡ Some old → (a b : Bool) → a ≡ b
       → is_read_in (memory_of
-      (on_result t (or_failure ill_typed (if a then Some (written m j v) else None)) m f)) k ≡ true
+      (on_result t (or_failure ill_typed (if a then Some (assigned_slot m j v) else None)) m f)) k ≡ true
       → FailsWith u.missing (on_result u (or_failure ill_typed (if b then Some (slice_set us j v) else None)) us g)
   writing m us j v old f g h w at true true same read =
-      (h (written m j v) (slice_set us j v)).by (written_without k m us w j v old at) read
+      (h (assigned_slot m j v) (slice_set us j v)).by (written_without k m us w j v old at) read
   writing m us j v old f g h w at false b same read =
       absurd (let f : true ≡ false = sym read ∙ w.unread in cc)
   writing m us j v old f g h w at true false same read = absurd (cc)
@@ -317,7 +313,7 @@ module _ (t u : StandIns) (k : ℕ) where
       → is_read_in (memory_of (on_result t (or_failure ill_typed (overwritten m j v o)) m f)) k ≡ true
       → FailsWith u.missing (on_result u (or_failure ill_typed (plainly.overwritten us j v p)) us g)
   resetting m us j v f g h w (Some a) (Some b) at kinds read =
-      (h (written m j v) (slice_set us j v)).by (written_without k m us w j v a at) read
+      (h (assigned_slot m j v) (slice_set us j v)).by (written_without k m us w j v a at) read
   resetting m us j v f g h w None p at kinds read = absurd (let f : true ≡ false = sym read ∙ w.unread in cc)
   resetting m us j v f g h w (Some a) None at kinds read = absurd kinds
 
@@ -352,26 +348,22 @@ outside : (k j n : ℕ) → (nat_le j k && nat_lt k (j + n)) ≡ false → j ≤
 outside k j n e le lt = grind (arith, nat_tests)
 
 only_looks : (k : ℕ) (i : Instr) → takes_as_it_is k i ≡ false → LooksOnly (λ j. j ≡ k → ⊥) (Some i)
-only_looks k (Fetch j) e = other_place j k e
+only_looks k (LoadRaw j) e = other_numbers j k e
 only_looks k (Step block j) e =
     all_elsewhere k j (members_of (block_view block)) (outside k j (length (members_of (block_view block))) e)
-only_looks k (ForTest j to) e = other_place j k e
-only_looks k (ForStep j to) e = other_place j k e
+only_looks k (ForTest j to) e = other_numbers j k e
+only_looks k (ForStep j to) e = other_numbers j k e
 only_looks k _ e = tt
-
-neither : (a b : Bool) → (a || b) ≡ false → (a ≡ false) × (b ≡ false)
-neither true b e = absurd (cc)
-neither false b e = (refl, e)
 
 looks_only : (k : ℕ) (code : List Instr) → list_any (takes_as_it_is k) code ≡ false → (p : ℕ)
     → LooksOnly (λ j. j ≡ k → ⊥) (slice_get code p)
 looks_only k [] e p = tt
-looks_only k (i ∷ code) e zero = only_looks k i (neither (takes_as_it_is k i) (list_any (takes_as_it_is k) code) e).0
+looks_only k (i ∷ code) e zero = only_looks k i (or_parts (takes_as_it_is k i) (list_any (takes_as_it_is k) code) e).0
 looks_only k (i ∷ code) e (suc p) =
-    looks_only k code (neither (takes_as_it_is k i) (list_any (takes_as_it_is k) code) e).1 p
+    looks_only k code (or_parts (takes_as_it_is k i) (list_any (takes_as_it_is k) code) e).1 p
 
--- The run over the values without one at the slot ends with what stands for that, where the marked run reads it.
-pub reads_are_asked : (t u : StandIns) (now : ℕ) (code : List Instr) (p : ℕ) (m : Tracked) (b k : ℕ) (v w : Datum)
+-- If the marked run reads the slot, the run over values without one there ends with the fault for a missing value.
+pub reads_are_asked : (t u : StuckFaults) (now : ℕ) (code : List Instr) (p : ℕ) (m : Tracked) (b k : ℕ) (v w : Datum)
     → length m.marks ≡ length m.values → is_read_in m k ≡ false → is_assigned_in m k ≡ false
     → slice_get m.values k ≡ Some v → v.kind ≡ w.kind → known (Some w) ≡ None
     → list_any (takes_as_it_is k) code ≡ false

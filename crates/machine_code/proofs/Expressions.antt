@@ -3,8 +3,8 @@ use Rattle.std.proofs.Common.{◌≡◌, ℕ, suc, ◌+◌, ◌*◌, ◌≤◌, 
 use Rattle.std.proofs.Common.{◌∷◌, length, Result, Ok, Err, refl, sym, ap, ◌∙◌, subst, arith}
 use Rattle.st_types.specs.Values.{Datum}
 use Rattle.st_types.specs.declared.fault.Fault.TheVariants.{Index}
-use Rattle.st_meaning.specs.Failures.{Failure, fails, StandIns, failing}
-use Rattle.st_meaning.specs.Operators.{value_of_literal, apply, apply_unary, truth}
+use Rattle.st_meaning.specs.Failures.{Failure, fails, StuckFaults, failing}
+use Rattle.st_meaning.specs.Operators.{value_of_literal, apply, apply_unary, condition_of}
 use Rattle.st_meaning.specs.StandardFunctions as functions
 use Rattle.st_meaning.specs.StandardFunctions.{Standard, standard_value}
 use Rattle.st_meaning.specs.Ticks.{Run, follow, give, fault, attempt}
@@ -14,13 +14,13 @@ use Rattle.slot_trees.specs.SlotTrees.{SlotExpr, constant, load, compute, call, 
 use Rattle.slot_trees.specs.SlotTrees.{expr_then, place, Subscripts, no_subscripts, subscript_then}
 use Rattle.slot_trees.specs.SlotEvaluation.{slot_at}
 use Rattle.machine_code.specs.declared.instr.Instr.{Instr}
-use Rattle.machine_code.specs.declared.instr.Instr.TheVariants.{Push, Load, LoadAt, Unary, Binary, Compute, Unless}
-use Rattle.machine_code.specs.declared.instr.Instr.TheVariants.{When}
+use Rattle.machine_code.specs.declared.instr.Instr.TheVariants.{Push, Load, LoadAt, Unary, Binary, Compute, JumpIfFalse}
+use Rattle.machine_code.specs.declared.instr.Instr.TheVariants.{JumpIfTrue}
 use Rattle.machine_code.specs.declared.instr.Instr.TheVariants.{Subscript}
 use Rattle.machine_code.specs.Tracking.{Tracked}
 use Rattle.machine_code.specs.Machine.{Ending, on_result, a_slot, slot_number}
 use Rattle.machine_code.specs.Growing.{Code, ◌◂◌}
-use Rattle.machine_code.specs.Sites.{Site, slot_in, end_of}
+use Rattle.machine_code.specs.UnitFrames.{UnitFrame, slot_in, end_of}
 use Rattle.machine_code.specs.Codes.{CodeUnits, standard_code, literal_code, count_of, expr_code, exprs_code}
 use Rattle.machine_code.specs.Codes.{led_code, number_value, subscripts_code}
 use Rattle.machine_code.specs.Fitting.{UnitCall, of_function, IsValue, reach, ExprFits, ExprsFit, SubscriptsFit}
@@ -34,14 +34,14 @@ use Rattle.machine_code.proofs.Steps.{G, stacked, tops, down, one, loading}
 use Rattle.machine_code.proofs.UnitCalls.{UnitsRun}
 use Rattle.machine_code.proofs.Bounds.{is_a_slot, reached}
 
--- values of expressions: the memory still holds the unit's, and there are so many
-pub record Evaluated (memory : ℕ) (s : Site) (told : ℕ) (below : Tracked) (count : ℕ) (xs : List Datum × Tracked)
+-- values of expressions: the memory still holds the unit's, and their number is `count`
+pub record Evaluated (memory : ℕ) (s : UnitFrame) (told : ℕ) (below : Tracked) (count : ℕ) (xs : List Datum × Tracked)
     (m : Tracked) : Type 0 where
   pub holds : Holds memory s told below xs.1 m
   pub counted : length xs.0 ≡ count
 
 -- a slot among the unit's values
-pub record Reached (memory : ℕ) (s : Site) (told : ℕ) (below : Tracked) (k : ℕ × Tracked) (m : Tracked) : Type 0 where
+pub record Reached (memory : ℕ) (s : UnitFrame) (told : ℕ) (below : Tracked) (k : ℕ × Tracked) (m : Tracked) : Type 0 where
   pub holds : Holds memory s told below k.1 m
   pub within : k.0 < s.size
 
@@ -57,12 +57,12 @@ standard_is functions.ROL = refl
 standard_is functions.ROR = refl
 standard_is (functions.CONVERT k l) = refl
 
-module _ (t : StandIns) (now memory : ℕ) (small : memory ≤ 65536) (F : Code) (units : MarkedUnits) (codes : CodeUnits)
-    (CallFits : UnitCall → Type 0) (run : UnitsRun t now memory F units codes CallFits) (s : Site)
+module _ (t : StuckFaults) (now memory : ℕ) (small : memory ≤ 65536) (F : Code) (units : MarkedUnits) (codes : CodeUnits)
+    (CallFits : UnitCall → Type 0) (run : UnitsRun t now memory F units codes CallFits) (s : UnitFrame)
     (room : end_of s ≤ memory) (told : ℕ) (below : Tracked) where
   -- where the body runs
   abbrev pub scope : MarkedScope
-  scope = record { units = units; base = s.base; stand_ins = t }
+  scope = record { units = units; base = s.base; stuck_faults = t }
 
   -- the run goes on with a value on the stack
   abbrev pub Valued : Code → List Datum → Datum × Tracked → Tracked → ℕ → Ending Tracked
@@ -93,7 +93,7 @@ module _ (t : StandIns) (now memory : ℕ) (small : memory ≤ 65536) (F : Code)
   element_so true j f a m next Good on h = h refl
   element_so false j f a m next Good on h = record { by = (m, refl) }
 
-  -- an instruction for a slot, which stands behind the subscripts that lead to it
+  -- an instruction for a slot, which follows the subscripts that lead to it
   pub led_runs : {B : Type 0} (ss : Subscripts) (k : ℕ) (here : ℕ → Instr) (at : Instr) (c : Code)
       (st : List Datum) (f : ℕ × Tracked → Run B) (Good : B → Tracked → Type 0)
       (on : B → Tracked → ℕ → Ending Tracked) (vs m : Tracked) (b : ℕ)
@@ -196,31 +196,31 @@ module _ (t : StandIns) (now memory : ℕ) (small : memory ≤ 65536) (F : Code)
         (subscripts_run ss (k + distance lower z * stride) c st v.1 n a within fits.1 good
         (part (same_code c) (grows_on (put d _) (expr_grows codes grow s e _)) has)))))
 
-  -- a condition: where it is FALSE the run goes on behind a jump, or where it is TRUE
+  -- a condition: if it is FALSE the run goes on after a jump, or if it is TRUE
   pub truth_unless : (e : SlotExpr) (c : Code) (to : ℕ) (st : List Datum) (vs m : Tracked) (b : ℕ)
       → ExprFits CallFits s e → to ≤ length c → Holds memory s told below vs m
-      → Has F (length c) (expr_code codes s e (c ◂ Unless to))
+      → Has F (length c) (expr_code codes s e (c ◂ JumpIfFalse to))
       → Gives (marked_truth scope e vs b) b Held
       (λ go n a. if go.0 then G t now F (length c) st n a else G t now F to st n a)
-      (G t now F (length (expr_code codes s e (c ◂ Unless to))) st m b)
+      (G t now F (length (expr_code codes s e (c ◂ JumpIfFalse to))) st m b)
   unfolding marked_truth
   truth_unless e c to st vs m b fits le holds has =
-      bind _ (expr_runs e (c ◂ Unless to) st vs m b fits holds (part (put c _) (same_code _) has)) (λ v n a good l.
-      one t now F c (Unless to) (v.0 ∷ st) n a (part (same_code c) (expr_grows codes grow s e _) has)
-      (by_eq (ap (λ d. on_result t (truth v.0) n (λ go. if go then G t now F (length c) st n a else d))
+      bind _ (expr_runs e (c ◂ JumpIfFalse to) st vs m b fits holds (part (put c _) (same_code _) has)) (λ v n a good l.
+      one t now F c (JumpIfFalse to) (v.0 ∷ st) n a (part (same_code c) (expr_grows codes grow s e _) has)
+      (by_eq (ap (λ d. on_result t (condition_of v.0) n (λ go. if go then G t now F (length c) st n a else d))
       (down t to (length c) n (G t now F to st n a) le))
-      (taking t (truth v.0) _ a n _ (λ go. given n good))))
+      (taking t (condition_of v.0) _ a n _ (λ go. given n good))))
 
   pub truth_when : (e : SlotExpr) (c : Code) (to : ℕ) (st : List Datum) (vs m : Tracked) (b : ℕ)
       → ExprFits CallFits s e → to ≤ length c → Holds memory s told below vs m
-      → Has F (length c) (expr_code codes s e (c ◂ When to))
+      → Has F (length c) (expr_code codes s e (c ◂ JumpIfTrue to))
       → Gives (marked_truth scope e vs b) b Held
       (λ go n a. if go.0 then G t now F to st n a else G t now F (length c) st n a)
-      (G t now F (length (expr_code codes s e (c ◂ When to))) st m b)
+      (G t now F (length (expr_code codes s e (c ◂ JumpIfTrue to))) st m b)
   unfolding marked_truth
   truth_when e c to st vs m b fits le holds has =
-      bind _ (expr_runs e (c ◂ When to) st vs m b fits holds (part (put c _) (same_code _) has)) (λ v n a good l.
-      one t now F c (When to) (v.0 ∷ st) n a (part (same_code c) (expr_grows codes grow s e _) has)
-      (by_eq (ap (λ d. on_result t (truth v.0) n (λ go. if go then d else G t now F (length c) st n a))
+      bind _ (expr_runs e (c ◂ JumpIfTrue to) st vs m b fits holds (part (put c _) (same_code _) has)) (λ v n a good l.
+      one t now F c (JumpIfTrue to) (v.0 ∷ st) n a (part (same_code c) (expr_grows codes grow s e _) has)
+      (by_eq (ap (λ d. on_result t (condition_of v.0) n (λ go. if go then d else G t now F (length c) st n a))
       (down t to (length c) n (G t now F to st n a) le))
-      (taking t (truth v.0) _ a n _ (λ go. given n good))))
+      (taking t (condition_of v.0) _ a n _ (λ go. given n good))))

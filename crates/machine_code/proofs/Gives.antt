@@ -1,8 +1,8 @@
--- What a part of a program gives, and how the machine's run goes on from there.
+-- The result of a part of a program, and how the machine's run goes on from there.
 use Rattle.std.proofs.Common.{◌≡◌, ℕ, zero, suc, ◌≤◌, ◌<◌, Bool, true, false, if◌then◌else◌}
 use Rattle.std.proofs.Common.{Result, Ok, Err, refl, ◌∙◌, arith}
 use Rattle.st_types.specs.declared.fault.Fault.{Fault}
-use Rattle.st_meaning.specs.Failures.{Failure, StandIns}
+use Rattle.st_meaning.specs.Failures.{Failure, StuckFaults}
 use Rattle.st_meaning.specs.Ticks.{Run, follow, ◌>>=◌, give, attempt, proceed, tick}
 use Rattle.machine_code.specs.Machine.{Ending, failed, on_result, on_tick}
 
@@ -38,7 +38,7 @@ module _ {A M : Type 0} where
   going_by (Ok r) b Good on off e same h = (h.0, (h.1.0, h.1.1, h.1.2 ∙ same r.0 h.0 r.1))
   going_by (Err f) b Good on off e same h = h
 
-  -- going on elsewhere, where that is the same
+  -- going on elsewhere, if that is the same
   pub going : {r : Result (A × ℕ) Fault} {b : ℕ} {Good : A → M → Type 0} {on off : A → M → ℕ → Ending M} {e : Ending M}
       → ((a : A) (m : M) (c : ℕ) → on a m c ≡ off a m c) → Gives r b Good on e → Gives r b Good off e
   going {r} {b} {Good} {on} {off} {e} same h = record { by = going_by r b Good on off e same h.by }
@@ -64,14 +64,14 @@ module _ {A B M : Type 0} where
       → Gives (follow r f) b Fair off e
   bind {r} f {b} {Good} {Fair} {on} {off} {e} h g = record { by = bind_by r f b Good Fair on off e h.by g }
 
-  taking_by : (t : StandIns) (r : Result A Failure) (f : A → Run B) (b : ℕ) (m : M) (next : A → Ending M)
+  taking_by : (t : StuckFaults) (r : Result A Failure) (f : A → Run B) (b : ℕ) (m : M) (next : A → Ending M)
       (Fair : B → M → Type 0) (off : B → M → ℕ → Ending M) → ((a : A) → Gives (f a b) b Fair off (next a))
       → GivesBy (follow (attempt t r b) f) b Fair off (on_result t r m next)
   taking_by t (Ok a) f b m next Fair off h = (h a).by
   taking_by t (Err x) f b m next Fair off h = (m, refl)
 
   -- a part that takes no ticks
-  pub taking : (t : StandIns) (r : Result A Failure) (f : A → Run B) (b : ℕ) (m : M) (next : A → Ending M)
+  pub taking : (t : StuckFaults) (r : Result A Failure) (f : A → Run B) (b : ℕ) (m : M) (next : A → Ending M)
       {Fair : B → M → Type 0} {off : B → M → ℕ → Ending M} → ((a : A) → Gives (f a b) b Fair off (next a))
       → Gives (follow (attempt t r b) f) b Fair off (on_result t r m next)
   taking t r f b m next {Fair} {off} h = record { by = taking_by t r f b m next Fair off h }
@@ -104,7 +104,7 @@ apart (Ok r) f g h = h
 apart (Err x) f g h = h
 
 -- parts that take no ticks, one after another
-pub attempt_then : {A B M : Type 0} (t : StandIns) (r : Result A Failure) (f : A → Result B Failure) {b : ℕ}
+pub attempt_then : {A B M : Type 0} (t : StuckFaults) (r : Result A Failure) (f : A → Result B Failure) {b : ℕ}
     {Good : B → M → Type 0} {on : B → M → ℕ → Ending M} {e : Ending M}
     → Gives (follow (attempt t r b) (λ a. attempt t (f a))) b Good on e → Gives (attempt t (proceed r f) b) b Good on e
 attempt_then t (Ok a) f h = h

@@ -14,9 +14,9 @@ use Rattle.slot_trees.specs.SlotTrees.{invoke, IF, CASE, FOR, WHILE, REPEAT, EXI
 use Rattle.slot_trees.specs.SlotTrees.{stmt_then, SlotArms, no_arms, arm_then, SlotCaseArms, no_case_arms}
 use Rattle.slot_trees.specs.SlotTrees.{case_arm_then, SlotFunction, SlotLibrary}
 use Rattle.slot_trees.specs.SlotEvaluation.{slot_at}
-use Rattle.machine_code.specs.declared.ways.Ways.{Ways}
+use Rattle.machine_code.specs.declared.jump_targets.JumpTargets.{JumpTargets}
 use Rattle.machine_code.specs.Growing.{Code}
-use Rattle.machine_code.specs.Sites.{Site, slot_in, end_of, site_at}
+use Rattle.machine_code.specs.UnitFrames.{UnitFrame, slot_in, end_of, instance_frame}
 use Rattle.machine_code.specs.Codes.{CodeUnits, literal_code, label_code, labels_code, stores_code, expr_code, exprs_code}
 use Rattle.machine_code.specs.Codes.{place_code, led_code, subscripts_code, step_code, inputs_code, outputs_code}
 use Rattle.machine_code.specs.Codes.{invoke_code, stmt_code, stmts_code, arms_code, case_code, given_members}
@@ -26,7 +26,7 @@ use Rattle.machine_code.proofs.Places.{Grows, same_code, grows_on, put, put_on, 
 -- the code of units only grows
 pub record UnitsGrow (units : CodeUnits) : Type 0 where
   pub functions : (f start : ℕ) (c : Code) → Grows c (units.functions f start c)
-  pub blocks : (b : BlockCode) (s : Site) (c : Code) → Grows c (units.blocks b s c)
+  pub blocks : (b : BlockCode) (s : UnitFrame) (c : Code) → Grows c (units.blocks b s c)
 
 pub literal_grows : (r : Result Datum Failure) (c : Code) → Grows c (literal_code r c)
 literal_grows (Ok v) c = put c _
@@ -49,7 +49,7 @@ pub resets_grow : (k : ℕ) (vs : List Datum) (c : Code) → Grows c (resets_cod
 resets_grow k [] c = same_code c
 resets_grow k (v ∷ vs) c = put_on _ (put_on _ (resets_grow (suc k) vs c))
 
-module _ (units : CodeUnits) (grow : UnitsGrow units) (s : Site) where
+module _ (units : CodeUnits) (grow : UnitsGrow units) (s : UnitFrame) where
   mutual
     pub expr_grows : (e : SlotExpr) (c : Code) → Grows c (expr_code units s e c)
     expr_grows (constant l) c = literal_grows (value_of_literal l) c
@@ -94,11 +94,11 @@ module _ (units : CodeUnits) (grow : UnitsGrow units) (s : Site) where
   pub invoke_grows : (at : ℕ) (b : BlockCode) (xs : List SlotArgument) (c : Code)
       → Grows c (invoke_code units s at b xs c)
   invoke_grows at b xs c =
-      grows_on (outputs_grow at xs c) (grows_on (grow.blocks b (site_at s at) _)
+      grows_on (outputs_grow at xs c) (grows_on (grow.blocks b (instance_frame s at) _)
       (grows_on (put_on _ (stores_grow _ (given_members xs) _)) (inputs_grow xs _)))
 
   mutual
-    pub stmt_grows : (x : SlotStmt) (w : Ways) (c : Code) → Grows c (stmt_code units s x w c)
+    pub stmt_grows : (x : SlotStmt) (w : JumpTargets) (c : Code) → Grows c (stmt_code units s x w c)
     stmt_grows empty w c = put c _
     stmt_grows (assign p e) w c = put_on _ (grows_on (place_grows p _ _ c) (expr_grows e _))
     stmt_grows (invoke a b xs) w c = put_on _ (invoke_grows (slot_at s.base a) b xs c)
@@ -116,16 +116,16 @@ module _ (units : CodeUnits) (grow : UnitsGrow units) (s : Site) where
     stmt_grows EXIT w c = put_on _ (put c _)
     stmt_grows RETURN w c = put_on _ (put_on _ (put c _))
 
-    pub stmts_grow : (xs : SlotStmts) (w : Ways) (c : Code) → Grows c (stmts_code units s xs w c)
+    pub stmts_grow : (xs : SlotStmts) (w : JumpTargets) (c : Code) → Grows c (stmts_code units s xs w c)
     stmts_grow no_stmts w c = same_code c
     stmts_grow (stmt_then x xs) w c = grows_on (stmts_grow xs w c) (stmt_grows x w _)
 
-    pub arms_grow : (arms : SlotArms) (w : Ways) (to : ℕ) (c : Code) → Grows c (arms_code units s arms w to c)
+    pub arms_grow : (arms : SlotArms) (w : JumpTargets) (to : ℕ) (c : Code) → Grows c (arms_code units s arms w to c)
     arms_grow no_arms w to c = same_code c
     arms_grow (arm_then e body arms) w to c =
         grows_on (put_on _ (grows_on (put_on _ (arms_grow arms w to c)) (stmts_grow body w _))) (expr_grows e _)
 
-    pub case_grows : (arms : SlotCaseArms) (w : Ways) (to : ℕ) (c : Code) → Grows c (case_code units s arms w to c)
+    pub case_grows : (arms : SlotCaseArms) (w : JumpTargets) (to : ℕ) (c : Code) → Grows c (case_code units s arms w to c)
     case_grows no_case_arms w to c = same_code c
     case_grows (case_arm_then labels body arms) w to c =
         grows_on (put_on _ (put_on _ (grows_on (put_on _ (case_grows arms w to c)) (stmts_grow body w _))))
@@ -138,11 +138,11 @@ module _ (library : SlotLibrary) (units : CodeUnits) (grow : UnitsGrow units) wh
       (grows_on (stores_grow start f.inputs _) (resets_grow start f.fresh _)))
   called_grows None start c = same_code c
 
-  body_grows : (o : Option SlotStmts) (s : Site) (c : Code) → Grows c (body_code units o s c)
+  body_grows : (o : Option SlotStmts) (s : UnitFrame) (c : Code) → Grows c (body_code units o s c)
   body_grows (Some body) s c = stmts_grow units grow s body _ c
   body_grows None s c = same_code c
 
-  instance_grows : (b : BlockCode) (s : Site) (c : Code) → Grows c (instance_code library units b s c)
+  instance_grows : (b : BlockCode) (s : UnitFrame) (c : Code) → Grows c (instance_code library units b s c)
   instance_grows (standard_block b) s c = put c _
   instance_grows (own_block i) s c = body_grows (slice_get library.blocks i) s c
 

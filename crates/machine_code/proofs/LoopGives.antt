@@ -2,28 +2,28 @@
 use Rattle.std.proofs.Common.{◌≡◌, ℕ, zero, suc, ◌<◌, Bool, true, false, if◌then◌else◌}
 use Rattle.std.proofs.Common.{arith}
 use Rattle.st_meaning.specs.Ticks.{Run, ◌>>=◌, give}
-use Rattle.st_meaning.specs.Loops.{EndOf, goes_on, exits, returns, TurnOf, again, over, turned}
+use Rattle.st_meaning.specs.Loops.{EndOf, goes_on, exits, returns, IterationOf, again, over, turned}
 use Rattle.slot_trees.specs.SlotRuns.{state_of}
 use Rattle.machine_code.specs.Machine.{Ending, on_tick}
 use Rattle.machine_code.specs.MarkedExecution.{marked_on, marked_back, marked_turns, marked_loop, marked_guarded}
-use Rattle.machine_code.specs.MarkedExecution.{marked_asked, marked_until}
+use Rattle.machine_code.specs.MarkedExecution.{marked_tested, marked_until}
 use Rattle.machine_code.proofs.Gives.{Gives, by_eq, given, bind, ticking}
 
 module _ (S M : Type 0) (Fit : S → M → Type 0) where
   abbrev pub EndFit : EndOf S → M → Type 0
   EndFit e m = Fit (state_of e) m
 
-  abbrev pub TurnFit : TurnOf S → M → Type 0
+  abbrev pub TurnFit : IterationOf S → M → Type 0
   TurnFit (again s) m = Fit s m
   TurnFit (over e) m = EndFit e m
 
   module _ (on : EndOf S → M → ℕ → Ending M) where
-    -- how a run goes on behind a turn or a step: at this place, or behind the loop
-    abbrev pub turn_on : (M → ℕ → Ending M) → TurnOf S → M → ℕ → Ending M
+    -- how a run goes on after a turn or a step: at this place, or after the loop
+    abbrev pub turn_on : (M → ℕ → Ending M) → IterationOf S → M → ℕ → Ending M
     turn_on at (again s) m a = at m a
     turn_on at (over e) m a = on e m a
 
-    -- how a run goes on behind a body whose condition stands at the foot
+    -- how a run goes on after a body whose condition is at the foot
     abbrev pub foot_on : (M → ℕ → Ending M) → EndOf S → M → ℕ → Ending M
     foot_on foot (goes_on s) m a = foot m a
     foot_on foot (exits s) m a = on (goes_on s) m a
@@ -31,17 +31,17 @@ module _ (S M : Type 0) (Fit : S → M → Type 0) where
 
     module _ (back : M → ℕ → Ending M) where
       -- a loop, whose turn runs from one place, its step from another, and which goes back from a third for a tick
-      module _ (turn step : S → Run (TurnOf S)) (at head : M → ℕ → Ending M)
+      module _ (turn step : S → Run (IterationOf S)) (at head : M → ℕ → Ending M)
           (turning : (s : S) (m : M) (b : ℕ) → Fit s m → Gives (turn s b) b TurnFit (turn_on back) (at m b))
           (stepping : (s : S) (m : M) (b : ℕ) → Fit s m → Gives (step s b) b TurnFit (turn_on at) (head m b))
           (ticks : (m : M) (b : ℕ) → back m b ≡ on_tick b m (λ a. head m a)) where
-        on_runs : (next : S → Run (EndOf S)) (u : TurnOf S) (m : M) (b : ℕ) → TurnFit u m
+        on_runs : (next : S → Run (EndOf S)) (u : IterationOf S) (m : M) (b : ℕ) → TurnFit u m
             → ((s : S) → Fit s m → Gives (next s b) b EndFit on (at m b))
             → Gives (marked_on next u b) b EndFit on (turn_on at u m b)
         on_runs next (again s) m b fit h = h s fit
         on_runs next (over e) m b fit h = given m fit
 
-        back_runs : (next : S → Run (EndOf S)) (u : TurnOf S) (m : M) (b : ℕ) → TurnFit u m
+        back_runs : (next : S → Run (EndOf S)) (u : IterationOf S) (m : M) (b : ℕ) → TurnFit u m
             → ((s : S) (n : M) (c : ℕ) → c < b → Fit s n → Gives (next s c) c EndFit on (at n c))
             → Gives (marked_back step next u b) b EndFit on (turn_on back u m b)
         back_runs next (over e) m b fit h = given m fit
@@ -96,7 +96,7 @@ module _ (S M : Type 0) (Fit : S → M → Type 0) where
         stop_runs false s m b fit = given m fit
 
         asked_runs : (e : EndOf S) (m : M) (b : ℕ) → EndFit e m
-            → Gives (marked_asked condition e b) b TurnFit (turn_on back) (foot_on foot e m b)
+            → Gives (marked_tested condition e b) b TurnFit (turn_on back) (foot_on foot e m b)
         asked_runs (goes_on s) m b fit = bind _ (asking s m b fit) (λ stop n c g le. stop_runs stop.0 stop.1 n c g)
         asked_runs (exits s) m b fit = given m fit
         asked_runs (returns s) m b fit = given m fit
@@ -106,4 +106,4 @@ module _ (S M : Type 0) (Fit : S → M → Type 0) where
           pub until_runs : (s : S) (m : M) (b : ℕ) → Fit s m
               → Gives (marked_until body condition s b) b TurnFit (turn_on back) (at m b)
           unfolding marked_until
-          until_runs s m b fit = bind (marked_asked condition) (running s m b fit) (λ e n c g le. asked_runs e n c g)
+          until_runs s m b fit = bind (marked_tested condition) (running s m b fit) (λ e n c g le. asked_runs e n c g)

@@ -1,17 +1,17 @@
--- The values of a unit in a memory, and the marks of as many of them as are told.
+-- The values of a unit in a memory, and the marks of the first few of them.
 use Rattle.std.proofs.Common.{◌≡◌, ℕ, zero, suc, ◌+◌, ◌==◌, ◌<◌, ◌≤◌, Bool, true, false, List, [], ◌∷◌, ◌++◌, length}
 use Rattle.std.proofs.Common.{take, Some, refl, sym, ap, ◌∙◌, subst, arith}
 use Rattle.std.specs.Prelude.{slice_get, slice_set, option_map}
 use Rattle.std.proofs.lemmas.Bool.Decides.{nat_tests}
 use Rattle.st_types.specs.Values.{Datum}
 use Rattle.machine_code.specs.declared.mark.Mark.{Mark}
-use Rattle.machine_code.specs.Tracking.{Tracked, tracked, with_mark, seen, assigned, written}
+use Rattle.machine_code.specs.Tracking.{Tracked, tracked, with_mark, seen, assigned, assigned_slot}
 use Rattle.machine_code.proofs.MarkLemmas.{set_here, set_elsewhere, set_long, there_within, within_there, mark_here}
 use Rattle.machine_code.proofs.MarkLemmas.{mark_elsewhere, mark_long}
-use Rattle.machine_code.specs.Sites.{Site, site_at}
+use Rattle.machine_code.specs.UnitFrames.{UnitFrame, instance_frame}
 use Rattle.machine_code.specs.MarkedRuns.{unmarked_values}
 
--- the elements of a list, so many, stand in another one from a place on; before them stands what stood there
+-- the elements of a list, `count` of them, are in another one from a place on; those before them are as in `below`
 pub record StandsFrom {A : Type 0} (start count : ℕ) (below xs ys : List A) : Type 0 where
   pub long : length xs ≡ count
   pub lower : (k : ℕ) → k < start → slice_get ys k ≡ slice_get below k
@@ -38,7 +38,7 @@ module _ {A : Type 0} (start count : ℕ) (below xs ys : List A) where
           let apart : j ≡ k → ⊥ = λ is. grind (arith, nat_tests) in
           elsewhere (start + j) (λ is. apart (omega arith)) ∙ h.here j l ∙ sym (others j apart)
 
-  -- what stands behind them is of no account
+  -- the elements after them don't matter
   stands_under : (top : ℕ) (zs : List A) → start + count ≤ top
       → ((k : ℕ) → k < top → slice_get zs k ≡ slice_get ys k) → StandsFrom start count below xs ys
       → StandsFrom start count below xs zs
@@ -48,9 +48,8 @@ module _ {A : Type 0} (start count : ℕ) (below xs ys : List A) where
     here = λ k l. (same (start + k) (omega arith) ∙ h.here k l);
   }
 
--- A memory holds the values of a unit at its site, and the marks of so many of them; below them stands what stood
--- there.
-pub record Holds (memory : ℕ) (s : Site) (told : ℕ) (below vs m : Tracked) : Type 0 where
+-- A memory holds the values of a unit at its site, and the marks of the first `told` of them; below them it is unchanged.
+pub record Holds (memory : ℕ) (s : UnitFrame) (told : ℕ) (below vs m : Tracked) : Type 0 where
   pub long : length m.values ≡ memory
   pub told_within : told ≤ s.size
   pub values : StandsFrom s.start s.size below.values vs.values m.values
@@ -75,7 +74,7 @@ marked_too f start told below xs ys k h =
     (λ j. mark_elsewhere f xs k j) (λ j. mark_elsewhere f ys (start + k) j)
     (λ l. mark_here f ys (start + k) ∙ ap (option_map f) (h.here k l) ∙ sym (mark_here f xs k)) h
 
-module _ (memory : ℕ) (s : Site) (told : ℕ) (below vs m : Tracked) where
+module _ (memory : ℕ) (s : UnitFrame) (told : ℕ) (below vs m : Tracked) where
   -- one of the values is looked up
   pub holds_look : (k : ℕ) → Holds memory s told below vs m
       → Holds memory s told below (looked_at vs k) (looked_at m (s.start + k))
@@ -88,7 +87,7 @@ module _ (memory : ℕ) (s : Site) (told : ℕ) (below vs m : Tracked) where
 
   -- an assignment to one of the values
   pub holds_set : (k : ℕ) (v : Datum) → s.start + s.size ≤ memory → k < s.size → Holds memory s told below vs m
-      → Holds memory s told below (written vs k v) (written m (s.start + k) v)
+      → Holds memory s told below (assigned_slot vs k v) (assigned_slot m (s.start + k) v)
   holds_set k v room lt h = record {
     long = set_long m.values (s.start + k) v ∙ h.long;
     told_within = h.told_within;
@@ -100,7 +99,7 @@ module _ (memory : ℕ) (s : Site) (told : ℕ) (below vs m : Tracked) where
     marks = marked_too assigned s.start told below.marks vs.marks m.marks k h.marks;
   }
 
-  -- what a call leaves below the values of what it called
+  -- the memory that a call leaves below the values of the unit that it called
   pub holds_frame : (n : Tracked) → Holds memory s told below vs m → Frame memory (s.start + s.size) m n
       → Holds memory s told below vs n
   holds_frame n h f = record {
@@ -113,10 +112,10 @@ module _ (memory : ℕ) (s : Site) (told : ℕ) (below vs m : Tracked) where
   }
 
   -- the same values, seen by an instance of a block
-  pub holds_at : (base : ℕ) → Holds memory s told below vs m → Holds memory (site_at s base) told below vs m
+  pub holds_at : (base : ℕ) → Holds memory s told below vs m → Holds memory (instance_frame s base) told below vs m
   holds_at base h = record { long = h.long; told_within = h.told_within; values = h.values; marks = h.marks }
 
-  pub holds_back : (base : ℕ) → Holds memory (site_at s base) told below vs m → Holds memory s told below vs m
+  pub holds_back : (base : ℕ) → Holds memory (instance_frame s base) told below vs m → Holds memory s told below vs m
   holds_back base h = record { long = h.long; told_within = h.told_within; values = h.values; marks = h.marks }
 
   pub frame_of : Holds memory s told below vs m → Frame memory s.start below m
@@ -125,36 +124,36 @@ module _ (memory : ℕ) (s : Site) (told : ℕ) (below vs m : Tracked) where
 -- values put from a slot on
 abbrev pub reset_all : ℕ → List Datum → Tracked → Tracked
 reset_all k [] m = m
-reset_all k (v ∷ vs) m = reset_all (suc k) vs (written m k v)
+reset_all k (v ∷ vs) m = reset_all (suc k) vs (assigned_slot m k v)
 
 reset_long : (k : ℕ) (vs : List Datum) (m : Tracked) → length (reset_all k vs m).values ≡ length m.values
 reset_long k [] m = refl
-reset_long k (v ∷ vs) m = reset_long (suc k) vs (written m k v) ∙ set_long m.values k v
+reset_long k (v ∷ vs) m = reset_long (suc k) vs (assigned_slot m k v) ∙ set_long m.values k v
 
 reset_lower : (k : ℕ) (vs : List Datum) (m : Tracked) (j : ℕ) → j < k
     → slice_get (reset_all k vs m).values j ≡ slice_get m.values j
 reset_lower k [] m j lt = refl
 reset_lower k (v ∷ vs) m j lt =
-    reset_lower (suc k) vs (written m k v) j (omega arith) ∙ set_elsewhere m.values j k v (λ e. omega arith)
+    reset_lower (suc k) vs (assigned_slot m k v) j (omega arith) ∙ set_elsewhere m.values j k v (λ e. omega arith)
 
 reset_marks : (k : ℕ) (vs : List Datum) (m : Tracked) (j : ℕ) → j < k
     → slice_get (reset_all k vs m).marks j ≡ slice_get m.marks j
 reset_marks k [] m j lt = refl
 reset_marks k (v ∷ vs) m j lt =
-    reset_marks (suc k) vs (written m k v) j (omega arith) ∙ mark_elsewhere assigned m.marks k j (λ e. omega arith)
+    reset_marks (suc k) vs (assigned_slot m k v) j (omega arith) ∙ mark_elsewhere assigned m.marks k j (λ e. omega arith)
 
 reset_values : (k : ℕ) (vs : List Datum) (m : Tracked) (j : ℕ) → k + length vs ≤ length m.values → j < length vs
     → slice_get (reset_all k vs m).values (k + j) ≡ slice_get vs j
 reset_values k [] m j le lt = absurd (omega arith)
 reset_values k (v ∷ vs) m zero le lt =
     let at : k + 0 ≡ k = omega arith in
-    ap (λ i. slice_get (reset_all (suc k) vs (written m k v)).values i) at
-    ∙ reset_lower (suc k) vs (written m k v) k (omega arith) ∙ set_here m.values k v (omega arith)
+    ap (λ i. slice_get (reset_all (suc k) vs (assigned_slot m k v)).values i) at
+    ∙ reset_lower (suc k) vs (assigned_slot m k v) k (omega arith) ∙ set_here m.values k v (omega arith)
 reset_values k (v ∷ vs) m (suc j) le lt =
     let at : k + suc j ≡ suc k + j = omega arith in
     let l = set_long m.values k v in
-    ap (λ i. slice_get (reset_all (suc k) vs (written m k v)).values i) at
-    ∙ reset_values (suc k) vs (written m k v) j (omega arith) (omega arith)
+    ap (λ i. slice_get (reset_all (suc k) vs (assigned_slot m k v)).values i) at
+    ∙ reset_values (suc k) vs (assigned_slot m k v) j (omega arith) (omega arith)
 
 -- a memory after a function's variables were put from a slot on
 pub holds_reset : (memory start : ℕ) (fresh : List Datum) (m : Tracked) → length m.values ≡ memory
@@ -201,7 +200,7 @@ module _ {A : Type 0} where
   get_front (v ∷ vs) rest zero lt = refl
   get_front (v ∷ vs) rest (suc k) lt = get_front vs rest k (omega arith)
 
-  -- the first ones of a list stand from its beginning on
+  -- the first elements of a list, from its beginning on
   pub stands_first : (count : ℕ) (xs rest : List A) → length xs ≡ count
       → StandsFrom 0 count (xs ++ rest) xs (xs ++ rest)
   stands_first count xs rest long = record {

@@ -6,10 +6,10 @@ use Rattle.std.specs.List.{list_any}
 use Rattle.st_types.specs.Values.{Datum}
 use Rattle.st_types.specs.declared.statement.Label.{Label}
 use Rattle.st_types.specs.declared.statement.Label.TheVariants.{Single, Range, Enumerated}
-use Rattle.st_meaning.specs.Failures.{StandIns, ill_typed}
+use Rattle.st_meaning.specs.Failures.{StuckFaults, ill_typed}
 use Rattle.st_meaning.specs.Operators.{number_of}
 use Rattle.st_meaning.specs.Ticks.{Run, follow, ◌>>=◌, give}
-use Rattle.st_meaning.specs.Loops.{EndOf, TurnOf, goes_on, exits, returns, behind, turned, stepped_on}
+use Rattle.st_meaning.specs.Loops.{EndOf, IterationOf, goes_on, exits, returns, continue_with, turned, stepped_on}
 use Rattle.st_meaning.specs.Loops as loops
 use Rattle.st_meaning.specs.Execution.{label_holds}
 use Rattle.slot_trees.specs.SlotTrees as arguments
@@ -19,15 +19,15 @@ use Rattle.slot_trees.specs.SlotTrees.{WHILE, REPEAT, EXIT, RETURN, SlotStmts, n
 use Rattle.slot_trees.specs.SlotTrees.{arm_then, SlotCaseArms, no_case_arms, case_arm_then}
 use Rattle.slot_trees.specs.SlotEvaluation.{slot_at}
 use Rattle.slot_trees.specs.SlotRuns.{state_of}
-use Rattle.machine_code.specs.declared.instr.Instr.TheVariants.{Tick, Push, Store, StoreAt, Turn, Jump, Unless, When}
-use Rattle.machine_code.specs.declared.instr.Instr.TheVariants.{Back, Leave, ForBegin, ForTest, ForStep, Equals, Within}
+use Rattle.machine_code.specs.declared.instr.Instr.TheVariants.{Tick, Push, Store, StoreAt, Reverse, Jump, JumpIfFalse, JumpIfTrue}
+use Rattle.machine_code.specs.declared.instr.Instr.TheVariants.{LoopBack, Pop, ForBegin, ForTest, ForStep, JumpIfEqual, JumpIfWithin}
 use Rattle.machine_code.specs.Tracking.{Tracked, tracking}
-use Rattle.machine_code.specs.Machine.{Ending, on_result, on_step, leads, runs_within}
+use Rattle.machine_code.specs.Machine.{Ending, on_result, on_step, jump_down, runs_within}
 use Rattle.machine_code.specs.Machine as machine
-use Rattle.machine_code.specs.declared.ways.Ways.{Ways}
+use Rattle.machine_code.specs.declared.jump_targets.JumpTargets.{JumpTargets}
 use Rattle.machine_code.specs.Growing.{Code, ◌◂◌, closed}
-use Rattle.machine_code.specs.Sites.{Site, end_of, site_at}
-use Rattle.machine_code.specs.Codes.{CodeUnits, body_ways, loop_ways, number_value, label_code, labels_code, stores_code}
+use Rattle.machine_code.specs.UnitFrames.{UnitFrame, end_of, instance_frame}
+use Rattle.machine_code.specs.Codes.{CodeUnits, body_targets, loop_targets, number_value, label_code, labels_code, stores_code}
 use Rattle.machine_code.specs.Codes.{given_members, expr_code, place_code, step_code, outputs_code}
 use Rattle.machine_code.specs.Codes.{invoke_code, stmt_code, stmts_code, arms_code, case_code}
 use Rattle.machine_code.specs.Fitting.{UnitCall, of_block, AllBelow, ArgumentsFit, StepFits, StmtFits, StmtsFit, ArmsFit}
@@ -50,39 +50,39 @@ use Rattle.machine_code.proofs.UnitCalls.{UnitsRun}
 use Rattle.machine_code.proofs.Expressions as expressions
 use Rattle.machine_code.proofs.Arguments.{values_of, stored_runs, storing_place, inputs_run, outputs_run}
 
--- the ways lead on from this code, and RETURN takes away what running FORs hold
-pub record Fine (w : Ways) (c : Code) (st rst : List Datum) : Type 0 where
+-- the ways lead on from this code, and RETURN takes away the values of running FORs
+pub record Fine (w : JumpTargets) (c : Code) (st rst : List Datum) : Type 0 where
   pub exit : w.exit ≤ length c
   pub back : w.back ≤ length c
   pub held : drop w.held st ≡ rst
 
-fine_on : {w : Ways} {c d : Code} {st rst : List Datum} → Grows c d → Fine w c st rst → Fine w d st rst
+fine_on : {w : JumpTargets} {c d : Code} {st rst : List Datum} → Grows c d → Fine w c st rst → Fine w d st rst
 fine_on g h = record {
   exit = (let l = g.longer in let m = h.exit in omega arith);
   back = (let l = g.longer in let m = h.back in omega arith);
   held = h.held;
 }
 
-fine_loop : (w : Ways) (c : Code) (st rst : List Datum) → Fine w c st rst
-    → Fine (loop_ways w (length c) 0) (c ◂ Back 0) st rst
-fine_loop w c st rst fine = fine_on (put c (Back 0)) (record {
+fine_loop : (w : JumpTargets) (c : Code) (st rst : List Datum) → Fine w c st rst
+    → Fine (loop_targets w (length c) 0) (c ◂ LoopBack 0) st rst
+fine_loop w c st rst fine = fine_on (put c (LoopBack 0)) (record {
   exit = omega arith;
   back = fine.back;
   held = (let z : w.held + 0 ≡ w.held = omega arith in ap (λ n. drop n st) z ∙ fine.held);
 })
 
-fine_for : (w : Ways) (c : Code) (st rst : List Datum) (d n : Datum) → Fine w c st rst
-    → Fine (loop_ways w (length (c ◂ Leave 2)) 2) (c ◂ Leave 2 ◂ Back 0) (d ∷ n ∷ st) rst
-fine_for w c st rst d n fine = fine_on (put (c ◂ Leave 2) (Back 0)) (record {
+fine_for : (w : JumpTargets) (c : Code) (st rst : List Datum) (d n : Datum) → Fine w c st rst
+    → Fine (loop_targets w (length (c ◂ Pop 2)) 2) (c ◂ Pop 2 ◂ LoopBack 0) (d ∷ n ∷ st) rst
+fine_for w c st rst d n fine = fine_on (put (c ◂ Pop 2) (LoopBack 0)) (record {
   exit = omega arith;
-  back = (let g = put c (Leave 2) in let l = g.longer in let m = fine.back in omega arith);
+  back = (let g = put c (Pop 2) in let l = g.longer in let m = fine.back in omega arith);
   held = (let z : w.held + 2 ≡ suc (suc w.held) = omega arith in ap (λ j. drop j (d ∷ n ∷ st)) z ∙ fine.held);
 })
 
-pub fine_body : (c : Code) (st : List Datum) → Fine (body_ways (length c)) c st st
+pub fine_body : (c : Code) (st : List Datum) → Fine (body_targets (length c)) c st st
 fine_body c st = record { exit = omega arith; back = omega arith; held = refl }
 
--- members behind a first slot
+-- members after a first slot
 all_behind : (n at : ℕ) (xs : List (ℕ × Datum)) (ks : List ℕ) → map (λ e. e.0) xs ≡ ks
     → AllBelow n (map (λ k. at + k) ks) → AllBelow n (map (λ e. at + e.0) xs)
 all_behind n at [] ks e h = tt
@@ -98,18 +98,18 @@ as_many [] (k ∷ ks) e = absurd (cc)
 as_many (x ∷ xs) [] e = absurd (cc)
 as_many (x ∷ xs) (k ∷ ks) e = (let rest : map (λ e. e.0) xs ≡ ks = cc in ap suc (as_many xs ks rest))
 
-nonzero_runs : {B : Type 0} (t : StandIns) (d : ℤ) (f : Unit {0} → Run B) (b : ℕ) (m : Tracked) (next : Ending Tracked)
+nonzero_runs : {B : Type 0} (t : StuckFaults) (d : ℤ) (f : Unit {0} → Run B) (b : ℕ) (m : Tracked) (next : Ending Tracked)
     {Good : B → Tracked → Type 0} {on : B → Tracked → ℕ → Ending Tracked} → Gives (f tt b) b Good on next
     → Gives (follow (loops.nonzero d b) f) b Good on (on_result t (machine.nonzero d) m (λ _. next))
 nonzero_runs t (pos zero) f b m next h = record { by = (m, refl) }
 nonzero_runs t (pos (suc n)) f b m next h = h
 nonzero_runs t (negsuc n) f b m next h = h
 
-module _ (t : StandIns) (now memory : ℕ) (small : memory ≤ 65536) (F : Code) (units : MarkedUnits) (codes : CodeUnits)
-    (CallFits : UnitCall → Type 0) (run : UnitsRun t now memory F units codes CallFits) (s : Site)
+module _ (t : StuckFaults) (now memory : ℕ) (small : memory ≤ 65536) (F : Code) (units : MarkedUnits) (codes : CodeUnits)
+    (CallFits : UnitCall → Type 0) (run : UnitsRun t now memory F units codes CallFits) (s : UnitFrame)
     (room : end_of s ≤ memory) (told : ℕ) (below : Tracked) where
   abbrev scope : MarkedScope
-  scope = record { units = units; base = s.base; stand_ins = t }
+  scope = record { units = units; base = s.base; stuck_faults = t }
 
   abbrev grow : UnitsGrow codes
   grow = run.grow
@@ -124,14 +124,14 @@ module _ (t : StandIns) (now memory : ℕ) (small : memory ≤ 65536) (F : Code)
   abbrev At : Code → List Datum → Tracked → ℕ → Ending Tracked
   At c st m a = G t now F (length c) st m a
 
-  -- how a run goes on behind statements
-  abbrev pub Ends : Ways → Code → List Datum → List Datum → MarkedEnd → Tracked → ℕ → Ending Tracked
+  -- how a run goes on after statements
+  abbrev pub Ends : JumpTargets → Code → List Datum → List Datum → MarkedEnd → Tracked → ℕ → Ending Tracked
   Ends w c st rst (goes_on us) m a = G t now F (length c) st m a
   Ends w c st rst (exits us) m a = G t now F w.exit st m a
   Ends w c st rst (returns us) m a = G t now F w.back rst m a
 
-  -- a jump down behind statements
-  ends_jump : (w : Ways) (c : Code) (to : ℕ) (d : Code) (st rst : List Datum) → Has F (length d) (d ◂ Jump to)
+  -- a jump down after statements
+  ends_jump : (w : JumpTargets) (c : Code) (to : ℕ) (d : Code) (st rst : List Datum) → Has F (length d) (d ◂ Jump to)
       → to ≡ length c → length c ≤ length d → (e : MarkedEnd) (m : Tracked) (a : ℕ)
       → Ends w (d ◂ Jump to) st rst e m a ≡ Ends w c st rst e m a
   ends_jump w c to d st rst has is le (goes_on us) m a =
@@ -140,26 +140,26 @@ module _ (t : StandIns) (now memory : ℕ) (small : memory ≤ 65536) (F : Code)
   ends_jump w c to d st rst has is le (exits us) m a = refl
   ends_jump w c to d st rst has is le (returns us) m a = refl
 
-  -- a body that stands in the place of its call: each end leads behind it
+  -- a body in the place of its call: each end leads to the code after it
   pub ends_call : (c : Code) (st : List Datum) (e : MarkedEnd) (m : Tracked) (a : ℕ)
-      → Ends (body_ways (length c)) c st st e m a ≡ G t now F (length c) st m a
+      → Ends (body_targets (length c)) c st st e m a ≡ G t now F (length c) st m a
   ends_call c st (goes_on us) m a = refl
   ends_call c st (exits us) m a = refl
   ends_call c st (returns us) m a = refl
 
-  -- the end of a loop over statements that stand inside it
-  turned_ends : (w : Ways) (c d : Code) (n : ℕ) (st hst rst : List Datum) (at : ℕ)
+  -- the end of a loop over statements that are inside it
+  turned_ends : (w : JumpTargets) (c d : Code) (n : ℕ) (st hst rst : List Datum) (at : ℕ)
       → ((m : Tracked) (a : ℕ) → G t now F at hst m a ≡ G t now F (length c) st m a) → (e : MarkedEnd) (m : Tracked)
       (a : ℕ)
-      → Ends (loop_ways w at n) d hst rst e m a
+      → Ends (loop_targets w at n) d hst rst e m a
       ≡ turn_on Tracked Tracked Fit (Ends w c st rst) (At d hst) (turned e) m a
   turned_ends w c d n st hst rst at leave (goes_on us) m a = refl
   turned_ends w c d n st hst rst at leave (exits us) m a = leave m a
   turned_ends w c d n st hst rst at leave (returns us) m a = refl
 
-  -- the end of a body whose condition stands at the foot
-  foot_ends : (w : Ways) (c h : Code) (st rst : List Datum) (e : MarkedEnd) (m : Tracked) (a : ℕ)
-      → Ends (loop_ways w (length c) 0) h st rst e m a
+  -- the end of a body whose condition is at the foot
+  foot_ends : (w : JumpTargets) (c h : Code) (st rst : List Datum) (e : MarkedEnd) (m : Tracked) (a : ℕ)
+      → Ends (loop_targets w (length c) 0) h st rst e m a
       ≡ foot_on Tracked Tracked Fit (Ends w c st rst) (At h st) e m a
   foot_ends w c h st rst (goes_on us) m a = refl
   foot_ends w c h st rst (exits us) m a = refl
@@ -170,16 +170,16 @@ module _ (t : StandIns) (now memory : ℕ) (small : memory ≤ 65536) (F : Code)
       ≡ (if label_holds v.number l then G t now F to (v ∷ st) m b else G t now F (length c) (v ∷ st) m b)
   label_runs (Single n) to c st v m b le has =
       let x = number_value (number_of n) in
-      stepped t now F (c ◂ Equals to) (Push x) (v ∷ st) m b (part (put c _) (same_code _) has)
-      ∙ stepped t now F c (Equals to) (x ∷ v ∷ st) m b (part (same_code c) (put _ _) has)
+      stepped t now F (c ◂ JumpIfEqual to) (Push x) (v ∷ st) m b (part (put c _) (same_code _) has)
+      ∙ stepped t now F c (JumpIfEqual to) (x ∷ v ∷ st) m b (part (same_code c) (put _ _) has)
       ∙ ap (λ e. if label_holds v.number (Single n) then e else G t now F (length c) (v ∷ st) m b)
       (down t to (length c) m (G t now F to (v ∷ st) m b) le)
   label_runs (Range least greatest) to c st v m b le has =
       let x = number_value (number_of least) in
       let y = number_value (number_of greatest) in
-      stepped t now F (c ◂ Within to ◂ Push y) (Push x) (v ∷ st) m b (part (put_on _ (put c _)) (same_code _) has)
-      ∙ stepped t now F (c ◂ Within to) (Push y) (x ∷ v ∷ st) m b (part (put c _) (put _ _) has)
-      ∙ stepped t now F c (Within to) (y ∷ x ∷ v ∷ st) m b (part (same_code c) (put_on _ (put _ _)) has)
+      stepped t now F (c ◂ JumpIfWithin to ◂ Push y) (Push x) (v ∷ st) m b (part (put_on _ (put c _)) (same_code _) has)
+      ∙ stepped t now F (c ◂ JumpIfWithin to) (Push y) (x ∷ v ∷ st) m b (part (put c _) (put _ _) has)
+      ∙ stepped t now F c (JumpIfWithin to) (y ∷ x ∷ v ∷ st) m b (part (same_code c) (put_on _ (put _ _)) has)
       ∙ ap (λ e. if label_holds v.number (Range least greatest) then e else G t now F (length c) (v ∷ st) m b)
       (down t to (length c) m (G t now F to (v ∷ st) m b) le)
   label_runs (Enumerated x) to c st v m b le has = refl
@@ -200,15 +200,15 @@ module _ (t : StandIns) (now memory : ℕ) (small : memory ≤ 65536) (F : Code)
       ∙ one_label (label_holds v.number l) (list_any (label_holds v.number) ls) _ _
       (labels_run ls to c st v m b le (part (same_code c) (label_grows l to d) has))
 
-  behind_runs : (w : Ways) (c d : Code) (st rst : List Datum) (next : Tracked → Run MarkedEnd) (e : MarkedEnd)
+  behind_runs : (w : JumpTargets) (c d : Code) (st rst : List Datum) (next : Tracked → Run MarkedEnd) (e : MarkedEnd)
       (m : Tracked) (b : ℕ) → Ended e m
       → ((us : Tracked) → Holds memory s told below us m → Gives (next us b) b Ended (Ends w c st rst) (At d st m b))
-      → Gives (behind e next b) b Ended (Ends w c st rst) (Ends w d st rst e m b)
+      → Gives (continue_with e next b) b Ended (Ends w c st rst) (Ends w d st rst e m b)
   behind_runs w c d st rst next (goes_on us) m b fit h = h us fit
   behind_runs w c d st rst next (exits us) m b fit h = given m fit
   behind_runs w c d st rst next (returns us) m b fit h = given m fit
 
-  -- the step of a FOR: what stands behind it needs its number alone
+  -- the step of a FOR: the code after it needs its number alone
   step_runs : {B : Type 0} (o : Option SlotExpr) (c : Code) (st : List Datum) (f : ℤ × Tracked → Run B)
       (Good : B → Tracked → Type 0) (on : B → Tracked → ℕ → Ending Tracked) (vs m : Tracked) (b : ℕ)
       → StepFits CallFits s o → Holds memory s told below vs m → Has F (length c) (step_code codes s o c)
@@ -222,11 +222,11 @@ module _ (t : StandIns) (now memory : ℕ) (small : memory ≤ 65536) (F : Code)
       (bind _ (expressions.expr_runs t now memory small F units codes CallFits run s room told below e c st vs m b fits
       holds has) (λ v n a good le. next v.0 v.1 n a good))
 
-  -- a FOR behind its start, limit and step
-  module _ (k : ℕ) (lt : k < s.size) (w : Ways) (c : Code) (st rst : List Datum) (inner : Code) (i n d : Datum)
+  -- a FOR after its start, limit and step
+  module _ (k : ℕ) (lt : k < s.size) (w : JumpTargets) (c : Code) (st rst : List Datum) (inner : Code) (i n d : Datum)
       (body : Tracked → Run MarkedEnd) where
     abbrev left : Code
-    left = c ◂ Leave 2
+    left = c ◂ Pop 2
 
     abbrev held : List Datum
     held = d ∷ n ∷ st
@@ -240,25 +240,25 @@ module _ (t : StandIns) (now memory : ℕ) (small : memory ≤ 65536) (F : Code)
     abbrev begun : Code
     begun = closed (length left) whole ◂ Jump (length turn)
 
-    module _ (grown : Grows (left ◂ Back 0) inner) (has : Has F (length c) (begun ◂ ForBegin (s.start + k)))
+    module _ (grown : Grows (left ◂ LoopBack 0) inner) (has : Has F (length c) (begun ◂ ForBegin (s.start + k)))
         (running : (vs m : Tracked) (b : ℕ) → Holds memory s told below vs m → Gives (body vs b) b Ended
-        (Ends (loop_ways w (length left) 2) (left ◂ Back 0) held rst) (At inner held m b)) where
+        (Ends (loop_targets w (length left) 2) (left ◂ LoopBack 0) held rst) (At inner held m b)) where
       all : Grows left whole
-      all = put_on _ (put_on _ (grows_on (put left (Back 0)) grown))
+      all = put_on _ (put_on _ (grows_on (put left (LoopBack 0)) grown))
 
       looping : Has F (length left) (closed (length left) whole)
       looping = part (put c _) (put_on _ (put _ _)) has
 
-      inside : Has F (length (left ◂ Back 0)) whole
-      inside = opened left whole (Back 0) looping
+      inside : Has F (length (left ◂ LoopBack 0)) whole
+      inside = opened left whole (LoopBack 0) looping
 
-      -- behind the loop
+      -- after the loop
       leaves : (m : Tracked) (a : ℕ) → At left held m a ≡ At c st m a
-      leaves m a = stepped t now F c (Leave 2) held m a (part (same_code c) (grows_on (close_on all) (put_on _
+      leaves m a = stepped t now F c (Pop 2) held m a (part (same_code c) (grows_on (close_on all) (put_on _
           (put _ _))) has)
 
       in_turn : length left ≤ length inner
-      in_turn = let g = grows_on (put left (Back 0)) grown in g.longer
+      in_turn = let g = grows_on (put left (LoopBack 0)) grown in g.longer
 
       asks : (vs m : Tracked) (b : ℕ) → Holds memory s told below vs m
           → Gives (marked_runs_on t k n.number d.number vs b) b (λ go m. Holds memory s told below go.1 m)
@@ -274,7 +274,7 @@ module _ (t : StandIns) (now memory : ℕ) (small : memory ≤ 65536) (F : Code)
       steps_to : (o : Option Datum) (vs m : Tracked) (b : ℕ) → Holds memory s told below vs m
           → Gives (marked_step_of t k o vs b) b (TurnFit Tracked Tracked Fit)
           (turn_on Tracked Tracked Fit (Ends w c st rst) (At turn held))
-          (on_step tracking t m (s.start + k) o (λ m. At turn held m b) (leads t (length left) (length turn) m
+          (on_step tracking t m (s.start + k) o (λ m. At turn held m b) (jump_down t (length left) (length turn) m
           (At left held m b)))
       steps_to (Some v) vs m b holds =
           storing t memory s room told below _ _ vs m k v _ b _ holds lt (λ us n h. given n h)
@@ -297,10 +297,10 @@ module _ (t : StandIns) (now memory : ℕ) (small : memory ≤ 65536) (F : Code)
           → Gives (marked_loop (marked_guarded (marked_runs_on t k n.number d.number) body)
           (marked_step_on t k d.number) vs b) b Ended (Ends w c st rst) (At turn held m b)
       turns_right =
-          loop_runs Tracked Tracked Fit (Ends w c st rst) (At (left ◂ Back 0) held) _ _ (At turn held) (At whole held)
-          (guarded_runs Tracked Tracked Fit (Ends w c st rst) (At (left ◂ Back 0) held) _ _ (At inner held)
+          loop_runs Tracked Tracked Fit (Ends w c st rst) (At (left ◂ LoopBack 0) held) _ _ (At turn held) (At whole held)
+          (guarded_runs Tracked Tracked Fit (Ends w c st rst) (At (left ◂ LoopBack 0) held) _ _ (At inner held)
           (At turn held) asks (λ vs m b holds.
-          going (turned_ends w c (left ◂ Back 0) 2 st held rst (length left) leaves) (running vs m b holds)))
+          going (turned_ends w c (left ◂ LoopBack 0) 2 st held rst (length left) leaves) (running vs m b holds)))
           steps (ticks_back t now F left whole held (put_on _ (put_on _ grown)) looping)
 
       for_runs : (vs m : Tracked) (b : ℕ) → Holds memory s told below vs m
@@ -325,29 +325,29 @@ module _ (t : StandIns) (now memory : ℕ) (small : memory ≤ 65536) (F : Code)
   given_below at (arguments.given o e ∷ rest) fits = (fits.0, given_below at rest fits.2)
   given_below at (arguments.copied o p ∷ rest) fits = given_below at rest fits.2
 
-  invoke_runs : (at : ℕ) (code : BlockCode) (xs : List SlotArgument) (w : Ways) (c : Code) (st rst : List Datum)
-      (vs m : Tracked) (b : ℕ) → CallFits (of_block code (site_at s at)) → ArgumentsFit CallFits s at xs
+  invoke_runs : (at : ℕ) (code : BlockCode) (xs : List SlotArgument) (w : JumpTargets) (c : Code) (st rst : List Datum)
+      (vs m : Tracked) (b : ℕ) → CallFits (of_block code (instance_frame s at)) → ArgumentsFit CallFits s at xs
       → Holds memory s told below vs m → Has F (length c) (invoke_code codes s at code xs c)
       → Gives (marked_invoking scope at code xs vs b) b Ended (Ends w c st rst)
       (At (invoke_code codes s at code xs c) st m b)
   invoke_runs at code xs w c st rst vs m b call fits holds has =
       let d = outputs_code codes s at xs c in
-      let f = codes.blocks code (site_at s at) d in
+      let f = codes.blocks code (instance_frame s at) d in
       let ks = given_members xs in
       let g = stores_code (s.start + at) ks f in
       let low = outputs_grow codes grow s at xs c in
-      let mid = grow.blocks code (site_at s at) d in
+      let mid = grow.blocks code (instance_frame s at) d in
       let high = stores_grow (s.start + at) ks f in
-      let top = inputs_grow codes grow s xs (g ◂ Turn (length ks)) in
-      bind _ (inputs_run t now memory small F units codes CallFits run s room told below at xs (g ◂ Turn
+      let top = inputs_grow codes grow s xs (g ◂ Reverse (length ks)) in
+      bind _ (inputs_run t now memory small F units codes CallFits run s room told below at xs (g ◂ Reverse
       (length ks)) st vs m b
       fits holds (part (put_on _ (grows_on low (grows_on mid high))) (same_code _) has)) (λ ys k a done le.
-      one t now F g (Turn (length ks)) (stacked (values_of ys.0) st) k a
+      one t now F g (Reverse (length ks)) (stacked (values_of ys.0) st) k a
       (part (grows_on low (grows_on mid high)) top has)
       (by_eq (tops t (values_of ys.0) (length ks) st k _ (as_many ys.0 ks done.members_are))
       (bind _ (stores_run at ys.0 ks ys.1 f st k a done.members_are (given_below at xs fits) done.holds
       (part (grows_on low mid) (grows_on (put g _) top) has)) (λ ts j e h le.
-      bind _ (run.blocks code (site_at s at) told below ts d st j e call room
+      bind _ (run.blocks code (instance_frame s at) told below ts d st j e call room
       (holds_at memory s told below ts j at h)
       (part low (grows_on high (grows_on (put g _) top)) has)) (λ us i l h le.
       bind _ (outputs_run t now memory small F units codes CallFits run s room told below at xs c st us i l fits
@@ -368,7 +368,7 @@ module _ (t : StandIns) (now memory : ℕ) (small : memory ≤ 65536) (F : Code)
           (all_behind s.size at ys ks is below_all) holds has) has
 
   mutual
-    stmt_runs : (x : SlotStmt) (w : Ways) (c : Code) (st rst : List Datum) (vs m : Tracked) (b : ℕ)
+    stmt_runs : (x : SlotStmt) (w : JumpTargets) (c : Code) (st rst : List Datum) (vs m : Tracked) (b : ℕ)
         → StmtFits CallFits s x → Fine w c st rst → Holds memory s told below vs m
         → Has F (length c) (stmt_code codes s x w c)
         → Gives (marked_exec scope x vs b) b Ended (Ends w c st rst) (At (stmt_code codes s x w c) st m b)
@@ -401,7 +401,7 @@ module _ (t : StandIns) (now memory : ℕ) (small : memory ≤ 65536) (F : Code)
         vs m a fits.0 fine holds (part (same_code c) (put _ _) has)))
     stmt_runs (CASE e arms otherwise) w c st rst vs m b fits fine holds has =
         let o = stmts_code codes s otherwise w c in
-        let d = o ◂ Leave 1 in
+        let d = o ◂ Pop 1 in
         let f = case_code codes s arms w (length c) d in
         let low = stmts_grow codes grow s otherwise w c in
         let mid = case_grows codes grow s arms w (length c) d in
@@ -412,15 +412,15 @@ module _ (t : StandIns) (now memory : ℕ) (small : memory ≤ 65536) (F : Code)
         bind _ (expressions.expr_runs t now memory small F units codes CallFits run s room told below e f st vs m a
         fits.0 holds (part (grows_on (put_on _ low) mid) (put _ _) has)) (λ v n a good le.
         case_runs arms w c d st rst (marked_exec_all scope otherwise) v.0 (put_on _ low)
-        (λ vs m b h. one t now F o (Leave 1) (v.0 ∷ st) m b (part low (grows_on mid (put_on _ up)) has)
+        (λ vs m b h. one t now F o (Pop 1) (v.0 ∷ st) m b (part low (grows_on mid (put_on _ up)) has)
         (stmts_run otherwise w c st rst vs m b fits.2 fine h
         (part (same_code c) (grows_on (put _ _) (grows_on mid (put_on _ up))) has)))
         v.1 n a fits.1 fine good (part (same_code c) (put_on _ up) has))))
     stmt_runs (FOR i start limit step body) w c st rst vs m b fits fine holds has =
         let k = slot_at s.base i in
-        let end = c ◂ Leave 2 in
-        let back = end ◂ Back 0 in
-        let v = loop_ways w (length end) 2 in
+        let end = c ◂ Pop 2 in
+        let back = end ◂ LoopBack 0 in
+        let v = loop_targets w (length end) 2 in
         let inner = stmts_code codes s body v back in
         let round = inner ◂ ForTest (s.start + k) (length end) in
         let loop = round ◂ ForStep (s.start + k) (length end) in
@@ -446,16 +446,16 @@ module _ (t : StandIns) (now memory : ℕ) (small : memory ≤ 65536) (F : Code)
         for_runs k fits.0 w c st rst inner i.0 l.0 d (marked_exec_all scope body) grown ready_has
         (λ vs m b h. stmts_run body v back (d ∷ l.0 ∷ st) rst vs m b fits.4 (fine_for w c st rst d l.0 fine) h
         (part (same_code back) (put_on _ (put _ _))
-        (opened end loop (Back 0) (part (put c _) (put_on _ (put _ _)) ready_has)))) us n a good)))))
+        (opened end loop (LoopBack 0) (part (put c _) (put_on _ (put _ _)) ready_has)))) us n a good)))))
     stmt_runs (WHILE e body) w c st rst vs m b fits fine holds has =
-        let v = loop_ways w (length c) 0 in
-        let d = c ◂ Back 0 in
+        let v = loop_targets w (length c) 0 in
+        let d = c ◂ LoopBack 0 in
         let f = stmts_code codes s body v d in
-        let h = expr_code codes s e (f ◂ Unless (length c)) in
+        let h = expr_code codes s e (f ◂ JumpIfFalse (length c)) in
         let inner = stmts_grow codes grow s body v d in
-        let up = expr_grows codes grow s e (f ◂ Unless (length c)) in
+        let up = expr_grows codes grow s e (f ◂ JumpIfFalse (length c)) in
         let head = part (same_code c) (put _ _) has in
-        let inside = opened c h (Back 0) head in
+        let inside = opened c h (LoopBack 0) head in
         one t now F (closed (length c) h) Tick st m b
         (part (close_on (grows_on (put c _) (grows_on inner (grows_on (put _ _) up)))) (same_code _) has)
         (ticking _ b m _ (λ a lt.
@@ -463,7 +463,7 @@ module _ (t : StandIns) (now memory : ℕ) (small : memory ≤ 65536) (F : Code)
         (loop_runs Tracked Tracked Fit (Ends w c st rst) (At d st) _ _ (At h st) (At h st)
         (guarded_runs Tracked Tracked Fit (Ends w c st rst) (At d st) _ _ (At f st) (At h st)
         (λ vs m b k. expressions.truth_unless t now memory small F units codes CallFits run s room told below e f
-        (length c) st vs m b fits.0 (let g = grows_on (put c (Back 0)) inner in let l = g.longer in omega arith) k
+        (length c) st vs m b fits.0 (let g = grows_on (put c (LoopBack 0)) inner in let l = g.longer in omega arith) k
         (part inner (same_code _) inside))
         (λ vs m b k. going (turned_ends w c d 0 st st rst (length c) (λ m a. refl))
         (stmts_run body v d st rst vs m b fits.1 (fine_loop w c st rst fine) k
@@ -471,15 +471,15 @@ module _ (t : StandIns) (now memory : ℕ) (small : memory ≤ 65536) (F : Code)
         (λ vs m b k. given m k) (ticks_back t now F c h st (grows_on inner (grows_on
         (put f _) up)) head) vs m a holds)))
     stmt_runs (REPEAT body e) w c st rst vs m b fits fine holds has =
-        let v = loop_ways w (length c) 0 in
-        let d = c ◂ Back 0 in
-        let g = d ◂ When (length c) in
+        let v = loop_targets w (length c) 0 in
+        let d = c ◂ LoopBack 0 in
+        let g = d ◂ JumpIfTrue (length c) in
         let h = expr_code codes s e g in
         let f = stmts_code codes s body v h in
         let foot = grows_on (put d _) (expr_grows codes grow s e g) in
         let up = stmts_grow codes grow s body v h in
         let head = part (same_code c) (put _ _) has in
-        let inside = opened c f (Back 0) head in
+        let inside = opened c f (LoopBack 0) head in
         one t now F (closed (length c) f) Tick st m b
         (part (close_on (grows_on (put c _) (grows_on foot up))) (same_code _) has)
         (ticking _ b m _ (λ a lt.
@@ -487,7 +487,7 @@ module _ (t : StandIns) (now memory : ℕ) (small : memory ≤ 65536) (F : Code)
         (loop_runs Tracked Tracked Fit (Ends w c st rst) (At d st) _ _ (At f st) (At f st)
         (until_runs Tracked Tracked Fit (Ends w c st rst) (At d st) _ _ (At h st) (At f st)
         (λ vs m b k. expressions.truth_when t now memory small F units codes CallFits run s room told below e d
-        (length c) st vs m b fits.1 (let p = put c (Back 0) in p.longer) k (part (same_code d) up inside))
+        (length c) st vs m b fits.1 (let p = put c (LoopBack 0) in p.longer) k (part (same_code d) up inside))
         (λ vs m b k. going (foot_ends w c h st rst)
         (stmts_run body v h st rst vs m b fits.0 (fine_on foot (fine_loop w c st rst fine)) k
         (part foot (same_code _) inside))))
@@ -498,14 +498,14 @@ module _ (t : StandIns) (now memory : ℕ) (small : memory ≤ 65536) (F : Code)
         one t now F c (Jump w.exit) st m a (part (same_code c) (put _ _) has)
         (by_eq (down t w.exit (length c) m (G t now F w.exit st m a) fine.exit) (given m holds))))
     stmt_runs RETURN w c st rst vs m b fits fine holds has =
-        one t now F (c ◂ Jump w.back ◂ Leave w.held) Tick st m b (part (put_on _ (put c _)) (same_code _) has)
+        one t now F (c ◂ Jump w.back ◂ Pop w.held) Tick st m b (part (put_on _ (put c _)) (same_code _) has)
         (ticking _ b m _ (λ a lt.
-        one t now F (c ◂ Jump w.back) (Leave w.held) st m a (part (put c _) (put _ _) has)
+        one t now F (c ◂ Jump w.back) (Pop w.held) st m a (part (put c _) (put _ _) has)
         (one t now F c (Jump w.back) (drop w.held st) m a (part (same_code c) (put_on _ (put _ _)) has)
         (by_eq (down t w.back (length c) m (G t now F w.back (drop w.held st) m a) fine.back
         ∙ ap (λ r. G t now F w.back r m a) fine.held) (given m holds)))))
 
-    pub stmts_run : (xs : SlotStmts) (w : Ways) (c : Code) (st rst : List Datum) (vs m : Tracked) (b : ℕ)
+    pub stmts_run : (xs : SlotStmts) (w : JumpTargets) (c : Code) (st rst : List Datum) (vs m : Tracked) (b : ℕ)
         → StmtsFit CallFits s xs → Fine w c st rst → Holds memory s told below vs m
         → Has F (length c) (stmts_code codes s xs w c)
         → Gives (marked_exec_all scope xs vs b) b Ended (Ends w c st rst) (At (stmts_code codes s xs w c) st m b)
@@ -518,7 +518,7 @@ module _ (t : StandIns) (now memory : ℕ) (small : memory ≤ 65536) (F : Code)
         behind_runs w c d st rst (marked_exec_all scope xs) e n a good (λ us h.
         stmts_run xs w c st rst us n a fits.1 fine h (part (same_code c) (stmt_grows codes grow s x w d) has)))
 
-    arms_run : (arms : SlotArms) (w : Ways) (c d : Code) (st rst : List Datum) (otherwise : Tracked → Run MarkedEnd)
+    arms_run : (arms : SlotArms) (w : JumpTargets) (c d : Code) (st rst : List Datum) (otherwise : Tracked → Run MarkedEnd)
         → Grows c d → ((vs m : Tracked) (b : ℕ) → Holds memory s told below vs m
         → Gives (otherwise vs b) b Ended (Ends w c st rst) (At d st m b)) → (vs m : Tracked) (b : ℕ)
         → ArmsFit CallFits s arms → Fine w c st rst → Holds memory s told below vs m
@@ -532,7 +532,7 @@ module _ (t : StandIns) (now memory : ℕ) (small : memory ≤ 65536) (F : Code)
         let f = stmts_code codes s body w j in
         let g = grows_on low (arms_grow codes grow s arms w (length c) d) in
         let mid = stmts_grow codes grow s body w j in
-        let up = grows_on (put f _) (expr_grows codes grow s e (f ◂ Unless (length r))) in
+        let up = grows_on (put f _) (expr_grows codes grow s e (f ◂ JumpIfFalse (length r))) in
         bind _ (expressions.truth_unless t now memory small F units codes CallFits run s room told below e f
         (length r) st vs m b fits.0 (let h = grows_on (put r (Jump (length c))) mid in h.longer) holds
         (part (grows_on g (grows_on (put r _) mid)) (same_code _) has)) (λ go n a good le.
@@ -542,7 +542,7 @@ module _ (t : StandIns) (now memory : ℕ) (small : memory ≤ 65536) (F : Code)
         (arms_run arms w c d st rst otherwise low last go.1 n a fits.2 fine good
         (part (same_code c) (grows_on (put r _) (grows_on mid up)) has)))
 
-    case_runs : (arms : SlotCaseArms) (w : Ways) (c d : Code) (st rst : List Datum)
+    case_runs : (arms : SlotCaseArms) (w : JumpTargets) (c d : Code) (st rst : List Datum)
         (otherwise : Tracked → Run MarkedEnd) (v : Datum) → Grows c d
         → ((vs m : Tracked) (b : ℕ) → Holds memory s told below vs m
         → Gives (otherwise vs b) b Ended (Ends w c st rst) (At d (v ∷ st) m b)) → (vs m : Tracked) (b : ℕ)
@@ -555,17 +555,17 @@ module _ (t : StandIns) (now memory : ℕ) (small : memory ≤ 65536) (F : Code)
         let r = case_code codes s arms w (length c) d in
         let j = r ◂ Jump (length c) in
         let f = stmts_code codes s body w j in
-        let e = f ◂ Leave 1 in
+        let e = f ◂ Pop 1 in
         let g = e ◂ Jump (length r) in
         let under = grows_on low (case_grows codes grow s arms w (length c) d) in
         let mid = stmts_grow codes grow s body w j in
-        let inner = put_on (Leave 1) (grows_on (put r (Jump (length c))) mid) in
+        let inner = put_on (Pop 1) (grows_on (put r (Jump (length c))) mid) in
         let top = labels_grow labels (length e) g in
         by_eq (labels_run labels (length e) g st v m b (let p = put e (Jump (length r)) in p.longer)
         (part (grows_on under (put_on _ inner)) (same_code _) has))
         (either (list_any (label_holds v.number) labels) (marked_exec_all scope body vs)
         (marked_exec_case scope v.number arms otherwise vs) b
-        (one t now F f (Leave 1) (v ∷ st) m b (part (grows_on under (grows_on (put r _) mid)) (grows_on
+        (one t now F f (Pop 1) (v ∷ st) m b (part (grows_on under (grows_on (put r _) mid)) (grows_on
         (put _ _) top) has)
         (going (ends_jump w c (length c) r st rst (part under (grows_on mid (grows_on (put_on _
         (put f _)) top)) has) refl

@@ -1,23 +1,23 @@
--- Single instructions on code that stands in the whole code, over the values of the slots and their marks.
+-- Single instructions of code that is part of the whole code, over the values of the slots and their marks.
 use Rattle.std.proofs.Common.{◌≡◌, ℕ, zero, suc, ◌+◌, ◌≤◌, ◌<◌, Bool, true, false, if◌then◌else◌, List, [], ◌∷◌, ◌++◌}
 use Rattle.std.proofs.Common.{length, Option, Some, None, Result, Ok, Err, refl, ap, ◌∙◌, arith}
 use Rattle.std.specs.Prelude.{slice_get, slice_set}
 use Rattle.std.proofs.lemmas.Bool.{le-leb}
 use Rattle.st_types.specs.Values.{Datum}
 use Rattle.st_types.specs.declared.fault.Fault.{Fault}
-use Rattle.st_meaning.specs.Failures.{Failure, valueless, ill_typed, StandIns, or_failure}
+use Rattle.st_meaning.specs.Failures.{Failure, valueless, ill_typed, StuckFaults, or_failure}
 use Rattle.st_meaning.specs.Stores.{may_replace}
 use Rattle.st_meaning.specs.Ticks.{Run, follow, give, attempt}
 use Rattle.st_meaning.specs.Evaluation.{known}
 use Rattle.slot_trees.specs.SlotExecution.{Slots, stored_over, stored_at}
 use Rattle.machine_code.specs.declared.instr.Instr.{Instr}
-use Rattle.machine_code.specs.declared.instr.Instr.TheVariants.{Back}
-use Rattle.machine_code.specs.Tracking.{Tracked, tracking, looked, replaced, written}
-use Rattle.machine_code.specs.Machine.{Ending, failed, Next, on_result, on_tops, on_tick, leads, on_look, on_put}
+use Rattle.machine_code.specs.declared.instr.Instr.TheVariants.{LoopBack}
+use Rattle.machine_code.specs.Tracking.{Tracked, tracking, looked, replaced, assigned_slot}
+use Rattle.machine_code.specs.Machine.{Ending, failed, Next, on_result, on_tops, on_tick, jump_down, on_look, on_put}
 use Rattle.machine_code.specs.Machine.{on_variable, act, runs}
 use Rattle.machine_code.proofs.Fixpoint.{at_instr}
 use Rattle.machine_code.specs.Growing.{Code, ◌◂◌, closed}
-use Rattle.machine_code.specs.Sites.{Site, end_of}
+use Rattle.machine_code.specs.UnitFrames.{UnitFrame, end_of}
 use Rattle.machine_code.specs.MarkedEvaluation.{marked_look, marked_load}
 use Rattle.machine_code.specs.MarkedExecution.{marked_put}
 use Rattle.machine_code.specs.MarkedRuns.{unmarked_values}
@@ -30,8 +30,8 @@ abbrev pub stacked : List Datum → List Datum → List Datum
 stacked [] st = st
 stacked (x ∷ xs) st = stacked xs (x ∷ st)
 
-module _ (t : StandIns) where
-  pub down : {M : Type 0} (to most : ℕ) (m : M) (e : Ending M) → to ≤ most → leads t to most m e ≡ e
+module _ (t : StuckFaults) where
+  pub down : {M : Type 0} (to most : ℕ) (m : M) (e : Ending M) → to ≤ most → jump_down t to most m e ≡ e
   down to most m e le = ap (λ go. if go then e else failed m t.wrong) (le-leb to most le)
 
   pub under_tick : {M : Type 0} (b : ℕ) (m : M) (f g : ℕ → Ending M) → ((a : ℕ) → f a ≡ g a)
@@ -59,7 +59,7 @@ module _ (t : StandIns) where
       ap (λ j. on_tops t j [] (stacked xs st) m go) k ∙ tops_more xs 0 [] st m go
       ∙ ap (λ ys. go ys st) (with_nothing xs)
 
-module _ (t : StandIns) (now : ℕ) (F : Code) where
+module _ (t : StuckFaults) (now : ℕ) (F : Code) where
   -- the run from a place on
   abbrev pub G : Next Tracked
   G = runs tracking t now F
@@ -79,17 +79,17 @@ module _ (t : StandIns) (now : ℕ) (F : Code) where
   one c i st m b has h = by_eq (stepped c i st m b has) h
 
   -- the jump back of a loop takes a tick, and leads to the loop's first instruction
-  pub ticks_back : (c d : Code) (st : List Datum) → Grows (c ◂ Back 0) d → Has F (length c) (closed (length c) d)
-      → (m : Tracked) (b : ℕ) → G (length (c ◂ Back 0)) st m b ≡ on_tick b m (λ a. G (length d) st m a)
+  pub ticks_back : (c d : Code) (st : List Datum) → Grows (c ◂ LoopBack 0) d → Has F (length c) (closed (length c) d)
+      → (m : Tracked) (b : ℕ) → G (length (c ◂ LoopBack 0)) st m b ≡ on_tick b m (λ a. G (length d) st m a)
   ticks_back c d st g has m b =
       let within : length d ≤ length F =
       (let w = has.within in let l = length_closed (length c) d in omega arith) in
-      ap (λ n. G n st m b) (place_put c (Back 0)) ∙ at_instr tracking t now F (length c) st m b
-      ∙ ap (λ o. act tracking t now (length F) o G (length c) st m b) (at_back c d (Back 0) g has)
+      ap (λ n. G n st m b) (place_put c (LoopBack 0)) ∙ at_instr tracking t now F (length c) st m b
+      ∙ ap (λ o. act tracking t now (length F) o G (length c) st m b) (at_back c d (LoopBack 0) g has)
       ∙ under_tick t b m _ _ (λ a. down t (length d) (length F) m (G (length d) st m a) within)
 
 -- Slots of a unit's values, read and assigned.
-module _ (t : StandIns) (memory : ℕ) (s : Site) (room : end_of s ≤ memory) (told : ℕ) (below : Tracked) where
+module _ (t : StuckFaults) (memory : ℕ) (s : UnitFrame) (room : end_of s ≤ memory) (told : ℕ) (below : Tracked) where
   module _ {B : Type 0} (Good : B → Tracked → Type 0) (on : B → Tracked → ℕ → Ending Tracked) where
     stored_so : (go : Bool) (us m n : Tracked) (f : Tracked → Run B) (b : ℕ) (next : Tracked → Ending Tracked)
         → Gives (f us b) b Good on (next n)
@@ -99,11 +99,11 @@ module _ (t : StandIns) (memory : ℕ) (s : Site) (room : end_of s ≤ memory) (
     stored_so false us m n f b next h = (m, refl)
 
     stored_by : (o : Option Datum) (vs m : Tracked) (k : ℕ) (v : Datum) (f : Tracked → Run B) (b : ℕ)
-        (next : Tracked → Ending Tracked) → Gives (f (written vs k v) b) b Good on (next (written m (s.start + k) v))
+        (next : Tracked → Ending Tracked) → Gives (f (assigned_slot vs k v) b) b Good on (next (assigned_slot m (s.start + k) v))
         → GivesBy (follow (attempt t (or_failure ill_typed (replaced vs k v o)) b) f) b Good on
         (on_result t (or_failure ill_typed (replaced m (s.start + k) v o)) m next)
     stored_by (Some old) vs m k v f b next h =
-        stored_so (may_replace old v) (written vs k v) m (written m (s.start + k) v) f b next h
+        stored_so (may_replace old v) (assigned_slot vs k v) m (assigned_slot m (s.start + k) v) f b next h
     stored_by None vs m k v f b next h = (m, refl)
 
     -- a value is assigned to a slot
@@ -148,14 +148,14 @@ module _ (t : StandIns) (memory : ℕ) (s : Site) (room : end_of s ≤ memory) (
     own_so false us m n f b next h = (m, refl)
 
     own_by : (o : Option Datum) (vs : Slots) (m : Tracked) (k : ℕ) (v : Datum) (f : Slots → Run B) (b : ℕ)
-        (next : Tracked → Ending Tracked) → Gives (f (slice_set vs k v) b) b Good on (next (written m (s.start + k) v))
+        (next : Tracked → Ending Tracked) → Gives (f (slice_set vs k v) b) b Good on (next (assigned_slot m (s.start + k) v))
         → GivesBy (follow (attempt t (stored_over o vs k v) b) f) b Good on
         (on_result t (or_failure ill_typed (replaced m (s.start + k) v o)) m next)
     own_by (Some old) vs m k v f b next h =
-        own_so (may_replace old v) (slice_set vs k v) m (written m (s.start + k) v) f b next h
+        own_so (may_replace old v) (slice_set vs k v) m (assigned_slot m (s.start + k) v) f b next h
     own_by None vs m k v f b next h = (m, refl)
 
-    -- a value is assigned to a slot of a function, of whose marks nothing is told
+    -- a value is assigned to a slot of a function, whose marks are unknown
     pub storing_own : (vs : Slots) (m : Tracked) (k : ℕ) (v : Datum) (f : Slots → Run B) (b : ℕ)
         (next : Tracked → Ending Tracked) → Holds memory s told below (unmarked_values vs) m → k < s.size
         → ((us : Slots) (n : Tracked) → Holds memory s told below (unmarked_values us) n

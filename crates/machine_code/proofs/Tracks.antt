@@ -5,14 +5,14 @@ use Rattle.std.specs.Prelude.{slice_get, slice_set}
 use Rattle.std.proofs.lemmas.Bool.Decides.{nat_tests}
 use Rattle.st_types.specs.Values.{Datum}
 use Rattle.st_types.specs.declared.fault.Fault.{Fault}
-use Rattle.st_meaning.specs.Failures.{Failure, ill_typed, StandIns, fault_for, or_failure}
+use Rattle.st_meaning.specs.Failures.{Failure, ill_typed, StuckFaults, fault_for, or_failure}
 use Rattle.st_meaning.specs.Stores.{may_replace}
 use Rattle.machine_code.specs.declared.instr.Instr.{Instr}
 use Rattle.machine_code.specs.Memories.{plain}
 use Rattle.machine_code.specs.Memories as plainly
 use Rattle.machine_code.specs.Machine.{Ending, finished, failed, on_result, runs, most}
 use Rattle.machine_code.specs.Simulation.{Simulation}
-use Rattle.machine_code.specs.Tracking.{Tracked, tracked, tracking, with_mark, seen, assigned, looked, written}
+use Rattle.machine_code.specs.Tracking.{Tracked, tracked, tracking, with_mark, seen, assigned, looked, assigned_slot}
 use Rattle.machine_code.specs.Tracking.{replaced}
 use Rattle.machine_code.specs.Tracking.{overwritten, is_read_in, is_assigned_in, read_by, assigned_by, memory_of}
 use Rattle.machine_code.specs.Tracking.{unmarked}
@@ -26,7 +26,7 @@ use Rattle.machine_code.proofs.Simulating.{exec_sim}
 record Own (m : Tracked) (vs : List Datum) (e : Ending Tracked) (d : Ending (List Datum)) : Type 0 where
   by : vs ≡ m.values → d ≡ unmarked e
 
-module _ (t : StandIns) where
+module _ (t : StuckFaults) where
   look_own : (e : Failure) (m : Tracked) (vs : List Datum) (k : ℕ) (f : Datum → Tracked → Ending Tracked)
       (g : Datum → List Datum → Ending (List Datum))
       → ((v : Datum) (n : Tracked) (us : List Datum) → Own n us (f v n) (g v us)) → vs ≡ m.values → (o : Option Datum)
@@ -39,8 +39,8 @@ module _ (t : StandIns) where
       (g : List Datum → Ending (List Datum)) → ((n : Tracked) (us : List Datum) → Own n us (f n) (g us))
       → vs ≡ m.values → (go : Bool)
       → on_result t (or_failure ill_typed (if go then Some (slice_set vs k v) else None)) vs g
-      ≡ unmarked (on_result t (or_failure ill_typed (if go then Some (written m k v) else None)) m f)
-  write_own m vs k v f g h is true = (h (written m k v) (slice_set vs k v)).by (ap (λ x. slice_set x k v) is)
+      ≡ unmarked (on_result t (or_failure ill_typed (if go then Some (assigned_slot m k v) else None)) m f)
+  write_own m vs k v f g h is true = (h (assigned_slot m k v) (slice_set vs k v)).by (ap (λ x. slice_set x k v) is)
   write_own m vs k v f g h is false = ap (λ x. failed x t.wrong) is
 
   put_own : (m : Tracked) (vs : List Datum) (k : ℕ) (v : Datum) (f : Tracked → Ending Tracked)
@@ -77,7 +77,7 @@ module _ (t : StandIns) where
     };
   }
 
-pub marked_runs_alike : (t : StandIns) (now : ℕ) (code : List Instr) (p : ℕ) (m : Tracked) (b : ℕ)
+pub marked_runs_alike : (t : StuckFaults) (now : ℕ) (code : List Instr) (p : ℕ) (m : Tracked) (b : ℕ)
     → runs plain t now code p [] m.values b ≡ unmarked (runs tracking t now code p [] m b)
 unfolding runs
 marked_runs_alike t now code p m b =
@@ -105,7 +105,7 @@ same_place j k e = grind (arith, nat_tests)
 other_place : (j k : ℕ) → (k == j) ≡ false → j ≡ k → ⊥
 other_place j k e is = grind (arith, nat_tests)
 
-module _ (t : StandIns) (vs us : List Datum) where
+module _ (t : StuckFaults) (vs us : List Datum) where
   failing : (m : Tracked) (ws : List Datum) (f : Fault) → Good vs us m ws (failed m f) (failed ws f)
   failing m ws f = record { grown = λ k h. h; alike = λ tie ag. refl }
 
@@ -153,7 +153,7 @@ module _ (t : StandIns) (vs us : List Datum) where
     rest = λ j h. tie.rest j (sym (look_assigns m k j) ∙ h);
   }
 
-  -- what was looked up is the same in both
+  -- a value that was looked up is the same in both
   value_same : (m : Tracked) (ws : List Datum) (k : ℕ) (v w : Datum) → slice_get m.values k ≡ Some v
       → slice_get ws k ≡ Some w → Tie vs us m ws
       → (is_read_in (after_look m k) k ≡ true → slice_get vs k ≡ slice_get us k) → v ≡ w
@@ -195,17 +195,17 @@ module _ (t : StandIns) (vs us : List Datum) where
       }
 
   -- a slot is assigned in both
-  write_reads : (m : Tracked) (k : ℕ) (v : Datum) (j : ℕ) → is_read_in (written m k v) j ≡ is_read_in m j
+  write_reads : (m : Tracked) (k : ℕ) (v : Datum) (j : ℕ) → is_read_in (assigned_slot m k v) j ≡ is_read_in m j
   write_reads m k v j = by_test (k == j) refl
     where
-      by_test : (b : Bool) → (k == j) ≡ b → is_read_in (written m k v) j ≡ is_read_in m j
+      by_test : (b : Bool) → (k == j) ≡ b → is_read_in (assigned_slot m k v) j ≡ is_read_in m j
       by_test true e =
-          subst (λ i. is_read_in (written m k v) i ≡ is_read_in m i) (same_place j k e)
+          subst (λ i. is_read_in (assigned_slot m k v) i ≡ is_read_in m i) (same_place j k e)
           (ap read_by (mark_here assigned m.marks k) ∙ assigned_reads (slice_get m.marks k))
       by_test false e = ap read_by (mark_elsewhere assigned m.marks k j (other_place j k e))
 
   write_tie : (m : Tracked) (ws : List Datum) (k : ℕ) (v old w : Datum) → slice_get m.values k ≡ Some old
-      → slice_get ws k ≡ Some w → Tie vs us m ws → Tie vs us (written m k v) (slice_set ws k v)
+      → slice_get ws k ≡ Some w → Tie vs us m ws → Tie vs us (assigned_slot m k v) (slice_set ws k v)
   write_tie m ws k v old w at there tie = record {
     long = mark_long assigned m.marks k ∙ tie.long ∙ sym (set_long m.values k v);
     kinds = λ j. kind_at j (k == j) refl;
@@ -229,10 +229,10 @@ module _ (t : StandIns) (vs us : List Datum) where
           rw (set_elsewhere m.values j k v (other_place j k e), set_elsewhere ws j k v (other_place j k e))
           (tie.kinds j)
 
-      before : (j : ℕ) → (k == j) ≡ false → is_assigned_in (written m k v) j ≡ is_assigned_in m j
+      before : (j : ℕ) → (k == j) ≡ false → is_assigned_in (assigned_slot m k v) j ≡ is_assigned_in m j
       before j e = ap assigned_by (mark_elsewhere assigned m.marks k j (other_place j k e))
 
-      same_at : (j : ℕ) (b : Bool) → (k == j) ≡ b → is_assigned_in (written m k v) j ≡ true
+      same_at : (j : ℕ) (b : Bool) → (k == j) ≡ b → is_assigned_in (assigned_slot m k v) j ≡ true
           → slice_get (slice_set m.values k v) j ≡ slice_get (slice_set ws k v) j
       same_at j true e h =
           subst (λ i. slice_get (slice_set m.values k v) i ≡ slice_get (slice_set ws k v) i) (same_place j k e) both
@@ -240,15 +240,15 @@ module _ (t : StandIns) (vs us : List Datum) where
           set_elsewhere m.values j k v (other_place j k e) ∙ tie.same j (sym (before j e) ∙ h)
           ∙ sym (set_elsewhere ws j k v (other_place j k e))
 
-      assigned_here : is_assigned_in (written m k v) k ≡ true
+      assigned_here : is_assigned_in (assigned_slot m k v) k ≡ true
       assigned_here =
           let mark = within_there m.marks k (let l = tie.long in let i = in_values in omega arith) in
           ap assigned_by (mark_here assigned m.marks k) ∙ assigned_assigns (slice_get m.marks k) mark.0 mark.1
 
-      rest_at : (j : ℕ) (b : Bool) → (k == j) ≡ b → is_assigned_in (written m k v) j ≡ false
+      rest_at : (j : ℕ) (b : Bool) → (k == j) ≡ b → is_assigned_in (assigned_slot m k v) j ≡ false
           → (slice_get (slice_set ws k v) j ≡ slice_get us j) × (slice_get (slice_set m.values k v) j ≡ slice_get vs j)
       rest_at j true e h =
-          absurd (let f : true ≡ false = sym (subst (λ i. is_assigned_in (written m k v) i ≡ true) (same_place j k e)
+          absurd (let f : true ≡ false = sym (subst (λ i. is_assigned_in (assigned_slot m k v) i ≡ true) (same_place j k e)
           assigned_here) ∙ h in cc)
       rest_at j false e h =
           let r = tie.rest j (sym (before j e) ∙ h) in
@@ -257,17 +257,17 @@ module _ (t : StandIns) (vs us : List Datum) where
   writing_so : (m : Tracked) (ws : List Datum) (k : ℕ) (v old w : Datum) (f : Tracked → Ending Tracked)
       (g : List Datum → Ending (List Datum)) → ((n : Tracked) (xs : List Datum) → Good vs us n xs (f n) (g xs))
       → slice_get m.values k ≡ Some old → slice_get ws k ≡ Some w → (a b : Bool) → (Tie vs us m ws → a ≡ b)
-      → Good vs us m ws (on_result t (or_failure ill_typed (if a then Some (written m k v) else None)) m f)
+      → Good vs us m ws (on_result t (or_failure ill_typed (if a then Some (assigned_slot m k v) else None)) m f)
       (on_result t (or_failure ill_typed (if b then Some (slice_set ws k v) else None)) ws g)
   writing_so m ws k v old w f g h at there true true same =
-      let good = h (written m k v) (slice_set ws k v) in
+      let good = h (assigned_slot m k v) (slice_set ws k v) in
       record {
         grown = λ j r. good.grown j (write_reads m k v j ∙ r);
         alike = λ tie ag. good.alike (write_tie m ws k v old w at there tie) ag;
       }
   writing_so m ws k v old w f g h at there false false same = failing m ws t.wrong
   writing_so m ws k v old w f g h at there true false same =
-      let good = h (written m k v) (slice_set ws k v) in
+      let good = h (assigned_slot m k v) (slice_set ws k v) in
       record {
         grown = λ j r. good.grown j (write_reads m k v j ∙ r);
         alike = λ tie ag. absurd (let e = same tie in cc);
@@ -279,9 +279,9 @@ module _ (t : StandIns) (vs us : List Datum) where
   one_alone : (m : Tracked) (ws : List Datum) (k : ℕ) (v old : Datum) (f : Tracked → Ending Tracked) (go : Bool)
       (d : Ending (List Datum)) (g : List Datum → Ending (List Datum))
       → ((n : Tracked) (xs : List Datum) → Good vs us n xs (f n) (g xs)) → (Tie vs us m ws → ⊥)
-      → Good vs us m ws (on_result t (or_failure ill_typed (if go then Some (written m k v) else None)) m f) d
+      → Good vs us m ws (on_result t (or_failure ill_typed (if go then Some (assigned_slot m k v) else None)) m f) d
   one_alone m ws k v old f true d g h never = record {
-    grown = λ j r. (h (written m k v) ws).grown j (write_reads m k v j ∙ r);
+    grown = λ j r. (h (assigned_slot m k v) ws).grown j (write_reads m k v j ∙ r);
     alike = λ tie ag. absurd (never tie);
   }
   one_alone m ws k v old f false d g h never = unlike m ws t.wrong d never
@@ -328,7 +328,7 @@ module _ (t : StandIns) (vs us : List Datum) where
   }
 
 -- The run over other values of the same types that agree where it read ends alike.
-pub marked_reads_suffice : (t : StandIns) (now : ℕ) (code : List Instr) (p : ℕ) (m : Tracked) (us : List Datum) (b : ℕ)
+pub marked_reads_suffice : (t : StuckFaults) (now : ℕ) (code : List Instr) (p : ℕ) (m : Tracked) (us : List Datum) (b : ℕ)
     → length m.marks ≡ length m.values → ((k : ℕ) → is_assigned_in m k ≡ false)
     → ((k : ℕ) → AreOfKind (slice_get m.values k) (slice_get us k))
     → ((k : ℕ) → is_read_in (memory_of (runs tracking t now code p [] m b)) k ≡ true

@@ -3,20 +3,20 @@ use Rattle.std.proofs.Common.{◌≡◌, ℕ, zero, suc, ◌+◌, ◌≤◌, Lis
 use Rattle.std.proofs.Common.{refl, sym, ap, ◌∙◌, arith}
 use Rattle.std.specs.Prelude.{slice_get}
 use Rattle.st_types.specs.Values.{Datum}
-use Rattle.st_meaning.specs.Failures.{StandIns, ill_typed, or_failure}
+use Rattle.st_meaning.specs.Failures.{StuckFaults, ill_typed, or_failure}
 use Rattle.st_meaning.specs.StandardBlocks.{StandardBlock, BlockMember, members_of}
 use Rattle.st_meaning.specs.StandardBlocks as blocks
 use Rattle.st_meaning.specs.Ticks.{Run, follow, attempt}
 use Rattle.symbols.specs.Standard.{block_view}
 use Rattle.slot_trees.specs.SlotTrees.{BlockCode, own_block, standard_block, SlotStmts, SlotFunction, SlotLibrary}
 use Rattle.slot_trees.specs.SlotRuns.{state_of}
-use Rattle.machine_code.specs.declared.instr.Instr.TheVariants.{Push, Fetch, Reset, Step, Turn}
-use Rattle.machine_code.specs.Tracking.{Tracked, tracking, overwritten, written}
+use Rattle.machine_code.specs.declared.instr.Instr.TheVariants.{Push, LoadRaw, StoreRaw, Step, Reverse}
+use Rattle.machine_code.specs.Tracking.{Tracked, tracking, overwritten, assigned_slot}
 use Rattle.machine_code.specs.Machine.{Ending, on_result, on_members, on_stored}
 use Rattle.machine_code.proofs.MarkLemmas.{set_long, within_there}
 use Rattle.machine_code.specs.Growing.{Code, ◌◂◌}
-use Rattle.machine_code.specs.Sites.{Site, end_of, site_from}
-use Rattle.machine_code.specs.Codes.{CodeUnits, block_code, body_ways, stores_code, stmts_code}
+use Rattle.machine_code.specs.UnitFrames.{UnitFrame, end_of, call_frame}
+use Rattle.machine_code.specs.Codes.{CodeUnits, block_code, body_targets, stores_code, stmts_code}
 use Rattle.machine_code.specs.Calls.{resets_code, called_code, body_code, instance_code, units_code}
 use Rattle.machine_code.specs.Fitting.{UnitCall, IfFunctionFits, IfBodyFits}
 use Rattle.machine_code.specs.Fitting.{InstanceFits, StmtsFit, CallFitsWithin}
@@ -34,7 +34,7 @@ use Rattle.machine_code.proofs.UnitCalls.{UnitsRun}
 use Rattle.machine_code.proofs.Arguments.{begun_runs}
 use Rattle.machine_code.proofs.Statements.{fine_body, ends_call, stmts_run}
 
-block_is : (b : StandardBlock) → block_view (block_code b) ≡ b
+pub block_is : (b : StandardBlock) → block_view (block_code b) ≡ b
 block_is blocks.SR = refl
 block_is blocks.RS = refl
 block_is blocks.R_TRIG = refl
@@ -46,13 +46,13 @@ block_is blocks.TON = refl
 block_is blocks.TOF = refl
 block_is blocks.TP = refl
 
-module _ (t : StandIns) (now memory : ℕ) (small : memory ≤ 65536) (F : Code) where
+module _ (t : StuckFaults) (now memory : ℕ) (small : memory ≤ 65536) (F : Code) where
   abbrev At : Code → List Datum → Tracked → ℕ → Ending Tracked
   At c st m a = G t now F (length c) st m a
 
   reset_here : (k : ℕ) (v : Datum) (m : Tracked) (o : Option Datum) (next : Tracked → Ending Tracked)
       → (w : Datum) × (o ≡ Some w)
-      → on_result t (or_failure ill_typed (overwritten m k v o)) m next ≡ next (written m k v)
+      → on_result t (or_failure ill_typed (overwritten m k v o)) m next ≡ next (assigned_slot m k v)
   reset_here k v m o next there = rw there.1 refl
 
   -- a function's variables are put
@@ -63,24 +63,24 @@ module _ (t : StandIns) (now memory : ℕ) (small : memory ≤ 65536) (F : Code)
   resets_run k (v ∷ vs) c st m b le has =
       let d = resets_code (suc k) vs c in
       let g = resets_grow (suc k) vs c in
-      stepped t now F (d ◂ Reset k) (Push v) st m b (part (put_on _ g) (same_code _) has)
-      ∙ stepped t now F d (Reset k) (v ∷ st) m b (part g (put _ _) has)
+      stepped t now F (d ◂ StoreRaw k) (Push v) st m b (part (put_on _ g) (same_code _) has)
+      ∙ stepped t now F d (StoreRaw k) (v ∷ st) m b (part g (put _ _) has)
       ∙ reset_here k v m (slice_get m.values k) (λ n. At d st n b) (within_there m.values k (omega arith))
-      ∙ resets_run (suc k) vs c st (written m k v) b (let l = set_long m.values k v in omega arith)
+      ∙ resets_run (suc k) vs c st (assigned_slot m k v) b (let l = set_long m.values k v in omega arith)
       (part (same_code c) (put_on _ (put d _)) has)
 
   module _ (units : MarkedUnits) (codes : CodeUnits) (CallFits : UnitCall → Type 0)
       (run : UnitsRun t now memory F units codes CallFits) where
     -- a body in the place of its call
-    body_runs : (body : SlotStmts) (s : Site) (told : ℕ) (below vs : Tracked) (c : Code) (st : List Datum)
+    body_runs : (body : SlotStmts) (s : UnitFrame) (told : ℕ) (below vs : Tracked) (c : Code) (st : List Datum)
         (m : Tracked) (b : ℕ) → StmtsFit CallFits s body → end_of s ≤ memory → Holds memory s told below vs m
-        → Has F (length c) (stmts_code codes s body (body_ways (length c)) c)
-        → Gives (marked_exec_all (record { units = units; base = s.base; stand_ins = t }) body vs b) b
+        → Has F (length c) (stmts_code codes s body (body_targets (length c)) c)
+        → Gives (marked_exec_all (record { units = units; base = s.base; stuck_faults = t }) body vs b) b
         (λ e n. Holds memory s told below (state_of e) n) (λ e n a. At c st n a)
-        (At (stmts_code codes s body (body_ways (length c)) c) st m b)
+        (At (stmts_code codes s body (body_targets (length c)) c) st m b)
     body_runs body s told below vs c st m b fits room holds has =
         going (λ e n a. ends_call t now memory small F units codes CallFits run s room told below c st e n a)
-        (stmts_run t now memory small F units codes CallFits run s room told below body (body_ways (length c)) c st st
+        (stmts_run t now memory small F units codes CallFits run s room told below body (body_targets (length c)) c st st
         vs m b fits (fine_body c st) holds has)
 
     called_runs : (o : Option SlotFunction) (start : ℕ) (xs : List Datum) (c : Code) (st : List Datum) (m : Tracked)
@@ -91,17 +91,17 @@ module _ (t : StandIns) (now memory : ℕ) (small : memory ≤ 65536) (F : Code)
         (stacked xs st) m b)
     called_runs None start xs c st m b fits long has = absurd fits
     called_runs (Some f) start xs c st m b fits long has =
-        let s = site_from start (length f.fresh) in
-        let d = c ◂ Fetch (start + f.result) in
-        let body = stmts_code codes s f.body (body_ways (length d)) d in
+        let s = call_frame start (length f.fresh) in
+        let d = c ◂ LoadRaw (start + f.result) in
+        let body = stmts_code codes s f.body (body_targets (length d)) d in
         let stores = stores_code start f.inputs body in
         let resets = resets_code start f.fresh stores in
-        let g1 = stmts_grow codes run.grow s f.body (body_ways (length d)) d in
+        let g1 = stmts_grow codes run.grow s f.body (body_targets (length d)) d in
         let g2 = stores_grow start f.inputs body in
         let g3 = resets_grow start f.fresh stores in
-        let top = put_on (Turn (length f.inputs)) (same_code resets) in
+        let top = put_on (Reverse (length f.inputs)) (same_code resets) in
         let fresh = holds_reset memory start f.fresh m long fits.room in
-        one t now F resets (Turn (length f.inputs)) (stacked xs st) m b
+        one t now F resets (Reverse (length f.inputs)) (stacked xs st) m b
         (part (grows_on (put c _) (grows_on g1 (grows_on g2 g3))) (same_code _) has)
         (by_eq (tops t xs (length f.inputs) st m _ fits.arguments
         ∙ resets_run start f.fresh stores (xs ++ st) m b (let r = fits.room in omega arith)
@@ -111,12 +111,12 @@ module _ (t : StandIns) (now memory : ℕ) (small : memory ≤ 65536) (F : Code)
         bind _ (body_runs f.body s 0 m (unmarked_values vs) d st n a fits.body fits.room h
         (part (put c _) (grows_on g2 (grows_on g3 top)) has))
         (λ e k i h le.
-        one t now F c (Fetch (start + f.result)) st k i
+        one t now F c (LoadRaw (start + f.result)) st k i
         (part (same_code c) (grows_on g1 (grows_on g2 (grows_on g3 top))) has)
         (looking_last t memory s fits.room 0 m (λ v j. Frame memory start m j) _ (state_of e) k f.result i h
         fits.result (λ v us j q. frame_of memory s 0 m us j q))))))
 
-    block_runs : (o : Option SlotStmts) (s : Site) (told : ℕ) (below vs : Tracked) (c : Code) (st : List Datum)
+    block_runs : (o : Option SlotStmts) (s : UnitFrame) (told : ℕ) (below vs : Tracked) (c : Code) (st : List Datum)
         (m : Tracked) (b : ℕ) → IfBodyFits CallFits o s → end_of s ≤ memory → Holds memory s told below vs m
         → Has F (length c) (body_code codes o s c)
         → Gives (follow (attempt t (or_failure ill_typed o) b) (λ body. marked_block t units body s.base vs)) b
@@ -126,7 +126,7 @@ module _ (t : StandIns) (now memory : ℕ) (small : memory ≤ 65536) (F : Code)
         bind _ (body_runs body s told below vs c st m b fits room holds has) (λ e n a h le. given n h)
 
   -- a standard block: its members are looked at, and stored once they stepped
-  module _ (s : Site) (room : end_of s ≤ memory) (told : ℕ) (below : Tracked) where
+  module _ (s : UnitFrame) (room : end_of s ≤ memory) (told : ℕ) (below : Tracked) where
     members_run : {B : Type 0} (Good : B → Tracked → Type 0) (on : B → Tracked → ℕ → Ending Tracked)
         (ms : List BlockMember) (k : ℕ) (vs m : Tracked) (f : List Datum × Tracked → Run B) (b : ℕ)
         (next : List Datum → Tracked → Ending Tracked) → k + length ms ≤ s.size → Holds memory s told below vs m
@@ -170,7 +170,7 @@ module _ (t : StandIns) (now memory : ℕ) (small : memory ≤ 65536) (F : Code)
 
   module _ (library : SlotLibrary) (units : MarkedUnits) (codes : CodeUnits) (CallFits : UnitCall → Type 0)
       (run : UnitsRun t now memory F units codes CallFits) where
-    instance_runs : (code : BlockCode) (s : Site) (told : ℕ) (below vs : Tracked) (c : Code) (st : List Datum)
+    instance_runs : (code : BlockCode) (s : UnitFrame) (told : ℕ) (below vs : Tracked) (c : Code) (st : List Datum)
         (m : Tracked) (b : ℕ) → InstanceFits CallFits library code s → end_of s ≤ memory
         → Holds memory s told below vs m → Has F (length c) (instance_code library codes code s c)
         → Gives (marked_instance_call t library units now code s.base vs b) b
@@ -181,7 +181,7 @@ module _ (t : StandIns) (now memory : ℕ) (small : memory ≤ 65536) (F : Code)
     instance_runs (own_block i) s told below vs c st m b fits room holds has =
         block_runs units codes CallFits run (slice_get library.blocks i) s told below vs c st m b fits room holds has
 
-  -- units with calls at most so deep
+  -- units with calls at most n deep
   pub units_run : (library : SlotLibrary) (n depth : ℕ) → n ≤ depth
       → UnitsRun t now memory F (marked_units_within t library now depth) (units_code library n)
       (CallFitsWithin memory library n)

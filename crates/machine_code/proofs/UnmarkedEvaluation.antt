@@ -3,9 +3,9 @@ use Rattle.std.proofs.Common.{ℕ, ◌+◌, ◌*◌, List, [], ◌∷◌, Option
 use Rattle.std.specs.Prelude.{slice_get}
 use Rattle.st_types.specs.declared.fault.Fault.TheVariants.{Index}
 use Rattle.st_types.specs.Values.{Datum}
-use Rattle.st_meaning.specs.Failures.{Failure, StandIns, valueless, or_failure, failing}
+use Rattle.st_meaning.specs.Failures.{Failure, StuckFaults, valueless, or_failure, failing}
 use Rattle.st_meaning.specs.Ticks.{◌>>=◌, give, attempt}
-use Rattle.st_meaning.specs.Operators.{value_of_literal, apply, apply_unary, truth}
+use Rattle.st_meaning.specs.Operators.{value_of_literal, apply, apply_unary, condition_of}
 use Rattle.st_meaning.specs.StandardFunctions.{standard_value}
 use Rattle.st_meaning.specs.Evaluation.{known}
 use Rattle.layout.specs.Shapes.{in_bounds, distance}
@@ -15,7 +15,7 @@ use Rattle.slot_trees.specs.SlotTrees.{expr_then, Place, place, Subscripts, no_s
 use Rattle.slot_trees.specs.SlotEvaluation.{SlotUnits, SlotScope, slot_at, slot_value, slot_values, placed, led}
 use Rattle.slot_trees.specs.SlotEvaluation.{slot_truth}
 use Rattle.slot_trees.specs.SlotExecution.{Slots}
-use Rattle.slot_trees.specs.Alike.{RunAlike}
+use Rattle.slot_trees.specs.Alike.{RunEqually}
 use Rattle.slot_trees.proofs.Sim.{Same, sim_give, sim_fault, sim_if, sim_attempt, sim_attempted, ResultAlike}
 use Rattle.machine_code.specs.MarkedEvaluation.{MarkedUnits, MarkedScope, marked_look, marked_load, marked_value}
 use Rattle.machine_code.specs.MarkedEvaluation.{marked_values, marked_place, marked_led, marked_truth}
@@ -24,11 +24,11 @@ use Rattle.machine_code.proofs.UnmarkedLoops.{Unmarked, SameFrom, ReadRun, State
 -- units that do the same, but for marks
 pub record UnitsAlike (units : MarkedUnits) (others : SlotUnits) : Type 0 where
   pub functions : (f : ℕ) (xs : List Datum)
-      → RunAlike Datum Datum (Same Datum) (units.functions f xs) (others.functions f xs)
+      → RunEqually Datum Datum (Same Datum) (units.functions f xs) (others.functions f xs)
   pub blocks : (code : BlockCode) (at : ℕ) (m : Tracked) (vs : Slots) → Unmarked m vs
       → StateRun (units.blocks code at m) (others.blocks code at vs)
 
-module _ (t : StandIns) where
+module _ (t : StuckFaults) where
   look_by : (e : Failure) (m : Tracked) (k : ℕ) (o : Option Datum)
       → ResultAlike (SameFrom Datum m.values) (or_failure e (looked m k o)) (or_failure e o)
   look_by e m k (Some v) = (refl, refl)
@@ -55,12 +55,12 @@ module _ (t : StandIns) where
       subst (λ us. ReadRun Datum us (marked_load t m k) (attempt t (or_failure valueless (known (slice_get us k))))) h
       (load_by m k (slice_get m.values k))
 
-module _ (t : StandIns) (units : MarkedUnits) (others : SlotUnits) (alike : UnitsAlike units others) (base : ℕ) where
+module _ (t : StuckFaults) (units : MarkedUnits) (others : SlotUnits) (alike : UnitsAlike units others) (base : ℕ) where
   abbrev marking : MarkedScope
-  marking = record { units = units; base = base; stand_ins = t }
+  marking = record { units = units; base = base; stuck_faults = t }
 
   abbrev plainly : SlotScope
-  plainly = record { units = others; base = base; stand_ins = t }
+  plainly = record { units = others; base = base; stuck_faults = t }
 
   mutual
     pub value_sim : (e : SlotExpr) (m : Tracked) (vs : Slots) → Unmarked m vs
@@ -97,4 +97,4 @@ module _ (t : StandIns) (units : MarkedUnits) (others : SlotUnits) (alike : Unit
 
   pub truth_sim : (e : SlotExpr) → ConditionRun (marked_truth marking e) (slot_truth plainly e)
   unfolding marked_truth slot_truth
-  truth_sim e m vs h = sim_read _ _ (value_sim e m vs h) (λ v n g. sim_kept n vs g (sim_attempted t (truth v)))
+  truth_sim e m vs h = sim_read _ _ (value_sim e m vs h) (λ v n g. sim_kept n vs g (sim_attempted t (condition_of v)))

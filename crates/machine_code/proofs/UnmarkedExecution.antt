@@ -1,16 +1,16 @@
--- Statements over marked slots do without the marks what they do over slots.
+-- Statements over marked slots do without the marks the same as over slots.
 use Rattle.std.proofs.Common.{ℕ, zero, ◌+◌, ℤ, pos, List, [], ◌∷◌, Bool, true, false, if◌then◌else◌, Option}
 use Rattle.std.proofs.Common.{Some, None, Result, Ok, Err, refl, subst}
 use Rattle.std.specs.Prelude.{slice_get, slice_set}
 use Rattle.std.specs.List.{list_any}
 use Rattle.st_types.specs.declared.fault.Fault.TheVariants.{ZeroStep}
 use Rattle.st_types.specs.Values.{Datum}
-use Rattle.st_meaning.specs.Failures.{Failure, StandIns, ill_typed, or_failure}
+use Rattle.st_meaning.specs.Failures.{Failure, StuckFaults, ill_typed, or_failure}
 use Rattle.st_meaning.specs.Stores.{may_replace}
 use Rattle.st_meaning.specs.Ticks.{Run, ◌>>=◌, give, attempt, proceed}
-use Rattle.st_meaning.specs.Loops.{TurnOf, goes_on, exits, returns, again, over, stepped_on, nonzero}
+use Rattle.st_meaning.specs.Loops.{IterationOf, goes_on, exits, returns, again, over, stepped_on, nonzero}
 use Rattle.st_meaning.specs.Execution.{label_holds}
-use Rattle.machine_code.specs.Tracking.{Tracked, looked, replaced, written}
+use Rattle.machine_code.specs.Tracking.{Tracked, looked, replaced, assigned_slot}
 use Rattle.slot_trees.specs.SlotTrees.{SlotExpr, Place, BlockCode, SlotArgument, given, copied, SlotStmt, empty, assign}
 use Rattle.slot_trees.specs.SlotTrees.{invoke, IF, CASE, FOR, WHILE, REPEAT, EXIT, RETURN, SlotStmts, no_stmts}
 use Rattle.slot_trees.specs.SlotTrees.{stmt_then, SlotArms, no_arms, arm_then, SlotCaseArms, no_case_arms}
@@ -20,7 +20,7 @@ use Rattle.slot_trees.specs.SlotExecution.{Slots, SlotEnd, stored_over, stored_a
 use Rattle.slot_trees.specs.SlotExecution.{slot_outputs, slot_step, slot_runs_on, slot_stored, slot_step_on}
 use Rattle.slot_trees.specs.SlotExecution.{slot_assigning, slot_invoking, slot_counting, slot_exec, slot_exec_all}
 use Rattle.slot_trees.specs.SlotExecution.{slot_exec_arms, slot_exec_case}
-use Rattle.slot_trees.specs.Alike.{RunAlike}
+use Rattle.slot_trees.specs.Alike.{RunEqually}
 use Rattle.slot_trees.proofs.Sim.{Same, sim_give, sim_fault, sim_then, sim_same, sim_tick, sim_if, sim_attempt}
 use Rattle.slot_trees.proofs.Sim.{ResultAlike}
 use Rattle.slot_trees.proofs.LoopSim.{sim_behind}
@@ -33,9 +33,9 @@ use Rattle.machine_code.proofs.UnmarkedLoops.{Unmarked, ReadRun, StateRun, Stmts
 use Rattle.machine_code.proofs.UnmarkedLoops.{ConditionRun, sim_read, sim_loop, sim_guarded, sim_until, no_step_sim}
 use Rattle.machine_code.proofs.UnmarkedEvaluation.{UnitsAlike, look_sim, value_sim, place_sim, truth_sim}
 
-module _ (t : StandIns) where
+module _ (t : StuckFaults) where
   write_by : (m : Tracked) (k : ℕ) (v : Datum) (go : Bool)
-      → ResultAlike Unmarked (or_failure ill_typed (if go then Some (written m k v) else None))
+      → ResultAlike Unmarked (or_failure ill_typed (if go then Some (assigned_slot m k v) else None))
       (if go then Ok (slice_set m.values k v) else Err ill_typed)
   write_by m k v true = refl
   write_by m k v false = refl
@@ -54,18 +54,18 @@ module _ (t : StandIns) where
       (put_by m k v (slice_get m.values k)))
 
   again_by : (vs : Slots) (x : Result Tracked Failure) (y : Result Slots Failure) → ResultAlike Unmarked x y
-      → RunAlike (TurnOf Tracked) (Option Slots) (StepAlike vs) (attempt t x >>= (λ n. give (again n)))
+      → RunEqually (IterationOf Tracked) (Option Slots) (StepAlike vs) (attempt t x >>= (λ n. give (again n)))
       (attempt t (proceed y (λ us. Ok (Some us))))
   again_by vs (Ok n) (Ok us) h = sim_give (again n) (Some us) h
   again_by vs (Err e) (Err f) h =
-      subst (λ g. RunAlike (TurnOf Tracked) (Option Slots) (StepAlike vs)
+      subst (λ g. RunEqually (IterationOf Tracked) (Option Slots) (StepAlike vs)
       (attempt t (Err e) >>= (λ n. give (again n))) (attempt t (proceed (Err g) (λ us. Ok (Some us))))) h (sim_fault _)
   again_by vs (Ok n) (Err f) h = absurd h
   again_by vs (Err e) (Ok us) h = absurd h
 
-  -- the step of a control variable, where there is one
+  -- the step of a control variable, if there is one
   step_by : (k : ℕ) (o : Option Datum) (m : Tracked)
-      → RunAlike (TurnOf Tracked) (Option Slots) (StepAlike m.values) (marked_step_of t k o m)
+      → RunEqually (IterationOf Tracked) (Option Slots) (StepAlike m.values) (marked_step_of t k o m)
       (attempt t (slot_stored m.values k o))
   step_by k None m = sim_give (over (goes_on m)) None refl
   step_by k (Some v) m =
@@ -73,7 +73,7 @@ module _ (t : StandIns) where
       (put_by m k v (slice_get m.values k))
 
   looked_step : (k : ℕ) (step : ℤ) (m : Tracked) (o : Option Datum)
-      → RunAlike (TurnOf Tracked) (Option Slots) (StepAlike m.values)
+      → RunEqually (IterationOf Tracked) (Option Slots) (StepAlike m.values)
       (attempt t (or_failure ill_typed (looked m k o)) >>= (λ r. marked_step_of t k (stepped_on step r.0) r.1))
       (attempt t (proceed (or_failure ill_typed o) (λ v. slot_stored m.values k (stepped_on step v))))
   looked_step k step m (Some v) = step_by k (stepped_on step v) _
@@ -82,7 +82,7 @@ module _ (t : StandIns) where
   step_on_sim : (k : ℕ) (step : ℤ) → StepRun (marked_step_on t k step) (slot_step_on t k step)
   unfolding marked_step_on slot_step_on
   step_on_sim k step m vs h =
-      subst (λ us. RunAlike (TurnOf Tracked) (Option Slots) (StepAlike us) (marked_step_on t k step m)
+      subst (λ us. RunEqually (IterationOf Tracked) (Option Slots) (StepAlike us) (marked_step_on t k step m)
       (slot_step_on t k step us)) h (looked_step k step m (slice_get m.values k))
 
   runs_on_sim : (k : ℕ) (limit step : ℤ) → ConditionRun (marked_runs_on t k limit step) (slot_runs_on t k limit step)
@@ -97,16 +97,16 @@ module _ (t : StandIns) where
   stored_sim at (x ∷ xs) m vs h =
       sim_then (put_sim m (at + x.0) x.1 vs h) (λ n us g. stored_sim at xs n us g)
 
-nonzero_sim : (n : ℤ) → RunAlike (Unit {0}) (Unit {0}) (Same (Unit {0})) (nonzero n) (nonzero n)
+nonzero_sim : (n : ℤ) → RunEqually (Unit {0}) (Unit {0}) (Same (Unit {0})) (nonzero n) (nonzero n)
 nonzero_sim (pos zero) = sim_fault ZeroStep
 nonzero_sim _ = sim_give tt tt refl
 
-module _ (t : StandIns) (units : MarkedUnits) (others : SlotUnits) (alike : UnitsAlike units others) (base : ℕ) where
+module _ (t : StuckFaults) (units : MarkedUnits) (others : SlotUnits) (alike : UnitsAlike units others) (base : ℕ) where
   abbrev marking : MarkedScope
-  marking = record { units = units; base = base; stand_ins = t }
+  marking = record { units = units; base = base; stuck_faults = t }
 
   abbrev plainly : SlotScope
-  plainly = record { units = others; base = base; stand_ins = t }
+  plainly = record { units = others; base = base; stuck_faults = t }
 
   inputs_sim : (xs : List SlotArgument) (m : Tracked) (vs : Slots) → Unmarked m vs
       → ReadRun (List (ℕ × Datum)) vs (marked_inputs marking m xs) (slot_inputs plainly vs xs)

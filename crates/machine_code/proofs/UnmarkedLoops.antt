@@ -1,19 +1,19 @@
--- Runs over marked slots, and loops, that do without their marks what runs over slots do.
+-- Runs over marked slots, and loops, that do without their marks the same as runs over slots.
 use Rattle.std.proofs.Common.{◌≡◌, ℕ, zero, suc, Bool, true, false, if◌then◌else◌, Option, Some, None, Result, Ok, Err}
 use Rattle.std.proofs.Common.{subst}
 use Rattle.st_types.specs.declared.fault.Fault.{Fault}
 use Rattle.st_types.specs.declared.fault.Fault.TheVariants.{Budget}
-use Rattle.st_meaning.specs.Failures.{Failure, StandIns}
+use Rattle.st_meaning.specs.Failures.{Failure, StuckFaults}
 use Rattle.st_meaning.specs.Ticks.{Run, follow, ◌>>=◌, give, attempt, proceed}
-use Rattle.st_meaning.specs.Loops.{goes_on, exits, returns, TurnOf, again, over, turned, resumed, go_back}
-use Rattle.st_meaning.specs.Loops.{turns, looped, guarded, asked, until, no_step}
+use Rattle.st_meaning.specs.Loops.{goes_on, exits, returns, IterationOf, again, over, turned, resumed, go_back}
+use Rattle.st_meaning.specs.Loops.{turns, looped, guarded, tested_after, until, no_step}
 use Rattle.machine_code.specs.Tracking.{Tracked}
 use Rattle.slot_trees.specs.SlotExecution.{Slots, SlotEnd}
-use Rattle.slot_trees.specs.Alike.{EndAlike, RunAlike, EndsAlike}
+use Rattle.slot_trees.specs.Alike.{EndEqually, RunEqually, EndsEqually}
 use Rattle.slot_trees.proofs.Sim.{Same, sim_give, sim_fault, sim_then, sim_tick, sim_if}
 use Rattle.slot_trees.proofs.LoopSim.{TurnsAlike}
 use Rattle.machine_code.specs.MarkedExecution.{MarkedEnd, marked_on, marked_back, marked_turns, marked_loop}
-use Rattle.machine_code.specs.MarkedExecution.{marked_guarded, marked_asked, marked_until, marked_no_step}
+use Rattle.machine_code.specs.MarkedExecution.{marked_guarded, marked_tested, marked_until, marked_no_step}
 
 -- the marked slots have these values
 abbrev pub Unmarked : Tracked → Slots → Type 0
@@ -24,75 +24,75 @@ abbrev pub SameFrom : (A : Type 0) → Slots → A × Tracked → A → Type 0
 SameFrom A vs r a = (r.0 ≡ a) × Unmarked r.1 vs
 
 abbrev pub ReadRun : (A : Type 0) → Slots → Run (A × Tracked) → Run A → Type 0
-ReadRun A vs m n = RunAlike (A × Tracked) A (SameFrom A vs) m n
+ReadRun A vs m n = RunEqually (A × Tracked) A (SameFrom A vs) m n
 
 abbrev pub StateRun : Run Tracked → Run Slots → Type 0
-StateRun m n = RunAlike Tracked Slots Unmarked m n
+StateRun m n = RunEqually Tracked Slots Unmarked m n
 
 abbrev pub EndsRun : Run MarkedEnd → Run SlotEnd → Type 0
-EndsRun m n = RunAlike MarkedEnd SlotEnd (EndsAlike Unmarked) m n
+EndsRun m n = RunEqually MarkedEnd SlotEnd (EndsEqually Unmarked) m n
 
 -- statements that do the same
 abbrev pub StmtsRun : (Tracked → Run MarkedEnd) → (Slots → Run SlotEnd) → Type 0
 StmtsRun f g = (m : Tracked) (vs : Slots) → Unmarked m vs → EndsRun (f m) (g vs)
 
--- what stands behind a part that only reads
+-- the rest of a run after a part that only reads
 pub sim_read : {A C D : Type 0} {R : C → D → Type 0} {vs : Slots} {m : Run (A × Tracked)} {n : Run A}
     (f : A × Tracked → Run C) (g : A → Run D) → ReadRun A vs m n
-    → ((a : A) (k : Tracked) → Unmarked k vs → RunAlike C D R (f (a, k)) (g a)) → RunAlike C D R (m >>= f) (n >>= g)
+    → ((a : A) (k : Tracked) → Unmarked k vs → RunEqually C D R (f (a, k)) (g a)) → RunEqually C D R (m >>= f) (n >>= g)
 sim_read {C = C} {D = D} {R = R} f g h next =
-    sim_then h (λ r a e. subst (λ x. RunAlike C D R (f r) (g x)) e.0 (next r.0 r.1 e.1))
+    sim_then h (λ r a e. subst (λ x. RunEqually C D R (f r) (g x)) e.0 (next r.0 r.1 e.1))
 
 kept_alike : (A : Type 0) (k : Tracked) (vs : Slots) → Unmarked k vs → (x y : Result (A × ℕ) Fault)
-    → EndAlike (Same A) x y → EndAlike (SameFrom A vs) (follow x (λ a. give (a, k))) y
+    → EndEqually (Same A) x y → EndEqually (SameFrom A vs) (follow x (λ a. give (a, k))) y
 kept_alike A k vs h (Ok r) (Ok t) e = ((e.0, h), e.1)
 kept_alike A k vs h (Err f) (Err g) e = e
 kept_alike A k vs h (Ok r) (Err g) e = absurd e
 kept_alike A k vs h (Err f) (Ok t) e = absurd e
 
 -- a part that leaves the slots as they are
-pub sim_kept : {A : Type 0} {m n : Run A} (k : Tracked) (vs : Slots) → Unmarked k vs → RunAlike A A (Same A) m n
+pub sim_kept : {A : Type 0} {m n : Run A} (k : Tracked) (vs : Slots) → Unmarked k vs → RunEqually A A (Same A) m n
     → ReadRun A vs (m >>= (λ a. give (a, k))) n
 sim_kept {A = A} {m = m} {n = n} k vs h e =
     record { alike = λ b. kept_alike A k vs h (m b) (n b) (e.alike b) }
 
 -- parts that take no ticks, one after another
-pub sim_proceed : {A B C : Type 0} {R : C → B → Type 0} {m : Run C} (t : StandIns) (x : Result A Failure)
-    (f : A → Result B Failure) → RunAlike C B R m (attempt t x >>= (λ a. attempt t (f a)))
-    → RunAlike C B R m (attempt t (proceed x f))
+pub sim_proceed : {A B C : Type 0} {R : C → B → Type 0} {m : Run C} (t : StuckFaults) (x : Result A Failure)
+    (f : A → Result B Failure) → RunEqually C B R m (attempt t x >>= (λ a. attempt t (f a)))
+    → RunEqually C B R m (attempt t (proceed x f))
 sim_proceed t (Ok a) f h = h
 sim_proceed t (Err e) f h = h
 
-abbrev pub TurnRun : (Tracked → Run (TurnOf Tracked)) → (Slots → Run (TurnOf Slots)) → Type 0
+abbrev pub TurnRun : (Tracked → Run (IterationOf Tracked)) → (Slots → Run (IterationOf Slots)) → Type 0
 TurnRun f g = (m : Tracked) (vs : Slots) → Unmarked m vs
-    → RunAlike (TurnOf Tracked) (TurnOf Slots) (TurnsAlike Tracked Slots Unmarked) (f m) (g vs)
+    → RunEqually (IterationOf Tracked) (IterationOf Slots) (TurnsAlike Tracked Slots Unmarked) (f m) (g vs)
 
--- the step that was made, or the end of the loop where none could be
-abbrev pub StepAlike : Slots → TurnOf Tracked → Option Slots → Type 0
+-- the step that was made, or the end of the loop if none could be
+abbrev pub StepAlike : Slots → IterationOf Tracked → Option Slots → Type 0
 StepAlike vs (again m) (Some us) = Unmarked m us
-StepAlike vs (over e) None = EndsAlike Unmarked e (goes_on vs)
+StepAlike vs (over e) None = EndsEqually Unmarked e (goes_on vs)
 StepAlike vs (again m) None = ⊥
 StepAlike vs (over e) (Some us) = ⊥
 
-abbrev pub StepRun : (Tracked → Run (TurnOf Tracked)) → (Slots → Run (Option Slots)) → Type 0
+abbrev pub StepRun : (Tracked → Run (IterationOf Tracked)) → (Slots → Run (Option Slots)) → Type 0
 StepRun f g = (m : Tracked) (vs : Slots) → Unmarked m vs
-    → RunAlike (TurnOf Tracked) (Option Slots) (StepAlike vs) (f m) (g vs)
+    → RunEqually (IterationOf Tracked) (Option Slots) (StepAlike vs) (f m) (g vs)
 
 -- conditions that are the same
 abbrev pub ConditionRun : (Tracked → Run (Bool × Tracked)) → (Slots → Run Bool) → Type 0
 ConditionRun f g = (m : Tracked) (vs : Slots) → Unmarked m vs → ReadRun Bool vs (f m) (g vs)
 
 on_alike : (next : Tracked → Run MarkedEnd) (next' : Slots → Run SlotEnd) → StmtsRun next next' → (vs : Slots)
-    (u : TurnOf Tracked) (o : Option Slots) → StepAlike vs u o → EndsRun (marked_on next u) (resumed next' vs o)
+    (u : IterationOf Tracked) (o : Option Slots) → StepAlike vs u o → EndsRun (marked_on next u) (resumed next' vs o)
 on_alike next next' k vs (again m) (Some us) x = k m us x
 on_alike next next' k vs (over e) None x = sim_give e (goes_on vs) x
 on_alike next next' k vs (again m) None x = absurd x
 on_alike next next' k vs (over e) (Some us) x = absurd x
 
-module _ (turn step : Tracked → Run (TurnOf Tracked)) (turn' : Slots → Run (TurnOf Slots))
+module _ (turn step : Tracked → Run (IterationOf Tracked)) (turn' : Slots → Run (IterationOf Slots))
     (step' : Slots → Run (Option Slots)) (h : TurnRun turn turn') (a : StepRun step step') where
   back_alike : (next : Tracked → Run MarkedEnd) (next' : Slots → Run SlotEnd) → StmtsRun next next'
-      → (u : TurnOf Tracked) (v : TurnOf Slots) → TurnsAlike Tracked Slots Unmarked u v
+      → (u : IterationOf Tracked) (v : IterationOf Slots) → TurnsAlike Tracked Slots Unmarked u v
       → EndsRun (marked_back step next u) (go_back step' next' v)
   back_alike next next' k (over e) (over f) x = sim_give e f x
   back_alike next next' k (again m) (again vs) x =
@@ -110,7 +110,7 @@ module _ (turn step : Tracked → Run (TurnOf Tracked)) (turn' : Slots → Run (
   unfolding marked_loop looped
   sim_loop m vs x = record { alike = λ b. (turns_alike (suc b) m vs x).alike b }
 
-turned_alike : (e : MarkedEnd) (f : SlotEnd) → EndsAlike Unmarked e f
+turned_alike : (e : MarkedEnd) (f : SlotEnd) → EndsEqually Unmarked e f
     → TurnsAlike Tracked Slots Unmarked (turned e) (turned f)
 turned_alike (goes_on m) (goes_on vs) h = h
 turned_alike (exits m) (exits vs) h = h
@@ -137,9 +137,9 @@ module _ (condition : Tracked → Run (Bool × Tracked)) (condition' : Slots →
   stop_alike true m vs x = x
   stop_alike false m vs x = x
 
-  asked_alike : (e : MarkedEnd) (f : SlotEnd) → EndsAlike Unmarked e f
-      → RunAlike (TurnOf Tracked) (TurnOf Slots) (TurnsAlike Tracked Slots Unmarked) (marked_asked condition e)
-      (asked condition' f)
+  asked_alike : (e : MarkedEnd) (f : SlotEnd) → EndsEqually Unmarked e f
+      → RunEqually (IterationOf Tracked) (IterationOf Slots) (TurnsAlike Tracked Slots Unmarked) (marked_tested condition e)
+      (tested_after condition' f)
   asked_alike (goes_on m) (goes_on vs) x =
       sim_read _ _ (h m vs x) (λ stop n y. sim_give _ _ (stop_alike stop n vs y))
   asked_alike (exits m) (exits vs) x = sim_give (over (goes_on m)) (over (goes_on vs)) x

@@ -1,11 +1,11 @@
--- A run of a program over marked slots gives without the marks what it gives over slots.
+-- Without the marks, the result of a run of a program over marked slots is that over slots.
 use Rattle.std.proofs.Common.{◌≡◌, ℕ, zero, suc, List, [], ◌∷◌, Option, Some, None, Result, Ok, Err, refl, ap, ap₂}
 use Rattle.std.proofs.Common.{subst}
 use Rattle.std.specs.Prelude.{slice_get, option_map, option_and_then}
 use Rattle.st_types.specs.declared.fault.Fault.{Fault}
 use Rattle.st_types.specs.declared.fault.Fault.TheVariants.{Budget}
 use Rattle.st_types.specs.Values.{Datum}
-use Rattle.st_meaning.specs.Failures.{StandIns, ill_typed, or_failure}
+use Rattle.st_meaning.specs.Failures.{StuckFaults, ill_typed, or_failure}
 use Rattle.st_meaning.specs.Ticks.{Run, ◌>>=◌, give, attempt}
 use Rattle.st_meaning.specs.StandardBlocks.{StandardBlock, BlockMember, members_of, stepped}
 use Rattle.st_meaning.specs.Loops.{goes_on, exits, returns}
@@ -13,10 +13,10 @@ use Rattle.machine_code.specs.Tracking.{Tracked}
 use Rattle.slot_trees.specs.SlotTrees.{BlockCode, own_block, standard_block, SlotStmts, SlotFunction, SlotLibrary}
 use Rattle.slot_trees.specs.SlotEvaluation.{SlotUnits}
 use Rattle.slot_trees.specs.SlotExecution.{Slots, SlotEnd, stored_at}
-use Rattle.slot_trees.specs.SlotRuns.{state_of, slots_begun, slot_function, slot_block, member_slots, members_stored}
+use Rattle.slot_trees.specs.SlotRuns.{state_of, bound_input_slots, slot_function, slot_block, member_slots, members_stored}
 use Rattle.slot_trees.specs.SlotRuns.{slot_standard, slot_function_call, slot_instance_call, slot_units_within}
 use Rattle.slot_trees.specs.SlotRuns.{slots_ran}
-use Rattle.slot_trees.specs.Alike.{EndAlike, RunAlike, EndsAlike}
+use Rattle.slot_trees.specs.Alike.{EndEqually, RunEqually, EndsEqually}
 use Rattle.slot_trees.proofs.Sim.{Same, sim_give, sim_fault, sim_then, sim_same, sim_attempted}
 use Rattle.machine_code.specs.MarkedEvaluation.{MarkedUnits}
 use Rattle.machine_code.specs.MarkedExecution.{MarkedEnd}
@@ -29,7 +29,7 @@ use Rattle.machine_code.proofs.UnmarkedEvaluation.{UnitsAlike, look_sim}
 use Rattle.machine_code.proofs.UnmarkedExecution.{put_sim, exec_all_sim}
 
 -- ends that are alike are the same without the marks
-same_end : (e : MarkedEnd) (f : SlotEnd) → EndsAlike Unmarked e f → without_marks e ≡ f
+same_end : (e : MarkedEnd) (f : SlotEnd) → EndsEqually Unmarked e f → without_marks e ≡ f
 same_end (goes_on m) (goes_on vs) h = ap goes_on h
 same_end (exits m) (exits vs) h = ap exits h
 same_end (returns m) (returns vs) h = ap returns h
@@ -45,15 +45,15 @@ state_without (goes_on m) = refl
 state_without (exits m) = refl
 state_without (returns m) = refl
 
-same_state : (e : MarkedEnd) (f : SlotEnd) → EndsAlike Unmarked e f → Unmarked (state_of e) (state_of f)
+same_state : (e : MarkedEnd) (f : SlotEnd) → EndsEqually Unmarked e f → Unmarked (state_of e) (state_of f)
 same_state e f h = subst (λ d. Unmarked (state_of e) (state_of d)) (same_end e f h) (state_without e)
 
-module _ (t : StandIns) where
+module _ (t : StuckFaults) where
   -- members one after another
   member_apart : {C : Type 0} {R : C → List Datum → Type 0} (m : Run C) (o : Option Datum) (p : Option (List Datum))
-      → RunAlike C (List Datum) R m (attempt t (or_failure ill_typed o)
+      → RunEqually C (List Datum) R m (attempt t (or_failure ill_typed o)
       >>= (λ v. attempt t (or_failure ill_typed p) >>= (λ xs. give (v ∷ xs))))
-      → RunAlike C (List Datum) R m
+      → RunEqually C (List Datum) R m
       (attempt t (or_failure ill_typed (option_and_then (λ v. option_map (λ xs. v ∷ xs) p) o)))
   member_apart m (Some v) (Some xs) h = h
   member_apart m (Some v) None h = h
@@ -83,17 +83,17 @@ module _ (t : StandIns) where
 
   module _ (units : MarkedUnits) (others : SlotUnits) (alike : UnitsAlike units others) where
     result_sim : (k : ℕ) (us vs : Slots) → us ≡ vs
-        → RunAlike Datum Datum (Same Datum) (attempt t (or_failure ill_typed (slice_get us k)))
+        → RunEqually Datum Datum (Same Datum) (attempt t (or_failure ill_typed (slice_get us k)))
         (attempt t (or_failure ill_typed (slice_get vs k)))
     result_sim k us vs h =
-        subst (λ ws. RunAlike Datum Datum (Same Datum) (attempt t (or_failure ill_typed (slice_get us k)))
+        subst (λ ws. RunEqually Datum Datum (Same Datum) (attempt t (or_failure ill_typed (slice_get us k)))
         (attempt t (or_failure ill_typed (slice_get ws k)))) h
         (sim_attempted t (or_failure ill_typed (slice_get us k)))
 
     function_sim : (f : SlotFunction) (xs : List Datum)
-        → RunAlike Datum Datum (Same Datum) (marked_function t units f xs) (slot_function t others f xs)
+        → RunEqually Datum Datum (Same Datum) (marked_function t units f xs) (slot_function t others f xs)
     function_sim f xs =
-        sim_same (sim_attempted t (slots_begun f.fresh f.inputs xs)) (λ vs.
+        sim_same (sim_attempted t (bound_input_slots f.fresh f.inputs xs)) (λ vs.
         sim_then (exec_all_sim t units others alike 0 f.body (unmarked_values vs) vs refl) (λ e d h.
         result_sim f.result (state_of e).values (state_of d) (same_state e d h)))
 
@@ -104,7 +104,7 @@ module _ (t : StandIns) where
         sim_give (state_of e) (state_of d) (same_state e d g))
 
     function_call_sim : (library : SlotLibrary) (f : ℕ) (xs : List Datum)
-        → RunAlike Datum Datum (Same Datum) (marked_function_call t library units f xs)
+        → RunEqually Datum Datum (Same Datum) (marked_function_call t library units f xs)
         (slot_function_call t library others f xs)
     function_call_sim library f xs =
         sim_same (sim_attempted t (or_failure ill_typed (slice_get library.functions f))) (λ g. function_sim g xs)
@@ -132,15 +132,15 @@ module _ (t : StandIns) where
             (slot_units_within t library now n) alike library now code at m vs h;
       }
 
-same_run : (x : Result (MarkedEnd × ℕ) Fault) (y : Result (SlotEnd × ℕ) Fault) → EndAlike (EndsAlike Unmarked) x y
+same_run : (x : Result (MarkedEnd × ℕ) Fault) (y : Result (SlotEnd × ℕ) Fault) → EndEqually (EndsEqually Unmarked) x y
     → run_without_marks x ≡ y
 same_run (Ok r) (Ok q) h = ap₂ (λ e b. Ok (e, b)) (same_end r.0 q.0 h.0) h.1
 same_run (Err e) (Err f) h = ap Err h
 same_run (Ok r) (Err f) h = absurd h
 same_run (Err e) (Ok q) h = absurd h
 
--- marks change nothing of what a program does
-pub runs_without_marks : (t : StandIns) (library : SlotLibrary) (base : ℕ) (body : SlotStmts) (now depth : ℕ)
+-- marks change nothing of a program's effect
+pub runs_without_marks : (t : StuckFaults) (library : SlotLibrary) (base : ℕ) (body : SlotStmts) (now depth : ℕ)
     (m : Tracked) (b : ℕ)
     → run_without_marks (marked_ran t library base body now depth m b) ≡ slots_ran t library base body now depth
     m.values b

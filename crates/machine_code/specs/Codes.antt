@@ -1,6 +1,5 @@
--- The code of a tree, put before the code that runs behind it: code is kept from its end, so that what runs first
--- stands
--- last. Calls stand as the code of the units that are called.
+-- The code of a tree, put before the code that runs after it: code is kept from its end, so that what runs first is last. A
+-- call is the code of the unit that it calls.
 use Rattle.std.specs.Prelude.{ℕ, suc, ◌+◌, ℤ, pos, List, [], ◌∷◌, length, if◌then◌else◌, Option, Some, None}
 use Rattle.std.specs.Prelude.{Result}
 use Rattle.std.specs.Prelude.{Ok, Err}
@@ -20,10 +19,10 @@ use Rattle.symbols.specs.declared.standard_functions.Standard as code_function
 use Rattle.symbols.specs.declared.standard_functions.Standard.TheVariants.{Abs, Min, Max, Limit, Sel, Shl, Shr, Rol}
 use Rattle.symbols.specs.declared.standard_functions.Standard.TheVariants.{Ror, Convert}
 use Rattle.machine_code.specs.declared.instr.Instr.{Instr}
-use Rattle.machine_code.specs.declared.instr.Instr.TheVariants.{Tick, Push, Load, Fetch, Store, Unary, Binary, Compute}
-use Rattle.machine_code.specs.declared.instr.Instr.TheVariants.{Turn, Jump, Unless, When, Back, Leave, Subscript}
-use Rattle.machine_code.specs.declared.instr.Instr.TheVariants.{LoadAt, StoreAt, ForBegin, ForTest, ForStep, Equals}
-use Rattle.machine_code.specs.declared.instr.Instr.TheVariants.{Within}
+use Rattle.machine_code.specs.declared.instr.Instr.TheVariants.{Tick, Push, Load, LoadRaw, Store, Unary, Binary, Compute}
+use Rattle.machine_code.specs.declared.instr.Instr.TheVariants.{Reverse, Jump, JumpIfFalse, JumpIfTrue, LoopBack, Pop, Subscript}
+use Rattle.machine_code.specs.declared.instr.Instr.TheVariants.{LoadAt, StoreAt, ForBegin, ForTest, ForStep, JumpIfEqual}
+use Rattle.machine_code.specs.declared.instr.Instr.TheVariants.{JumpIfWithin}
 use Rattle.machine_code.specs.Machine.{slot_number}
 use Rattle.slot_trees.specs.SlotTrees.{SlotExpr, constant, load, compute, call, unary, binary, SlotExprs}
 use Rattle.slot_trees.specs.SlotTrees.{no_exprs, expr_then, Place, place, Subscripts, no_subscripts, subscript_then}
@@ -32,23 +31,23 @@ use Rattle.slot_trees.specs.SlotTrees.{CASE}
 use Rattle.slot_trees.specs.SlotTrees.{FOR, WHILE, REPEAT, EXIT, RETURN, SlotStmts, no_stmts, stmt_then, SlotArms}
 use Rattle.slot_trees.specs.SlotTrees.{no_arms, arm_then, SlotCaseArms, no_case_arms, case_arm_then}
 use Rattle.slot_trees.specs.SlotEvaluation.{slot_at}
-use Rattle.machine_code.specs.declared.ways.Ways.{Ways}
+use Rattle.machine_code.specs.declared.jump_targets.JumpTargets.{JumpTargets}
 use Rattle.machine_code.specs.Growing.{Code, ◌◂◌, closed}
-use Rattle.machine_code.specs.Sites.{Site, slot_in, end_of, site_at}
+use Rattle.machine_code.specs.UnitFrames.{UnitFrame, slot_in, end_of, instance_frame}
 
--- the code that stands in the place of calls: of a function whose arguments are on the stack, with its values from a
--- slot on, and of a block on the slots of an instance
+-- the code in the place of calls: of a function whose arguments are on the stack, with its values from a slot on, and of a
+-- block on the slots of an instance
 pub record CodeUnits : Type 0 where
   pub functions : ℕ → ℕ → Code → Code
-  pub blocks : BlockCode → Site → Code → Code
+  pub blocks : BlockCode → UnitFrame → Code → Code
 
--- where EXIT and RETURN of a body lead that stands in the place of its call: behind it
-abbrev pub body_ways : ℕ → Ways
-body_ways to = record { exit = to; back = to; held = 0 }
+-- where EXIT and RETURN lead in a body that takes the place of its call: after it
+abbrev pub body_targets : ℕ → JumpTargets
+body_targets to = record { exit = to; back = to; held = 0 }
 
--- where they lead in a loop that ends at a place, and that holds so many more values
-abbrev pub loop_ways : Ways → ℕ → ℕ → Ways
-loop_ways w to more = record { exit = to; back = w.back; held = w.held + more }
+-- where they lead in a loop that ends at a place, and that holds this number of further values
+abbrev pub loop_targets : JumpTargets → ℕ → ℕ → JumpTargets
+loop_targets w to more = record { exit = to; back = w.back; held = w.held + more }
 
 -- standard functions and blocks as instructions name them
 abbrev pub standard_code : functions.Standard → code_function.Standard
@@ -83,18 +82,18 @@ abbrev pub literal_code : Result Datum Failure → Code → Code
 literal_code (Ok v) c = c ◂ Push v
 literal_code (Err e) c = c
 
--- where a label holds the selector, which is on the stack, the run goes on at a place; a name holds nothing
+-- if a label holds the selector, which is on the stack, the run goes on at a place; a name holds nothing
 abbrev pub label_code : Label → ℕ → Code → Code
-label_code (Single n) to c = c ◂ Equals to ◂ Push (number_value (number_of n))
+label_code (Single n) to c = c ◂ JumpIfEqual to ◂ Push (number_value (number_of n))
 label_code (Range least greatest) to c =
-    c ◂ Within to ◂ Push (number_value (number_of greatest)) ◂ Push (number_value (number_of least))
+    c ◂ JumpIfWithin to ◂ Push (number_value (number_of greatest)) ◂ Push (number_value (number_of least))
 label_code (Enumerated v) to c = c
 
 abbrev pub labels_code : List Label → ℕ → Code → Code
 labels_code [] to c = c
 labels_code (l ∷ ls) to c = label_code l to (labels_code ls to c)
 
--- values that are on the stack, the first on top, are assigned to slots so many behind a first one
+-- values that are on the stack, the first on top, are assigned to slots at these distances after a first one
 abbrev pub stores_code : ℕ → List ℕ → Code → Code
 stores_code first [] c = c
 stores_code first (o ∷ os) c = stores_code first os c ◂ Store (first + o)
@@ -110,7 +109,7 @@ abbrev pub count_of : SlotExprs → ℕ
 count_of no_exprs = 0
 count_of (expr_then e es) = suc (count_of es)
 
-module _ (units : CodeUnits) (site : Site) where
+module _ (units : CodeUnits) (site : UnitFrame) where
   abbrev mutual
     -- the value comes on the stack
     pub expr_code : SlotExpr → Code → Code
@@ -140,7 +139,7 @@ module _ (units : CodeUnits) (site : Site) where
     subscripts_code (subscript_then e lower count stride ss) c =
         expr_code e (subscripts_code ss c ◂ Subscript count stride (number_value lower))
 
-  -- the step of a FOR: 1 where none is written
+  -- the step of a FOR: 1 if none is written
   abbrev pub step_code : Option SlotExpr → Code → Code
   step_code None c = c ◂ Push (number_value (pos 1))
   step_code (Some e) c = expr_code e c
@@ -154,53 +153,53 @@ module _ (units : CodeUnits) (site : Site) where
   outputs_code at [] c = c
   outputs_code at (given o e ∷ rest) c = outputs_code at rest c
   outputs_code at (copied o p ∷ rest) c =
-      place_code p Store StoreAt (outputs_code at rest c) ◂ Fetch (site.start + (at + o))
+      place_code p Store StoreAt (outputs_code at rest c) ◂ LoadRaw (site.start + (at + o))
 
   abbrev pub invoke_code : ℕ → BlockCode → List SlotArgument → Code → Code
   invoke_code at code arguments c =
-      let body = units.blocks code (site_at site at) (outputs_code at arguments c) in
+      let body = units.blocks code (instance_frame site at) (outputs_code at arguments c) in
       let members = given_members arguments in
-      inputs_code arguments (stores_code (site.start + at) members body ◂ Turn (length members))
+      inputs_code arguments (stores_code (site.start + at) members body ◂ Reverse (length members))
 
   -- before all else a statement takes a tick
   abbrev mutual
-    pub stmt_code : SlotStmt → Ways → Code → Code
+    pub stmt_code : SlotStmt → JumpTargets → Code → Code
     stmt_code empty w c = c ◂ Tick
     stmt_code (assign p e) w c = expr_code e (place_code p Store StoreAt c) ◂ Tick
     stmt_code (invoke a code arguments) w c = invoke_code (slot_at site.base a) code arguments c ◂ Tick
     stmt_code (IF arms otherwise) w c = arms_code arms w (length c) (stmts_code otherwise w c) ◂ Tick
     stmt_code (CASE e arms otherwise) w c =
-        expr_code e (case_code arms w (length c) (stmts_code otherwise w c ◂ Leave 1)) ◂ Tick
+        expr_code e (case_code arms w (length c) (stmts_code otherwise w c ◂ Pop 1)) ◂ Tick
     stmt_code (FOR a start limit step body) w c =
         let k = slot_in site a in
-        let left = c ◂ Leave 2 in
-        let turn = stmts_code body (loop_ways w (length left) 2) (left ◂ Back 0) ◂ ForTest k (length left) in
+        let left = c ◂ Pop 2 in
+        let turn = stmts_code body (loop_targets w (length left) 2) (left ◂ LoopBack 0) ◂ ForTest k (length left) in
         let loop = closed (length left) (turn ◂ ForStep k (length left)) ◂ Jump (length turn) in
         expr_code start (expr_code limit (step_code step (loop ◂ ForBegin k))) ◂ Tick
     stmt_code (WHILE e body) w c =
-        let inner = stmts_code body (loop_ways w (length c) 0) (c ◂ Back 0) in
-        closed (length c) (expr_code e (inner ◂ Unless (length c))) ◂ Tick
+        let inner = stmts_code body (loop_targets w (length c) 0) (c ◂ LoopBack 0) in
+        closed (length c) (expr_code e (inner ◂ JumpIfFalse (length c))) ◂ Tick
     stmt_code (REPEAT body e) w c =
-        let asked = expr_code e (c ◂ Back 0 ◂ When (length c)) in
-        closed (length c) (stmts_code body (loop_ways w (length c) 0) asked) ◂ Tick
+        let asked = expr_code e (c ◂ LoopBack 0 ◂ JumpIfTrue (length c)) in
+        closed (length c) (stmts_code body (loop_targets w (length c) 0) asked) ◂ Tick
     stmt_code EXIT w c = c ◂ Jump w.exit ◂ Tick
-    stmt_code RETURN w c = c ◂ Jump w.back ◂ Leave w.held ◂ Tick
+    stmt_code RETURN w c = c ◂ Jump w.back ◂ Pop w.held ◂ Tick
 
-    pub stmts_code : SlotStmts → Ways → Code → Code
+    pub stmts_code : SlotStmts → JumpTargets → Code → Code
     stmts_code no_stmts w c = c
     stmts_code (stmt_then x xs) w c = stmt_code x w (stmts_code xs w c)
 
-    -- arms before the statements that run where no condition holds; the end is behind these
-    pub arms_code : SlotArms → Ways → ℕ → Code → Code
+    -- arms before the statements that run if no condition holds; the end is after these
+    pub arms_code : SlotArms → JumpTargets → ℕ → Code → Code
     arms_code no_arms w to c = c
     arms_code (arm_then e body arms) w to c =
         let rest = arms_code arms w to c in
-        expr_code e (stmts_code body w (rest ◂ Jump to) ◂ Unless (length rest))
+        expr_code e (stmts_code body w (rest ◂ Jump to) ◂ JumpIfFalse (length rest))
 
     -- the same of lists of labels; the selector is on the stack until statements are chosen
-    pub case_code : SlotCaseArms → Ways → ℕ → Code → Code
+    pub case_code : SlotCaseArms → JumpTargets → ℕ → Code → Code
     case_code no_case_arms w to c = c
     case_code (case_arm_then labels body arms) w to c =
         let rest = case_code arms w to c in
-        let chosen = stmts_code body w (rest ◂ Jump to) ◂ Leave 1 in
+        let chosen = stmts_code body w (rest ◂ Jump to) ◂ Pop 1 in
         labels_code labels (length chosen) (chosen ◂ Jump (length rest))

@@ -1,4 +1,4 @@
--- What the end of a program's code tells.
+-- The outcome and the values at the end of a program's code.
 use Rattle.std.specs.Prelude.{List, length, take}
 use Rattle.st_types.specs.Values.{Datum}
 use Rattle.st_meaning.specs.declared.outcome.Outcome.{Outcome}

@@ -15,12 +15,12 @@ use Rattle.slot_trees.specs.SlotTrees.{stmt_then, SlotArms, no_arms, arm_then, S
 use Rattle.slot_trees.specs.SlotTrees.{case_arm_then, SlotFunction, SlotLibrary}
 use Rattle.slot_trees.specs.SlotEvaluation.{slot_at}
 use Rattle.machine_code.specs.Codes.{count_of}
-use Rattle.machine_code.specs.Sites.{Site, end_of, site_at, site_from}
+use Rattle.machine_code.specs.UnitFrames.{UnitFrame, end_of, instance_frame, call_frame}
 
--- a call: of a function by its number, with its values from a slot on and so many arguments, or of a block
+-- a call: of a function by its number, with its values from a slot on and a number of arguments, or of a block
 pub data UnitCall : Type 0 where
   of_function : ℕ → ℕ → ℕ → UnitCall
-  of_block : BlockCode → Site → UnitCall
+  of_block : BlockCode → UnitFrame → UnitCall
 
 abbrev pub IsValue : Result Datum Failure → Type 0
 IsValue (Ok v) = Unit {0}
@@ -35,7 +35,7 @@ abbrev pub AllBelow : ℕ → List ℕ → Type 0
 AllBelow n [] = Unit {0}
 AllBelow n (k ∷ ks) = (k < n) × AllBelow n ks
 
-module _ (CallFits : UnitCall → Type 0) (site : Site) where
+module _ (CallFits : UnitCall → Type 0) (site : UnitFrame) where
   abbrev mutual
     pub ExprFits : SlotExpr → Type 0
     ExprFits (constant l) = IsValue (value_of_literal l)
@@ -71,7 +71,7 @@ module _ (CallFits : UnitCall → Type 0) (site : Site) where
     StmtFits empty = Unit {0}
     StmtFits (assign p e) = PlaceFits p × ExprFits e
     StmtFits (invoke a code arguments) =
-        CallFits (of_block code (site_at site (slot_at site.base a))) × ArgumentsFit (slot_at site.base a) arguments
+        CallFits (of_block code (instance_frame site (slot_at site.base a))) × ArgumentsFit (slot_at site.base a) arguments
     StmtFits (IF arms otherwise) = ArmsFit arms × StmtsFit otherwise
     StmtFits (CASE e arms otherwise) = ExprFits e × CaseArmsFit arms × StmtsFit otherwise
     StmtFits (FOR a start limit step body) =
@@ -93,23 +93,23 @@ module _ (CallFits : UnitCall → Type 0) (site : Site) where
     CaseArmsFit no_case_arms = Unit {0}
     CaseArmsFit (case_arm_then labels body arms) = StmtsFit body × CaseArmsFit arms
 
--- a function with its values from a slot of a memory on, and so many arguments
+-- a function with its values from a slot of a memory on, and a number of arguments
 pub record FunctionFits (CallFits : UnitCall → Type 0) (memory : ℕ) (f : SlotFunction) (start count : ℕ) : Type 0 where
   pub arguments : count ≡ length f.inputs
   pub room : start + length f.fresh ≤ memory
   pub inputs : AllBelow (length f.fresh) f.inputs
   pub result : f.result < length f.fresh
-  pub body : StmtsFit CallFits (site_from start (length f.fresh)) f.body
+  pub body : StmtsFit CallFits (call_frame start (length f.fresh)) f.body
 
 abbrev pub IfFunctionFits : (UnitCall → Type 0) → ℕ → Option SlotFunction → ℕ → ℕ → Type 0
 IfFunctionFits CallFits memory (Some f) start count = FunctionFits CallFits memory f start count
 IfFunctionFits CallFits memory None start count = ⊥
 
-abbrev pub IfBodyFits : (UnitCall → Type 0) → Option SlotStmts → Site → Type 0
+abbrev pub IfBodyFits : (UnitCall → Type 0) → Option SlotStmts → UnitFrame → Type 0
 IfBodyFits CallFits (Some body) site = StmtsFit CallFits site body
 IfBodyFits CallFits None site = ⊥
 
-abbrev pub InstanceFits : (UnitCall → Type 0) → SlotLibrary → BlockCode → Site → Type 0
+abbrev pub InstanceFits : (UnitCall → Type 0) → SlotLibrary → BlockCode → UnitFrame → Type 0
 InstanceFits CallFits library (standard_block b) site = site.base + length (members_of b) ≤ site.size
 InstanceFits CallFits library (own_block i) site = IfBodyFits CallFits (slice_get library.blocks i) site
 

@@ -1,7 +1,7 @@
 -- Code, from its end on.
 use Rattle.std.specs.Prelude.{List, [], ◌∷◌, ◌++◌, length, ℕ, slice_set}
 use Rattle.machine_code.specs.declared.instr.Instr.{Instr}
-use Rattle.machine_code.specs.declared.instr.Instr.TheVariants.{Back}
+use Rattle.machine_code.specs.declared.instr.Instr.TheVariants.{LoopBack}
 
 abbrev pub Code : Type 0
 Code = List Instr
@@ -11,6 +11,6 @@ infixl 20 ◌◂◌
 abbrev pub ◌◂◌ : Code → Instr → Code
 ◌◂◌ c i = c ++ i ∷ []
 
--- the jump back that a loop's code began with leads to what is now its first instruction
+-- the jump back that a loop's code began with leads to the present first instruction
 abbrev pub closed : ℕ → Code → Code
-closed at c = slice_set c at (Back (length c))
+closed at c = slice_set c at (LoopBack (length c))

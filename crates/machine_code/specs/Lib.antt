@@ -4,7 +4,7 @@ pub mod Simulation
 pub mod Tracking
 pub mod Endings
 pub mod Asking
-pub mod Sites
+pub mod UnitFrames
 pub mod Codes
 pub mod Growing
 pub mod Calls

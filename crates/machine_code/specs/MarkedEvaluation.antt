@@ -3,9 +3,9 @@
 use Rattle.std.specs.Prelude.{ℕ, ◌+◌, ◌*◌, List, [], ◌∷◌, Bool, if◌then◌else◌, Some}
 use Rattle.st_types.specs.declared.fault.Fault.TheVariants.{Index}
 use Rattle.st_types.specs.Values.{Datum}
-use Rattle.st_meaning.specs.Failures.{Failure, StandIns, valueless, or_failure, failing}
+use Rattle.st_meaning.specs.Failures.{Failure, StuckFaults, valueless, or_failure, failing}
 use Rattle.st_meaning.specs.Ticks.{Run, ◌>>=◌, give, fault, attempt}
-use Rattle.st_meaning.specs.Operators.{value_of_literal, apply, apply_unary, truth}
+use Rattle.st_meaning.specs.Operators.{value_of_literal, apply, apply_unary, condition_of}
 use Rattle.st_meaning.specs.StandardFunctions.{standard_value}
 use Rattle.st_meaning.specs.Evaluation.{known}
 use Rattle.layout.specs.Shapes.{in_bounds, distance}
@@ -15,7 +15,7 @@ use Rattle.slot_trees.specs.SlotTrees.{SlotExprs, no_exprs, expr_then, Place, pl
 use Rattle.slot_trees.specs.SlotTrees.{subscript_then, BlockCode}
 use Rattle.slot_trees.specs.SlotEvaluation.{slot_at}
 
--- what the units of a text do, a block with the marks of all slots
+-- the units of a text, a block with the marks of all slots
 pub record MarkedUnits : Type 0 where
   pub functions : ℕ → List Datum → Run Datum
   pub blocks : BlockCode → ℕ → Tracked → Run Tracked
@@ -24,14 +24,14 @@ pub record MarkedUnits : Type 0 where
 pub record MarkedScope : Type 0 where
   pub units : MarkedUnits
   pub base : ℕ
-  pub stand_ins : StandIns
+  pub stuck_faults : StuckFaults
 
--- the value of a slot as it is, which is marked; this failure where there is no such slot
-abbrev pub marked_look : StandIns → Failure → Tracked → ℕ → Run (Datum × Tracked)
+-- the value of a slot as it is, which is marked; this failure if there is no such slot
+abbrev pub marked_look : StuckFaults → Failure → Tracked → ℕ → Run (Datum × Tracked)
 marked_look t e m k = attempt t (or_failure e (tracking.look m k))
 
 -- the value of a variable
-abbrev pub marked_load : StandIns → Tracked → ℕ → Run (Datum × Tracked)
+abbrev pub marked_load : StuckFaults → Tracked → ℕ → Run (Datum × Tracked)
 marked_load t m k = do
   r ← marked_look t valueless m k
   v ← attempt t (or_failure valueless (known (Some r.0)))
@@ -40,14 +40,14 @@ marked_load t m k = do
 abbrev mutual
   pub marked_value : MarkedScope → Tracked → SlotExpr → Run (Datum × Tracked)
   marked_value z m (constant l) = do
-    v ← attempt z.stand_ins (value_of_literal l)
+    v ← attempt z.stuck_faults (value_of_literal l)
     give (v, m)
   marked_value z m (load p) = do
     r ← marked_place z m p
-    marked_load z.stand_ins r.1 r.0
+    marked_load z.stuck_faults r.1 r.0
   marked_value z m (compute f es) = do
     r ← marked_values z m es
-    v ← attempt z.stand_ins (standard_value f r.0)
+    v ← attempt z.stuck_faults (standard_value f r.0)
     give (v, r.1)
   marked_value z m (call f es) = do
     r ← marked_values z m es
@@ -55,12 +55,12 @@ abbrev mutual
     give (v, r.1)
   marked_value z m (unary op e) = do
     r ← marked_value z m e
-    v ← attempt z.stand_ins (failing (apply_unary op r.0))
+    v ← attempt z.stuck_faults (failing (apply_unary op r.0))
     give (v, r.1)
   marked_value z m (binary op x y) = do
     r ← marked_value z m x
     s ← marked_value z r.1 y
-    v ← attempt z.stand_ins (apply op r.0 s.0)
+    v ← attempt z.stuck_faults (apply op r.0 s.0)
     give (v, s.1)
 
   pub marked_values : MarkedScope → Tracked → SlotExprs → Run (List Datum × Tracked)
@@ -85,5 +85,5 @@ abbrev mutual
 unfoldable pub marked_truth : MarkedScope → SlotExpr → Tracked → Run (Bool × Tracked)
 marked_truth z e m = do
   r ← marked_value z m e
-  go ← attempt z.stand_ins (truth r.0)
+  go ← attempt z.stuck_faults (condition_of r.0)
   give (go, r.1)

@@ -1,12 +1,12 @@
--- What statements over marked slots do. Without the marks it is what they do over slots.
+-- The effect of statements over marked slots. Without the marks it is the effect over slots.
 use Rattle.std.specs.Prelude.{ℕ, zero, suc, ◌+◌, ℤ, pos, int_lt, int_le, List, [], ◌∷◌, Bool, if◌then◌else◌}
 use Rattle.std.specs.Prelude.{Option, Some, None}
 use Rattle.std.specs.List.{list_any}
 use Rattle.st_types.specs.Values.{Datum}
 use Rattle.st_types.specs.declared.fault.Fault.TheVariants.{Budget}
-use Rattle.st_meaning.specs.Failures.{StandIns, ill_typed, or_failure}
+use Rattle.st_meaning.specs.Failures.{StuckFaults, ill_typed, or_failure}
 use Rattle.st_meaning.specs.Ticks.{Run, ◌>>=◌, ◌>>◌, give, fault, attempt, tick}
-use Rattle.st_meaning.specs.Loops.{EndOf, TurnOf, goes_on, exits, returns, again, over, behind, turned, stepped_on}
+use Rattle.st_meaning.specs.Loops.{EndOf, IterationOf, goes_on, exits, returns, again, over, continue_with, turned, stepped_on}
 use Rattle.st_meaning.specs.Loops.{nonzero}
 use Rattle.st_meaning.specs.Execution.{label_holds}
 use Rattle.machine_code.specs.Tracking.{Tracked, tracking}
@@ -22,15 +22,15 @@ abbrev pub MarkedEnd : Type 0
 MarkedEnd = EndOf Tracked
 
 -- a slot is assigned, and marked
-abbrev pub marked_put : StandIns → Tracked → ℕ → Datum → Run Tracked
+abbrev pub marked_put : StuckFaults → Tracked → ℕ → Datum → Run Tracked
 marked_put t m k v = attempt t (or_failure ill_typed (tracking.put m k v))
 
 -- after a turn: the tick of going back, then the step, with which the loop is over or goes on
-abbrev pub marked_on : {S : Type 0} → (S → Run (EndOf S)) → TurnOf S → Run (EndOf S)
+abbrev pub marked_on : {S : Type 0} → (S → Run (EndOf S)) → IterationOf S → Run (EndOf S)
 marked_on next (over e) = give e
 marked_on next (again s) = next s
 
-abbrev pub marked_back : {S : Type 0} → (S → Run (TurnOf S)) → (S → Run (EndOf S)) → TurnOf S → Run (EndOf S)
+abbrev pub marked_back : {S : Type 0} → (S → Run (IterationOf S)) → (S → Run (EndOf S)) → IterationOf S → Run (EndOf S)
 marked_back step next (over e) = give e
 marked_back step next (again s) = do
   tick
@@ -38,36 +38,36 @@ marked_back step next (again s) = do
   marked_on next u
 
 -- a loop of at most n turns
-unfoldable pub marked_turns : {S : Type 0} → ℕ → (S → Run (TurnOf S)) → (S → Run (TurnOf S)) → S → Run (EndOf S)
+unfoldable pub marked_turns : {S : Type 0} → ℕ → (S → Run (IterationOf S)) → (S → Run (IterationOf S)) → S → Run (EndOf S)
 marked_turns zero turn step s = fault Budget
 marked_turns (suc n) turn step s = do
   t ← turn s
   marked_back step (marked_turns n turn step) t
 
-unfoldable pub marked_loop : {S : Type 0} → (S → Run (TurnOf S)) → (S → Run (TurnOf S)) → S → Run (EndOf S)
+unfoldable pub marked_loop : {S : Type 0} → (S → Run (IterationOf S)) → (S → Run (IterationOf S)) → S → Run (EndOf S)
 marked_loop turn step s = λ b. marked_turns (suc b) turn step s b
 
 -- a turn with its condition at the head
-unfoldable pub marked_guarded : {S : Type 0} → (S → Run (Bool × S)) → (S → Run (EndOf S)) → S → Run (TurnOf S)
+unfoldable pub marked_guarded : {S : Type 0} → (S → Run (Bool × S)) → (S → Run (EndOf S)) → S → Run (IterationOf S)
 marked_guarded condition body s = do
   r ← condition s
   if r.0 then (do e ← body r.1; give (turned e)) else give (over (goes_on r.1))
 
 -- a turn with its condition at the foot, which ends the loop
-abbrev pub marked_asked : {S : Type 0} → (S → Run (Bool × S)) → EndOf S → Run (TurnOf S)
-marked_asked condition (goes_on s) = do
+abbrev pub marked_tested : {S : Type 0} → (S → Run (Bool × S)) → EndOf S → Run (IterationOf S)
+marked_tested condition (goes_on s) = do
   r ← condition s
   give (if r.0 then over (goes_on r.1) else again r.1)
-marked_asked condition (exits s) = give (over (goes_on s))
-marked_asked condition (returns s) = give (over (returns s))
+marked_tested condition (exits s) = give (over (goes_on s))
+marked_tested condition (returns s) = give (over (returns s))
 
-unfoldable pub marked_until : {S : Type 0} → (S → Run (EndOf S)) → (S → Run (Bool × S)) → S → Run (TurnOf S)
+unfoldable pub marked_until : {S : Type 0} → (S → Run (EndOf S)) → (S → Run (Bool × S)) → S → Run (IterationOf S)
 marked_until body condition s = do
   e ← body s
-  marked_asked condition e
+  marked_tested condition e
 
 -- a loop without a control variable
-abbrev pub marked_no_step : {S : Type 0} → S → Run (TurnOf S)
+abbrev pub marked_no_step : {S : Type 0} → S → Run (IterationOf S)
 marked_no_step s = give (again s)
 
 -- the inputs of a block call, all evaluated in written order
@@ -80,7 +80,7 @@ marked_inputs z m (given o e ∷ rest) = do
 marked_inputs z m (copied o p ∷ rest) = marked_inputs z m rest
 
 -- then assigned; an input that is not given keeps its value
-abbrev pub marked_stored : StandIns → ℕ → List (ℕ × Datum) → Tracked → Run Tracked
+abbrev pub marked_stored : StuckFaults → ℕ → List (ℕ × Datum) → Tracked → Run Tracked
 marked_stored t at [] m = give m
 marked_stored t at (e ∷ es) m = do
   n ← marked_put t m (at + e.0) e.1
@@ -91,12 +91,12 @@ abbrev pub marked_outputs : MarkedScope → ℕ → List SlotArgument → Tracke
 marked_outputs z at [] m = give m
 marked_outputs z at (given o e ∷ rest) m = marked_outputs z at rest m
 marked_outputs z at (copied o p ∷ rest) m = do
-  r ← marked_look z.stand_ins ill_typed m (at + o)
+  r ← marked_look z.stuck_faults ill_typed m (at + o)
   s ← marked_place z r.1 p
-  n ← marked_put z.stand_ins s.1 s.0 r.0
+  n ← marked_put z.stuck_faults s.1 s.0 r.0
   marked_outputs z at rest n
 
--- the step of a FOR: 1 where none is written
+-- the step of a FOR: 1 if none is written
 abbrev pub marked_step : MarkedScope → Tracked → Option SlotExpr → Run (ℤ × Tracked)
 marked_step z m None = give (pos 1, m)
 marked_step z m (Some e) = do
@@ -104,19 +104,19 @@ marked_step z m (Some e) = do
   give (r.0.number, r.1)
 
 -- the control variable has not passed the limit
-unfoldable pub marked_runs_on : StandIns → ℕ → ℤ → ℤ → Tracked → Run (Bool × Tracked)
+unfoldable pub marked_runs_on : StuckFaults → ℕ → ℤ → ℤ → Tracked → Run (Bool × Tracked)
 marked_runs_on t k limit step m = do
   r ← marked_look t ill_typed m k
   give ((if int_lt step (pos 0) then int_le limit r.0.number else int_le r.0.number limit), r.1)
 
--- the control variable one step on; the loop is over where there is no step
-abbrev pub marked_step_of : StandIns → ℕ → Option Datum → Tracked → Run (TurnOf Tracked)
+-- the control variable one step on; the loop is over if there is no step
+abbrev pub marked_step_of : StuckFaults → ℕ → Option Datum → Tracked → Run (IterationOf Tracked)
 marked_step_of t k None m = give (over (goes_on m))
 marked_step_of t k (Some v) m = do
   n ← marked_put t m k v
   give (again n)
 
-unfoldable pub marked_step_on : StandIns → ℕ → ℤ → Tracked → Run (TurnOf Tracked)
+unfoldable pub marked_step_on : StuckFaults → ℕ → ℤ → Tracked → Run (IterationOf Tracked)
 marked_step_on t k step m = do
   r ← marked_look t ill_typed m k
   marked_step_of t k (stepped_on step r.0) r.1
@@ -126,14 +126,14 @@ abbrev pub marked_assigning : MarkedScope → Place → SlotExpr → Tracked →
 marked_assigning z p e m = do
   r ← marked_value z m e
   s ← marked_place z r.1 p
-  n ← marked_put z.stand_ins s.1 s.0 r.0
+  n ← marked_put z.stuck_faults s.1 s.0 r.0
   give (goes_on n)
 
 -- a call of an instance from a slot on: its inputs, its body, its outputs
 abbrev pub marked_invoking : MarkedScope → ℕ → BlockCode → List SlotArgument → Tracked → Run MarkedEnd
 marked_invoking z at code arguments m = do
   r ← marked_inputs z m arguments
-  n ← marked_stored z.stand_ins at r.0 r.1
+  n ← marked_stored z.stuck_faults at r.0 r.1
   i ← z.units.blocks code at n
   j ← marked_outputs z at arguments i
   give (goes_on j)
@@ -146,8 +146,8 @@ marked_counting z k start limit step body m = do
   n ← marked_value z i.1 limit
   d ← marked_step z n.1 step
   nonzero d.0
-  us ← marked_put z.stand_ins d.1 k i.0
-  marked_loop (marked_guarded (marked_runs_on z.stand_ins k n.0.number d.0) body) (marked_step_on z.stand_ins k d.0) us
+  us ← marked_put z.stuck_faults d.1 k i.0
+  marked_loop (marked_guarded (marked_runs_on z.stuck_faults k n.0.number d.0) body) (marked_step_on z.stuck_faults k d.0) us
 
 abbrev mutual
   pub marked_exec : MarkedScope → SlotStmt → Tracked → Run MarkedEnd
@@ -172,7 +172,7 @@ abbrev mutual
   marked_exec_all z no_stmts m = give (goes_on m)
   marked_exec_all z (stmt_then x xs) m = do
     e ← marked_exec z x m
-    behind e (marked_exec_all z xs)
+    continue_with e (marked_exec_all z xs)
 
   -- the statements of the first condition that holds, or those after them all
   pub marked_exec_arms : MarkedScope → SlotArms → (Tracked → Run MarkedEnd) → Tracked → Run MarkedEnd

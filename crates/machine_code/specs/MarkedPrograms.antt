@@ -7,10 +7,10 @@ use Rattle.slot_trees.specs.SlotRuns.{state_of}
 use Rattle.machine_code.specs.MarkedExecution.{MarkedEnd}
 
 -- with the ticks that it leaves and its values and their marks in the first slots, one for each, or with its fault
-abbrev pub MarkedEndsSo : ℕ → Result (MarkedEnd × ℕ) Fault → Ending Tracked → Type 0
-MarkedEndsSo size (Ok r) (finished m b) =
+abbrev pub MarkedEndsAs : ℕ → Result (MarkedEnd × ℕ) Fault → Ending Tracked → Type 0
+MarkedEndsAs size (Ok r) (finished m b) =
     (b ≡ r.1) × (take size m.values ≡ (state_of r.0).values) × (take size m.marks ≡ (state_of r.0).marks)
     × (length (state_of r.0).marks ≡ size)
-MarkedEndsSo size (Err f) (failed m g) = g ≡ f
-MarkedEndsSo size (Ok r) (failed m g) = ⊥
-MarkedEndsSo size (Err f) (finished m b) = ⊥
+MarkedEndsAs size (Err f) (failed m g) = g ≡ f
+MarkedEndsAs size (Ok r) (failed m g) = ⊥
+MarkedEndsAs size (Err f) (finished m b) = ⊥

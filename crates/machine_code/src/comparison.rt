@@ -6,28 +6,28 @@ use crate::instr::Instr;
 use st_types::{BinaryOperator, Kind, UnaryOperator};
 use symbols::{Standard, StandardBlock};
 
-/// Whether the two are one operator.
+/// Whether the two are the same operator.
 fn same_unary(this: UnaryOperator, that: UnaryOperator) -> bool
     ensures { IsTrue result ↔ (this ≡ that) }
 {
     this == that
 }
 
-/// Whether the two are one operator.
+/// Whether the two are the same operator.
 fn same_binary(this: BinaryOperator, that: BinaryOperator) -> bool
     ensures { IsTrue result ↔ (this ≡ that) }
 {
     this == that
 }
 
-/// Whether the two are one type.
+/// Whether the two are the same type.
 fn same_kind(this: Kind, that: Kind) -> bool
     ensures { IsTrue result ↔ (this ≡ that) }
 {
     this.is(that)
 }
 
-/// Whether the two are one standard function.
+/// Whether the two are the same standard function.
 fn same_standard(this: Standard, that: Standard) -> bool
     ensures { IsTrue result ↔ (this ≡ that) }
 {
@@ -50,7 +50,7 @@ fn same_standard(this: Standard, that: Standard) -> bool
     }
 }
 
-/// Whether the two are one standard block.
+/// Whether the two are the same standard block.
 fn same_block(this: StandardBlock, that: StandardBlock) -> bool
     ensures { IsTrue result ↔ (this ≡ that) }
 {
@@ -58,7 +58,7 @@ fn same_block(this: StandardBlock, that: StandardBlock) -> bool
 }
 
 impl Instr {
-    /// Whether the two are one instruction.
+    /// Whether the two are the same instruction.
     pub fn is(self, other: Instr) -> bool
         ensures { IsTrue result ↔ (self ≡ other) }
     {
@@ -74,52 +74,52 @@ impl Instr {
                 Instr::Load(b) => a == b,
                 _ => false,
             },
-            Instr::Fetch(a) => match other {
-                Instr::Fetch(b) => a == b,
+            Instr::LoadRaw(a) => match other {
+                Instr::LoadRaw(b) => a == b,
                 _ => false,
             },
             Instr::Store(a) => match other {
                 Instr::Store(b) => a == b,
                 _ => false,
             },
-            Instr::Reset(a) => match other {
-                Instr::Reset(b) => a == b,
+            Instr::StoreRaw(a) => match other {
+                Instr::StoreRaw(b) => a == b,
                 _ => false,
             },
-            Instr::Turn(a) => match other {
-                Instr::Turn(b) => a == b,
+            Instr::Reverse(a) => match other {
+                Instr::Reverse(b) => a == b,
                 _ => false,
             },
             Instr::Jump(a) => match other {
                 Instr::Jump(b) => a == b,
                 _ => false,
             },
-            Instr::Unless(a) => match other {
-                Instr::Unless(b) => a == b,
+            Instr::JumpIfFalse(a) => match other {
+                Instr::JumpIfFalse(b) => a == b,
                 _ => false,
             },
-            Instr::When(a) => match other {
-                Instr::When(b) => a == b,
+            Instr::JumpIfTrue(a) => match other {
+                Instr::JumpIfTrue(b) => a == b,
                 _ => false,
             },
-            Instr::Back(a) => match other {
-                Instr::Back(b) => a == b,
+            Instr::LoopBack(a) => match other {
+                Instr::LoopBack(b) => a == b,
                 _ => false,
             },
-            Instr::Leave(a) => match other {
-                Instr::Leave(b) => a == b,
+            Instr::Pop(a) => match other {
+                Instr::Pop(b) => a == b,
                 _ => false,
             },
             Instr::ForBegin(a) => match other {
                 Instr::ForBegin(b) => a == b,
                 _ => false,
             },
-            Instr::Equals(a) => match other {
-                Instr::Equals(b) => a == b,
+            Instr::JumpIfEqual(a) => match other {
+                Instr::JumpIfEqual(b) => a == b,
                 _ => false,
             },
-            Instr::Within(a) => match other {
-                Instr::Within(b) => a == b,
+            Instr::JumpIfWithin(a) => match other {
+                Instr::JumpIfWithin(b) => a == b,
                 _ => false,
             },
             Instr::Unary(a) => match other {

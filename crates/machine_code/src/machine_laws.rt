@@ -4,7 +4,7 @@ ghost use Rattle.std.specs.Prelude.{◌≡◌, ◌≤◌, ◌*◌, ℕ, zero, su
 ghost use Rattle.std.specs.Prelude.{slice_set};
 ghost use Rattle.st_types.specs.Kinds.{holds};
 ghost use Rattle.st_types.specs.Values.{Datum};
-ghost use Rattle.st_meaning.specs.Failures.{StandIns};
+ghost use Rattle.st_meaning.specs.Failures.{StuckFaults};
 ghost use Rattle.machine_code.specs.declared.instr.Instr as instr;
 ghost use Rattle.machine_code.specs.Memories.{plain};
 ghost use Rattle.machine_code.specs.Machine.{act, exec, runs, finished};
@@ -16,23 +16,23 @@ ghost use Rattle.machine_code.specs.Asking.{IsOnlyLookedUp, FailsWith};
 /// the end of its code, and is over within as many instructions as the code has, and one, for each tick of its
 /// budget, and one: whatever its code is.
 pub fn machine_goes_on()
-    ensures instruction { (t : StandIns) (now : ℕ) (code : List instr.Instr) (p : ℕ) (st vs : List Datum) (budget : ℕ)
+    ensures instruction { (t : StuckFaults) (now : ℕ) (code : List instr.Instr) (p : ℕ) (st vs : List Datum) (budget : ℕ)
         → runs plain t now code (suc p) st vs budget
         ≡ act plain t now (length code) (slice_get code p) (runs plain t now code) p st vs budget }
-    ensures end { (t : StandIns) (now : ℕ) (code : List instr.Instr) (st vs : List Datum) (budget : ℕ)
+    ensures end { (t : StuckFaults) (now : ℕ) (code : List instr.Instr) (st vs : List Datum) (budget : ℕ)
         → runs plain t now code zero st vs budget ≡ finished vs budget }
-    ensures over { (t : StandIns) (now : ℕ) (code : List instr.Instr) (p : ℕ) (st vs : List Datum) (budget : ℕ)
+    ensures over { (t : StuckFaults) (now : ℕ) (code : List instr.Instr) (p : ℕ) (st vs : List Datum) (budget : ℕ)
         → p ≤ length code → runs plain t now code p st vs budget
         ≡ exec plain t now code (suc budget * suc (length code)) p st vs budget }
 {}
 
 /// A run that marks what it reads ends as one that does not. Over other values of the same types, which are the same
-/// wherever it looked a value up before it assigned the slot, the machine ends alike: with the same fault, or with as
-/// many ticks left, what the marked run assigned, and all else as it was.
+/// wherever it looked a value up before it assigned the slot, the machine ends alike: with the same fault, or with as many
+/// ticks left, the values that the marked run assigned, and all else as it was.
 pub fn reads_suffice()
-    ensures same { (t : StandIns) (now : ℕ) (code : List instr.Instr) (p : ℕ) (m : Tracked) (budget : ℕ)
+    ensures same { (t : StuckFaults) (now : ℕ) (code : List instr.Instr) (p : ℕ) (m : Tracked) (budget : ℕ)
         → runs plain t now code p [] m.values budget ≡ unmarked (runs tracking t now code p [] m budget) }
-    ensures others { (t : StandIns) (now : ℕ) (code : List instr.Instr) (p : ℕ) (m : Tracked) (us : List Datum)
+    ensures others { (t : StuckFaults) (now : ℕ) (code : List instr.Instr) (p : ℕ) (m : Tracked) (us : List Datum)
         (budget : ℕ) → length m.marks ≡ length m.values → ((k : ℕ) → is_assigned_in m k ≡ false)
         → ((k : ℕ) → AreOfKind (slice_get m.values k) (slice_get us k))
         → ((k : ℕ) → is_read_in (memory_of (runs tracking t now code p [] m budget)) k ≡ true
@@ -40,11 +40,10 @@ pub fn reads_suffice()
         → EndsLike us (runs tracking t now code p [] m budget) (runs plain t now code p [] us budget) }
 {}
 
-/// A slot that code only looks up, whose value it never takes as it is. Where a run reads it, the run over the same
-/// values but one there that its type does not hold ends with whatever fault stands for what has no value: so the run
-/// asks for it.
+/// A slot that code only looks up, whose value it never takes as it is. If a run reads it, the run over the same values but
+/// one there that its type does not hold ends with whatever fault stands for a missing value: so the run asks for it.
 pub fn what_is_read_is_asked_for()
-    ensures { (t u : StandIns) (now : ℕ) (code : List instr.Instr) (p : ℕ) (m : Tracked) (budget k : ℕ) (v w : Datum)
+    ensures { (t u : StuckFaults) (now : ℕ) (code : List instr.Instr) (p : ℕ) (m : Tracked) (budget k : ℕ) (v w : Datum)
         → length m.marks ≡ length m.values → is_read_in m k ≡ false → is_assigned_in m k ≡ false
         → slice_get m.values k ≡ Some v → v.kind ≡ w.kind → holds w.kind w.number ≡ false → IsOnlyLookedUp code k
         → is_read_in (memory_of (runs tracking t now code p [] m budget)) k ≡ true

@@ -1,6 +1,6 @@
-//! What a run leaves in a slot's mark.
+//! The mark that a run leaves on a slot.
 
-/// What a run did with a slot.
+/// How a run used a slot.
 #[derive(Clone, Copy)]
 pub struct Mark {
     /// It looked the slot up before it assigned it.

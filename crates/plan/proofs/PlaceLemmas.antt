@@ -1,4 +1,4 @@
--- Paths in a layout stand where a plan has them.
+-- Paths have the same places in a layout and in a plan.
 use Rattle.std.proofs.Common.{◌≡◌, ◌<◌, ◌+◌, ℕ, zero, suc, refl, sym, ap, ap₂, ◌∙◌, subst, arith, Bool, true, false}
 use Rattle.std.proofs.Common.{if◌then◌else◌, List, [], ◌∷◌, ◌++◌, map, length, Option, Some, None}
 use Rattle.std.proofs.lemmas.List.{length-map}
@@ -19,7 +19,7 @@ use Rattle.plan.specs.SlotPlaces.{place_among, place_of}
 use Rattle.plan.specs.declared.slots.SlotPlace.{SlotPlace}
 use Rattle.plan.specs.declared.slots.SlotPlace.TheVariants.{Input, Variable}
 
--- a path stands not both among the inputs and among the variables
+-- a path is not both among the inputs and among the variables
 abbrev IsApart : Option ℕ → Option ℕ → Type 0
 IsApart i v = (k j : ℕ) → i ≡ Some k → v ≡ Some j → ⊥
 
@@ -29,7 +29,7 @@ among_inputs p xs = position (λ i. same_path p i.path) xs
 abbrev among_variables : Path → List PlanVariable → Option ℕ
 among_variables p xs = position (λ v. same_path p v.path) xs
 
--- the first slot of a path, where the numbers begin so
+-- the first slot of a path, if the numbers begin at these
 abbrev first_place : ℕ → ℕ → List LayoutSlot → Path → Option SlotPlace
 first_place v i [] p = None
 first_place v i (s ∷ ss) p = if same_path p s.path
@@ -109,7 +109,7 @@ places (s ∷ ss) v i p = by_test s.is_input refl (places ss v (suc i) p) (place
         (on_variable (same_path p s.path) v i (among_inputs p (inputs_among ss)) (among_variables p (variables_among ss))
         (first_place (suc v) i ss p) other))
 
--- no path of the inputs is one of the variables, where each path has one slot
+-- no path of the inputs is one of the variables, if each path has one slot
 numbered_variable : (vs : List PlanVariable) (rest : List Slot) (p : Path) (j : ℕ) → among_variables p vs ≡ Some j
     → (slot_of (map variable_slot vs ++ rest) p ≡ Some j) × (j < length vs)
 numbered_variable [] rest p j h = absurd (cc)
@@ -173,7 +173,7 @@ none_more : (o : Option ℕ) → option_map (λ n. 0 + n) o ≡ o
 none_more None = refl
 none_more (Some n) = let e : 0 + n ≡ n = omega arith in ap Some e
 
--- what stands in the slot of a path
+-- the place in the slot of a path
 place_is : (ss : List LayoutSlot) (p : Path) → IsLayout (layout_of (variables_among ss) (inputs_among ss))
     → at_number (numbered_from 0 0 ss) (slot_number ss p) ≡ place_of (variables_among ss) (inputs_among ss) p
 place_is ss p once =

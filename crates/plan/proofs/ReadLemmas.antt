@@ -10,13 +10,13 @@ use Rattle.st_types.specs.declared.kind.Kind.{Kind}
 use Rattle.st_types.specs.declared.kind.Kind.TheVariants.{Sint, Int, Dint, Lint, Usint, Uint, Udint, Ulint, Byte, Word}
 use Rattle.st_types.specs.declared.kind.Kind.TheVariants.{Dword, Lword, Time, Bool as Boolean, Enumerated}
 use Rattle.st_types.specs.Kinds.{holds, greatest}
-use Rattle.st_types.specs.Values.{Datum, datum_of_truth}
+use Rattle.st_types.specs.Values.{Datum, bool_datum}
 use Rattle.st_types.specs.declared.fault.Fault.{Fault}
 use Rattle.st_meaning.specs.Failures.{in_runs, with_missing}
 use Rattle.st_meaning.specs.Evaluation.{known}
 use Rattle.st_meaning.specs.Asked.{IsAsked, not_held, without_value}
 use Rattle.st_meaning.specs.Runs.{Program}
-use Rattle.st_meaning.specs.Slots.{Slot, IsLayout, AreOfTypes, variables_in, inputs_in}
+use Rattle.st_meaning.specs.Slots.{Slot, IsLayout, AreOfTypes, variables_with, inputs_in}
 use Rattle.st_meaning.proofs.SlotLemmas.{seen_slot}
 use Rattle.slot_trees.specs.Seeing.{Sees}
 use Rattle.machine_code.specs.declared.mark.Mark.{Mark}
@@ -24,12 +24,15 @@ use Rattle.machine_code.specs.Tracking.{are_read, read_by, assigned_by, memory_o
 use Rattle.machine_code.specs.Asking.{IsOnlyLookedUp, FailsWith}
 use Rattle.machine_code.proofs.Asks.{reads_are_asked}
 use Rattle.slot_code.specs.Codes.{CodeView}
-use Rattle.slot_code.specs.Meanings.{FailsAlike, code_run_where}
+use Rattle.slot_code.specs.Meanings.{FailsEqually, code_run_where}
 use Rattle.slot_memory.specs.Cells.{picked}
-use Rattle.slot_run.specs.Runs.{unmarked, beginning, marked_run, reads_of}
+use Rattle.slot_run.specs.Runs.{marked_run, reads_of}
 use Rattle.plan.proofs.WithoutValues.{variables_without, inputs_without}
+use Rattle.st_meaning.proofs.AskedLemmas.{past_the_greatest}
+use Rattle.slot_run.proofs.TrueLemmas.{in_front, none_marked, as_many_slots}
+use Rattle.slot_code.specs.Quick.{unmarked, unmarked_slots}
 
--- What was picked at a number was marked, and has a value.
+-- A slot that was picked at a number was marked, and has a value.
 record WasPicked (marks : List Mark) (us : List Datum) (i : ℕ) : Type 0 where
   mark : read_by (slice_get marks i) ≡ true
   value : Datum
@@ -80,33 +83,6 @@ was_picked marks us k h =
     let e : p.0 ≡ k = (let f = p.1 in omega arith) in
     subst (WasPicked marks us) e p.2
 
--- A number past the greatest is none of its type.
-past_the_greatest : (k : Kind) → holds k (greatest k +ℤ pos 1) ≡ false
-past_the_greatest Sint = refl
-past_the_greatest Int = refl
-past_the_greatest Dint = refl
-past_the_greatest Lint = refl
-past_the_greatest Usint = refl
-past_the_greatest Uint = refl
-past_the_greatest Udint = refl
-past_the_greatest Ulint = refl
-past_the_greatest Byte = refl
-past_the_greatest Word = refl
-past_the_greatest Dword = refl
-past_the_greatest Lword = refl
-past_the_greatest Time = refl
-past_the_greatest Boolean = refl
-past_the_greatest (Enumerated names number) = above (names - 1)
-  where
-    above : (n : ℕ) → nat_le 0 (n + 1) && nat_le (n + 1) n ≡ false
-    above n = grind (arith, nat_tests)
-
--- Values and what stands behind them.
-in_front : (us rest : List Datum) (k : ℕ) (u : Datum) → slice_get us k ≡ Some u → slice_get (us ++ rest) k ≡ Some u
-in_front [] rest k u e = absurd (cc)
-in_front (v ∷ us) rest zero u e = e
-in_front (v ∷ us) rest (suc k) u e = in_front us rest k u e
-
 set_in_front : (us rest : List Datum) (k : ℕ) (u w : Datum) → slice_get us k ≡ Some u
     → slice_set (us ++ rest) k w ≡ slice_set us k w ++ rest
 set_in_front [] rest k u w e = absurd (cc)
@@ -118,23 +94,12 @@ none_read zero k = refl
 none_read (suc n) zero = refl
 none_read (suc n) (suc k) = none_read n k
 
-none_assigned : (n k : ℕ) → assigned_by (slice_get (replicate n unmarked) k) ≡ false
-none_assigned zero k = refl
-none_assigned (suc n) zero = refl
-none_assigned (suc n) (suc k) = none_assigned n k
-
-as_many : (layout : List Slot) (vs : List Datum) → AreOfTypes layout vs → length layout ≡ length vs
-as_many [] [] h = refl
-as_many [] (v ∷ vs) h = absurd (cc)
-as_many (l ∷ ls) [] h = absurd (cc)
-as_many (l ∷ ls) (v ∷ vs) h = ap suc (as_many ls vs (cc))
-
 set_kinds : (layout : List Slot) (vs : List Datum) (k : ℕ) (v : Datum) → slice_get vs k ≡ Some v
     → AreOfTypes layout vs → length layout ≡ length (slice_set vs k (not_held v))
 set_kinds [] [] k v e h = absurd (cc)
 set_kinds [] (u ∷ vs) k v e h = absurd (cc)
 set_kinds (l ∷ ls) [] k v e h = absurd (cc)
-set_kinds (l ∷ ls) (u ∷ vs) zero v e h = ap suc (as_many ls vs (cc))
+set_kinds (l ∷ ls) (u ∷ vs) zero v e h = ap suc (as_many_slots ls vs (cc))
 set_kinds (l ∷ ls) (u ∷ vs) (suc k) v e h = ap suc (set_kinds ls vs k v e (cc))
 
 no_value : (w : Datum) → holds w.kind w.number ≡ false → known (Some w) ≡ None
@@ -144,31 +109,31 @@ is_some : (o : Option Datum) (v : Datum) → o ≡ Some v → IsSome o
 is_some o v e = subst IsSome (sym e) refl
 
 module _ (layout : List Slot) (code : CodeView) (program : Program) (now budget : ℕ) (us : List Datum)
-    (k : ℕ) (l : Slot) (alike : FailsAlike layout code program)
+    (k : ℕ) (l : Slot) (alike : FailsEqually layout code program)
     (distinct : IsLayout layout) (typed : AreOfTypes layout us) (at : slice_get layout k ≡ Some l)
     (only : IsOnlyLookedUp code.instrs k)
     (read : list_any (λ c. c.0 == k) (reads_of (marked_run code now us budget) us) ≡ true) where
   abbrev spare : List Datum
-  spare = replicate code.extra (datum_of_truth false)
+  spare = replicate code.extra (bool_datum false)
 
   picked_so : WasPicked (memory_of (marked_run code now us budget)).marks us k
   picked_so = was_picked (memory_of (marked_run code now us budget)).marks us k read
 
-  -- the machine ends with what stands for the value
+  -- the machine ends with the stand-in for the value
   machine_fails : (f : Fault) → FailsWith f (code_run_where (with_missing f) code now
       (slice_set us k (not_held picked_so.value) ++ spare) budget)
   machine_fails f =
       let v = picked_so.value in
       let memory = us ++ spare in
-      let h = reads_are_asked in_runs (with_missing f) now code.instrs (length code.instrs) (beginning memory) budget k
+      let h = reads_are_asked in_runs (with_missing f) now code.instrs (length code.instrs) (unmarked_slots memory) budget k
       v (not_held v) (length-replicate (length memory) unmarked) (none_read (length memory) k)
-      (none_assigned (length memory) k) (in_front us spare k v picked_so.there) refl
+      (none_marked (length memory) k) (in_front us spare k v picked_so.there) refl
       (no_value (not_held v) (past_the_greatest v.kind)) only picked_so.mark in
       subst (λ xs. FailsWith f (code_run_where (with_missing f) code now xs budget))
       (set_in_front us spare k v (not_held v) picked_so.there) h
 
   seen_without : Sees layout (without_value (inputs_in layout us) l.path)
-      (without_value (variables_in layout us) l.path) (slice_set us k (not_held picked_so.value))
+      (without_value (variables_with layout us) l.path) (slice_set us k (not_held picked_so.value))
   seen_without = record {
     variables = variables_without layout us k l picked_so.value distinct at picked_so.there;
     inputs = inputs_without layout us k l picked_so.value distinct at picked_so.there;
@@ -176,12 +141,12 @@ module _ (layout : List Slot) (code : CodeView) (program : Program) (now budget 
   }
 
   pub is_asked : l.path.owner ≡ None
-      → IsAsked program budget (variables_in layout us) (inputs_in layout us) now l.path
+      → IsAsked program budget (variables_with layout us) (inputs_in layout us) now l.path
   is_asked of_nobody = record {
     of_nobody = of_nobody;
-    is_there = is_some _ picked_so.value (seen_slot layout us distinct (as_many layout us typed) k l at
+    is_there = is_some _ picked_so.value (seen_slot layout us distinct (as_many_slots layout us typed) k l at
         ∙ picked_so.there);
     is_wanted = λ f. alike.fails (with_missing f) f (without_value (inputs_in layout us) l.path)
-        (without_value (variables_in layout us) l.path) (slice_set us k (not_held picked_so.value)) spare now budget
-        seen_without (length-replicate code.extra (datum_of_truth false)) (machine_fails f);
+        (without_value (variables_with layout us) l.path) (slice_set us k (not_held picked_so.value)) spare now budget
+        seen_without (length-replicate code.extra (bool_datum false)) (machine_fails f);
   }

@@ -1,41 +1,39 @@
--- What stands in the slots of a plan.
-use Rattle.std.proofs.Common.{◌≡◌, ◌<◌, ◌≤◌, ◌+◌, ℕ, zero, suc, refl, sym, ap, ap₂, ◌∙◌, subst, arith, true, false}
+-- The contents of a plan's slots.
+use Rattle.std.proofs.Common.{◌≡◌, ◌<◌, ◌≤◌, ◌+◌, ℕ, zero, suc, refl, sym, ap, ap₂, ◌∙◌, subst, arith, true}
 use Rattle.std.proofs.Common.{List, [], ◌∷◌, ◌++◌, map, length, Option, Some, None}
-use Rattle.std.proofs.Common.{Bool, ◌&&◌, drop, slice_index_or, append_assoc}
+use Rattle.std.proofs.Common.{drop, slice_index_or, append_assoc}
 use Rattle.std.proofs.Math.Seq.{drop-cons}
 use Rattle.std.proofs.Math.Numerals.{suc-eq-add-one}
 use Rattle.std.proofs.Common.{◌-◌}
 use Rattle.std.proofs.lemmas.List.{length-set}
 use Rattle.std.specs.Prelude.{◌==◌, slice_get, slice_set}
+use Rattle.std.proofs.lemmas.Bool.{and_parts}
 use Rattle.st_types.specs.Values.{Datum}
-use Rattle.st_meaning.specs.Slots.{Slot, Cell, variables_in, inputs_in, written, AreOfTypes}
+use Rattle.st_meaning.specs.Slots.{Slot, Cell, variables_with, inputs_in, after_writes, AreOfTypes}
 use Rattle.st_meaning.specs.declared.plan.PlanInput.{PlanInput}
 use Rattle.st_meaning.specs.declared.plan.PlanVariable.{PlanVariable}
 use Rattle.st_meaning.specs.Layouts.{layout_of, variable_slot, input_slot}
 use Rattle.st_meaning.specs.Plans.{image_of}
 use Rattle.plan.specs.declared.slots.SlotPlace.{SlotPlace}
 use Rattle.plan.specs.declared.slots.SlotPlace.TheVariants.{Input, Variable}
-use Rattle.plan.specs.SlotPlaces.{are_numbered, merged, slots_among, value_in, put_in, written_variables}
+use Rattle.plan.specs.SlotPlaces.{are_numbered, merged, slots_among, value_at_place, put_in, written_variables}
+use Rattle.st_types.proofs.ListLemmas.{map_map}
 
--- variables and inputs are numbered as they stand
+-- variables and inputs are numbered in their order
 abbrev pub AreNumbered : ℕ → ℕ → List SlotPlace → ℕ → ℕ → Type 0
 AreNumbered v i [] n m = (v ≡ n) × (i ≡ m)
 AreNumbered v i (Variable k ∷ ps) n m = (k ≡ v) × AreNumbered (suc v) i ps n m
 AreNumbered v i (Input k ∷ ps) n m = (k ≡ i) × AreNumbered v (suc i) ps n m
 
-both : (a b : Bool) → (a && b) ≡ true → (a ≡ true) × (b ≡ true)
-both true b h = (refl, h)
-both false b h = absurd (cc)
-
 pub numbered : (ps : List SlotPlace) (v i n m : ℕ) → are_numbered v i ps n m ≡ true → AreNumbered v i ps n m
 numbered [] v i n m h =
-    let b = both (v == n) (i == m) h in
+    let b = and_parts (v == n) (i == m) h in
     let x : (v == n) ≡ true = b.0 in let y : (i == m) ≡ true = b.1 in (grind arith, grind arith)
 numbered (Variable k ∷ ps) v i n m h =
-    let b = both (k == v) (are_numbered (suc v) i ps n m) h in
+    let b = and_parts (k == v) (are_numbered (suc v) i ps n m) h in
     let x : (k == v) ≡ true = b.0 in (grind arith, numbered ps (suc v) i n m b.1)
 numbered (Input k ∷ ps) v i n m h =
-    let b = both (k == i) (are_numbered v (suc i) ps n m) h in
+    let b = and_parts (k == i) (are_numbered v (suc i) ps n m) h in
     let x : (k == i) ≡ true = b.0 in (grind arith, numbered ps v (suc i) n m b.1)
 
 -- from the first on
@@ -46,12 +44,12 @@ from_first ps n m h =
     subst (λ x. AreNumbered 0 0 ps x (0 + m)) a (subst (λ y. AreNumbered 0 0 ps n y) b (numbered ps 0 0 n m h))
 
 -- numbers only rise
-rising : (ps : List SlotPlace) (v i n m : ℕ) → AreNumbered v i ps n m → (v ≤ n) × (i ≤ m)
+pub rising : (ps : List SlotPlace) (v i n m : ℕ) → AreNumbered v i ps n m → (v ≤ n) × (i ≤ m)
 rising [] v i n m h = (omega arith, omega arith)
 rising (Variable k ∷ ps) v i n m h = let r = rising ps (suc v) i n m h.1 in (omega arith, r.1)
 rising (Input k ∷ ps) v i n m h = let r = rising ps v (suc i) n m h.1 in (r.0, omega arith)
 
--- a variable less, or an input less
+-- one variable less, or one input less
 one_variable : (ps : List SlotPlace) (v i n m : ℕ) → AreNumbered (suc v) i ps (v + suc n) m
     → AreNumbered (suc v) i ps (suc v + n) m
 one_variable ps v i n m h = let e : v + suc n ≡ suc v + n = omega arith in
@@ -62,7 +60,7 @@ one_input : (ps : List SlotPlace) (v i n m : ℕ) → AreNumbered v (suc i) ps n
 one_input ps v i n m h = let e : i + suc m ≡ suc i + m = omega arith in
     subst (λ a. AreNumbered v (suc i) ps n a) e h
 
--- there is one
+-- there is a variable
 some_variable : {A : Type 0} (ps : List SlotPlace) (v i m : ℕ) (vs : List A) → AreNumbered (suc v) i ps (v + length vs) m
     → 0 < length vs
 some_variable ps v i m vs h = let r = rising ps (suc v) i (v + length vs) m h in
@@ -73,15 +71,15 @@ some_input : {A : Type 0} (ps : List SlotPlace) (v i n : ℕ) (xs : List A) → 
 some_input ps v i n xs h = let r = rising ps v (suc i) n (i + length xs) h in
     let le : suc i ≤ i + length xs = r.1 in omega arith
 
-no_values : (all : List Slot) → variables_in all [] ≡ []
+no_values : (all : List Slot) → variables_with all [] ≡ []
 no_values [] = refl
 no_values (l ∷ ls) = refl
 
 pub variables_merged : (all : List Slot) (ps : List SlotPlace) (v i : ℕ) (ws : List PlanVariable) (js : List PlanInput)
     (vs xs : List Datum) → AreNumbered v i ps (v + length ws) (i + length js) → length vs ≡ length ws
     → length xs ≡ length js
-    → variables_in (merged ps (map variable_slot ws) (map input_slot js)) (merged ps vs xs)
-    ≡ variables_in (map variable_slot ws ++ all) vs
+    → variables_with (merged ps (map variable_slot ws) (map input_slot js)) (merged ps vs xs)
+    ≡ variables_with (map variable_slot ws ++ all) vs
 variables_merged all [] v i [] js [] xs h a b = sym (no_values all)
 variables_merged all [] v i [] js (x ∷ vs) xs h a b = absurd (omega arith)
 variables_merged all [] v i (w ∷ ws) js vs xs h a b = absurd (omega arith)
@@ -127,10 +125,6 @@ map_merged f (Variable k ∷ ps) (v ∷ vs) xs = ap (λ s. f v ∷ s) (map_merge
 map_merged f (Input k ∷ ps) vs [] = refl
 map_merged f (Input k ∷ ps) vs (x ∷ xs) = ap (λ s. f x ∷ s) (map_merged f ps vs xs)
 
-map_map : {A B C : Type 0} (f : B → C) (g : A → B) (xs : List A) → map f (map g xs) ≡ map (λ x. f (g x)) xs
-map_map f g [] = refl
-map_map f g (x ∷ xs) = ap (λ s. f (g x) ∷ s) (map_map f g xs)
-
 pub typed_merged : (ps : List SlotPlace) (ws : List PlanVariable) (js : List PlanInput) (vs xs : List Datum)
     → map (λ v. v.kind) vs ≡ map (λ w. w.initial.kind) ws → map (λ v. v.kind) xs ≡ map (λ j. j.kind) js
     → AreOfTypes (slots_among ps ws js) (merged ps vs xs)
@@ -139,7 +133,7 @@ typed_merged ps ws js vs xs a b =
     (b ∙ sym (map_map (λ l. l.kind) input_slot js))
     ∙ sym (map_merged (λ l. l.kind) ps (map variable_slot ws) (map input_slot js))
 
--- which values stand in a place, where the numbers begin so
+-- the value in a place, if the numbers begin at these
 abbrev value_from : ℕ → ℕ → List Datum → List Datum → Option SlotPlace → Option Datum
 value_from v i vs xs None = None
 value_from v i vs xs (Some (Variable n)) = slice_get vs (n - v)
@@ -205,17 +199,17 @@ found_from (Input m ∷ ps) v i vs (x ∷ xs) (suc k) h =
     found_from ps v (suc i) vs xs k n
     ∙ behind_input v i x vs xs (slice_get ps k) (from_there ps v (suc i) (v + length vs) (suc i + length xs) k n)
 
-from_none : (vs xs : List Datum) (o : Option SlotPlace) → value_from 0 0 vs xs o ≡ value_in vs xs o
+from_none : (vs xs : List Datum) (o : Option SlotPlace) → value_from 0 0 vs xs o ≡ value_at_place vs xs o
 from_none vs xs None = refl
 from_none vs xs (Some (Variable n)) = let e : n - 0 ≡ n = omega arith in ap (slice_get vs) e
 from_none vs xs (Some (Input n)) = let e : n - 0 ≡ n = omega arith in ap (slice_get xs) e
 
 pub found_merged : (ps : List SlotPlace) (vs xs : List Datum) (k : ℕ)
     → AreNumbered 0 0 ps (0 + length vs) (0 + length xs)
-    → slice_get (merged ps vs xs) k ≡ value_in vs xs (slice_get ps k)
+    → slice_get (merged ps vs xs) k ≡ value_at_place vs xs (slice_get ps k)
 found_merged ps vs xs k h = found_from ps 0 0 vs xs k h ∙ from_none vs xs (slice_get ps k)
 
--- a value in a slot, where the numbers begin so
+-- a value in a slot, if the numbers begin at these
 abbrev set_from : ℕ → List Datum → Option SlotPlace → Datum → List Datum
 set_from v vs None d = vs
 set_from v vs (Some (Variable n)) d = slice_set vs (n - v) d
@@ -291,8 +285,8 @@ length_written ps vs (c ∷ cells) =
 pub variables_written : (ps : List SlotPlace) (ws : List PlanVariable) (js : List PlanInput) (cells : List Cell)
     (vs xs : List Datum) → are_numbered 0 0 ps (length ws) (length js) ≡ true → length vs ≡ length ws
     → length xs ≡ length js
-    → variables_in (slots_among ps ws js) (written (merged ps vs xs) cells)
-    ≡ variables_in (layout_of ws js) (written_variables ps vs cells)
+    → variables_with (slots_among ps ws js) (after_writes (merged ps vs xs) cells)
+    ≡ variables_with (layout_of ws js) (written_variables ps vs cells)
 variables_written ps ws js [] vs xs h a b =
     variables_merged (map input_slot js) ps 0 0 ws js vs xs (from_first ps (length ws) (length js) h) a b
 variables_written ps ws js (c ∷ cells) vs xs h a b =
@@ -300,12 +294,12 @@ variables_written ps ws js (c ∷ cells) vs xs h a b =
     subst (λ x. AreNumbered 0 0 ps (0 + x) (0 + length xs)) (sym a)
     (subst (λ y. AreNumbered 0 0 ps (0 + length ws) (0 + y)) (sym b) (from_first ps (length ws) (length js) h)) in
     let o = slice_get ps c.0 in
-    ap (λ t. variables_in (slots_among ps ws js) (written t cells))
+    ap (λ t. variables_with (slots_among ps ws js) (after_writes t cells))
     (set_merged ps 0 0 vs xs c.0 c.1 n ∙ ap (λ t. merged ps t (set_input 0 xs o c.1)) (put_from vs o c.1))
     ∙ variables_written ps ws js cells (put_in vs o c.1) (set_input 0 xs o c.1) h (length_put vs o c.1 ∙ a)
     (length_input 0 xs o c.1 ∙ b)
 
--- the next value, and what is merged behind it
+-- the next value, and those merged after it
 pub record Next (ps : List SlotPlace) (v i : ℕ) (vs xs : List Datum) (place : SlotPlace) (d : Datum) : Type 0 where
   pub variables : ℕ
   pub inputs : ℕ
@@ -355,7 +349,7 @@ pub below_inputs : (k : ℕ) (ps : List SlotPlace) (v i n m : ℕ) → AreNumber
 below_inputs k ps v i n m h =
     let r : suc i ≤ m = (rising ps v (suc i) n m h.1).1 in let e : k ≡ i = h.0 in omega arith
 
--- a value more
+-- one more value
 pub goes_on : (ps qs : List SlotPlace) (v i : ℕ) (vs xs done all whole : List Datum) (place : SlotPlace) (d : Datum)
     → qs ≡ place ∷ ps → done ++ merged qs (drop v vs) (drop i xs) ≡ whole → all ≡ done ++ d ∷ []
     → (n : Next ps v i vs xs place d)
@@ -372,7 +366,7 @@ pub from_place : (ps : List SlotPlace) (i : ℕ) (p q : SlotPlace) → i < lengt
 from_place ps i p q lt is =
     drop-cons ps i q lt ∙ ap (λ x. x ∷ drop (suc i) ps) is ∙ ap (λ n. p ∷ drop n ps) (suc-eq-add-one i)
 
--- an item does not hang on what stands for one that is not there
+-- an item doesn't depend on the stand-in for one that doesn't exist
 pub item_at : (vs : List Datum) (k : ℕ) (d e : Datum) → k < length vs → d ≡ slice_index_or vs k e
     → d ≡ slice_index_or vs k d
 item_at [] k d e lt is = absurd (omega arith)

@@ -6,19 +6,22 @@ use Rattle.std.proofs.lemmas.Bool.Decides.{nat_tests}
 use Rattle.st_types.specs.Values.{Datum}
 use Rattle.st_types.specs.Paths.{Path, same_path}
 use Rattle.st_meaning.specs.Stores.{Store}
-use Rattle.st_meaning.specs.Slots.{Slot, IsLayout, slot_of, variables_in, inputs_in}
+use Rattle.st_meaning.specs.Slots.{Slot, IsLayout, slot_of, variables_with, inputs_in}
 use Rattle.st_meaning.specs.Asked.{not_held, without_value}
 use Rattle.st_types.specs.Comparisons.{same_path_is, same_path_itself}
+use Rattle.std.proofs.lemmas.Option.{same_Some}
+use Rattle.std.proofs.lemmas.Bool.{false_from_ne_true}
+use Rattle.st_types.proofs.TestLemmas.{other_numbers}
 
 -- the path is that of the slot of this number alone
 abbrev StandsAt : List Slot → Path → ℕ → Type 0
 StandsAt layout p k = (j : ℕ) (l : Slot) → slice_get layout j ≡ Some l → same_path p l.path ≡ (j == k)
 
--- it is that of no slot
+-- it isn't the path of a slot
 abbrev StandsNowhere : List Slot → Path → Type 0
 StandsNowhere layout p = (j : ℕ) (l : Slot) → slice_get layout j ≡ Some l → same_path p l.path ≡ false
 
--- one entry more, of a variable or of an input
+-- one more entry, of a variable or of an input
 abbrev with_entry : Bool → Path → Datum → Store → Store
 with_entry t q v s = if t then (q, v) ∷ s else s
 
@@ -85,12 +88,12 @@ other t = if t then false else true
 abbrev itself : Bool → Bool
 itself t = t
 
-variables_are : (layout : List Slot) (vs : List Datum) → variables_in layout vs ≡ entries other layout vs
+variables_are : (layout : List Slot) (vs : List Datum) → variables_with layout vs ≡ entries other layout vs
 unfolding entries
 variables_are [] vs = refl
 variables_are (l ∷ ls) [] = refl
 variables_are (l ∷ ls) (v ∷ vs) =
-    variable_entry l.is_input l.path v (variables_in ls vs)
+    variable_entry l.is_input l.path v (variables_with ls vs)
     ∙ ap (with_entry (other l.is_input) l.path v) (variables_are ls vs)
 
 inputs_are : (layout : List Slot) (vs : List Datum) → inputs_in layout vs ≡ entries itself layout vs
@@ -99,17 +102,7 @@ inputs_are [] vs = refl
 inputs_are (l ∷ ls) [] = refl
 inputs_are (l ∷ ls) (v ∷ vs) = ap (with_entry l.is_input l.path v) (inputs_are ls vs)
 
-not_there : (t : Bool) → (t ≡ true → ⊥) → t ≡ false
-not_there true never = absurd (never refl)
-not_there false never = refl
-
-same_value : {A : Type 0} (a b : A) → Some a ≡ Some b → a ≡ b
-same_value a b e = cc
-
-no_place : (j k : ℕ) → (j == k) ≡ false → j ≡ k → ⊥
-no_place j k e is = grind (arith, nat_tests)
-
--- in a layout a path stands in its slot alone
+-- in a layout a path is in its slot alone
 stands_alone : (layout : List Slot) (k : ℕ) (l : Slot) → IsLayout layout → slice_get layout k ≡ Some l
     → StandsAt layout l.path k
 stands_alone layout k l distinct at j m there = by_test (j == k) refl
@@ -119,16 +112,16 @@ stands_alone layout k l distinct at j m there = by_test (j == k) refl
 
     by_test : (b : Bool) → (j == k) ≡ b → same_path l.path m.path ≡ b
     by_test true e =
-        let is = same_value _ _ (sym there ∙ ap (slice_get layout) (place e) ∙ at) in
+        let is = same_Some _ _ (sym there ∙ ap (slice_get layout) (place e) ∙ at) in
         ap (same_path l.path) (ap (λ (x : Slot). x.path) is) ∙ same_path_itself l.path
     by_test false e =
-        not_there (same_path l.path m.path) (λ same.
+        false_from_ne_true (same_path l.path m.path) (λ same.
         let path = same_path_is l.path m.path same in
-        no_place j k e (same_value _ _ (sym (distinct j m there) ∙ ap (slot_of layout) (sym path) ∙ distinct k l at)))
+        other_numbers j k e (same_Some _ _ (sym (distinct j m there) ∙ ap (slot_of layout) (sym path) ∙ distinct k l at)))
 
 pub variables_without : (layout : List Slot) (vs : List Datum) (k : ℕ) (l : Slot) (v : Datum) → IsLayout layout
     → slice_get layout k ≡ Some l → slice_get vs k ≡ Some v
-    → without_value (variables_in layout vs) l.path ≡ variables_in layout (slice_set vs k (not_held v))
+    → without_value (variables_with layout vs) l.path ≡ variables_with layout (slice_set vs k (not_held v))
 variables_without layout vs k l v distinct at here =
     ap (λ s. without_value s l.path) (variables_are layout vs)
     ∙ sym (one_goes other layout vs l.path k v (stands_alone layout k l distinct at) here)

@@ -1,4 +1,4 @@
--- What a plan has of its layout.
+-- The parts of a plan that its layout gives.
 use Rattle.std.specs.Prelude.{◌≡◌, List}
 use Rattle.st_meaning.specs.declared.plan.PlanInput.{PlanInput}
 use Rattle.st_meaning.specs.declared.plan.PlanVariable.{PlanVariable}

@@ -4,7 +4,7 @@ use Rattle.plan.specs.declared.slots.SlotPlace.{SlotPlace}
 use Rattle.plan.specs.declared.slots.SlotPlace.TheVariants.{Input, Variable}
 use Rattle.layout.specs.declared.slots.LayoutSlot.{LayoutSlot}
 
--- variables and inputs are numbered as they stand, from these numbers on
+-- variables and inputs are numbered in their order, from these numbers on
 abbrev pub numbered_from : ℕ → ℕ → List LayoutSlot → List SlotPlace
 numbered_from variables inputs [] = []
 numbered_from variables inputs (s ∷ ss) = if s.is_input

@@ -1,4 +1,4 @@
--- The plan that the code's plan stands for.
+-- The plan of the definitions, for the code's plan.
 use Rattle.std.specs.Prelude.{List, map, slice_get, Option, Some, None}
 use Rattle.std.specs.Vec.{vec_items}
 use Rattle.st_types.specs.Sources.{Source}

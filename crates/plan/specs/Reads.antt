@@ -1,4 +1,4 @@
--- What executions of a plan's programs read.
+-- The reads of executions of a plan's programs.
 use Rattle.std.specs.Prelude.{◌≡◌, ℕ, List, Some, slice_get}
 use Rattle.st_types.specs.SourceViews.{source_view}
 use Rattle.st_meaning.specs.Slots.{IsLayout, Slot}
@@ -13,7 +13,7 @@ use Rattle.plan.specs.Sources.{program_numbered}
 abbrev pub slots_of_plan : Plan → List Slot
 slots_of_plan plan = slots_among plan.slots.items plan.variables.items plan.inputs.items
 
--- What the code of each instance reads of globals and inputs, its program asks for; each path has one slot.
+-- If the code of an instance reads a global or an input, its program asks for it; each path has one slot.
 pub record ReadsWhatItAsksFor (plan : Plan) : Type 0 where
   pub distinct : IsLayout (slots_of_plan plan)
   pub codes : (k : ℕ) (p : ProgramInstance) → slice_get plan.programs.items k ≡ Some p

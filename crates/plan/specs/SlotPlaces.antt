@@ -10,13 +10,13 @@ use Rattle.st_meaning.specs.Layouts.{variable_slot, input_slot}
 use Rattle.plan.specs.declared.slots.SlotPlace.{SlotPlace}
 use Rattle.plan.specs.declared.slots.SlotPlace.TheVariants.{Variable, Input}
 
--- Variables and inputs are numbered as they stand, from these numbers on up to those.
+-- Variables and inputs are numbered in their order, from these numbers on up to those.
 abbrev pub are_numbered : ℕ → ℕ → List SlotPlace → ℕ → ℕ → Bool
 are_numbered v i [] variables inputs = v == variables && i == inputs
 are_numbered v i (Variable k ∷ ps) variables inputs = k == v && are_numbered (suc v) i ps variables inputs
 are_numbered v i (Input k ∷ ps) variables inputs = k == i && are_numbered v (suc i) ps variables inputs
 
--- what stands in the slots, of variables and of inputs in their order
+-- the contents of the slots, those of variables and of inputs in their order
 abbrev pub merged : {A : Type 0} → List SlotPlace → List A → List A → List A
 merged [] vs xs = []
 merged (Variable k ∷ ps) [] xs = []
@@ -28,7 +28,7 @@ merged (Input k ∷ ps) vs (x ∷ xs) = x ∷ merged ps vs xs
 abbrev pub slots_among : List SlotPlace → List PlanVariable → List PlanInput → List Slot
 slots_among places variables inputs = merged places (map variable_slot variables) (map input_slot inputs)
 
--- where a path stands: among the inputs, or else among the variables
+-- the place of a path: among the inputs, or else among the variables
 abbrev pub place_among : Option ℕ → Option ℕ → Option SlotPlace
 place_among (Some input) variable = Some (Input input)
 place_among None (Some variable) = Some (Variable variable)
@@ -39,10 +39,10 @@ place_of variables inputs p =
     place_among (position (λ i. same_path p i.path) inputs) (position (λ v. same_path p v.path) variables)
 
 -- the value in a place, of these variables and inputs
-abbrev pub value_in : List Datum → List Datum → Option SlotPlace → Option Datum
-value_in vs image None = None
-value_in vs image (Some (Variable n)) = slice_get vs n
-value_in vs image (Some (Input n)) = slice_get image n
+abbrev pub value_at_place : List Datum → List Datum → Option SlotPlace → Option Datum
+value_at_place vs image None = None
+value_at_place vs image (Some (Variable n)) = slice_get vs n
+value_at_place vs image (Some (Input n)) = slice_get image n
 
 -- the variables after a value is put in a place; only a place of a variable changes them
 abbrev pub put_in : List Datum → Option SlotPlace → Datum → List Datum

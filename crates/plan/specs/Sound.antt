@@ -1,4 +1,4 @@
--- What the parts of a plan have to do with each other, and their limits.
+-- How the parts of a plan fit together, and their limits.
 use Rattle.std.specs.Prelude.{◌≡◌, ℕ, ◌+◌, ◌<◌, ◌≤◌, ◌==◌, nat_le, List, [], ◌∷◌, length, map, filter, Bool, true}
 use Rattle.std.specs.Prelude.{false, not, ◌&&◌, Option, Some, None, slice_get}
 use Rattle.std.specs.List.{list_all}
@@ -20,24 +20,20 @@ use Rattle.slot_code.specs.Codes.{code_view}
 use Rattle.slot_code.specs.Meanings.{Means}
 use Rattle.slot_code.specs.Reads.{ReadsAsAsked}
 use Rattle.plan.specs.declared.slots.SlotPlace.{SlotPlace}
-use Rattle.plan.specs.Owners.{AreToldApart}
+use Rattle.plan.specs.Owners.{AreDistinguished}
 use Rattle.plan.specs.SlotPlaces.{are_numbered, slots_among}
 use Rattle.plan.specs.Sources.{program_numbered}
 use Rattle.plan.specs.declared.task.Trigger.{Trigger}
 use Rattle.plan.specs.declared.task.Trigger.TheVariants.{Absent, Input, Variable}
 use Rattle.plan.specs.declared.task.Task.{Task}
 use Rattle.plan.specs.declared.task.ProgramInstance.{ProgramInstance}
-
--- each name stands once
-abbrev pub are_different : List Name → Bool
-are_different [] = true
-are_different (x ∷ xs) = not (contains_name xs x) && are_different xs
+use Rattle.layout.specs.Names.{are_different}
 
 -- the bytes that a path in a record's layout text may have
 abbrev pub is_spelled : Name → Bool
 is_spelled x = not (length x == 0) && list_all (λ b. nat_le 33 b && nat_le b 126) x
 
--- so many names, each an identifier in upper case
+-- this number of names, each an identifier in upper case
 abbrev pub has_names : Option (List Name) → ℕ → Bool
 has_names None n = false
 has_names (Some names) n =
@@ -48,7 +44,7 @@ abbrev pub has_spelling : Enumerations → Kind → Bool
 has_spelling types (Enumerated n number) = has_names (slice_get types number) n
 has_spelling types k = true
 
--- a variable that may have a line in a record's layout text: its path may stand there, and its type
+-- a variable that may have a line in a record's layout text, by its path and its type
 abbrev pub has_line : Enumerations → PlanVariable → Bool
 has_line types v = is_spelled (path_text v.path) && has_spelling types v.initial.kind
 
@@ -85,17 +81,17 @@ pub record IsWithinLimits (types : Enumerations) (variables : List PlanVariable)
   pub ticks : budget ≤ MAX_BUDGET
   pub record_is : record_length types variables ≤ MAX_RECORD_BODY
 
--- The code of an instance does over the slots what its program does, the instance has its program's names, and what the
--- code reads of globals and inputs, the program asks for.
+-- The code of an instance does over the slots what its program does, the instance has its program's names, and its
+-- program asks for each global and input that the code reads.
 pub record IsCodeOf (source : Source) (layout : List Slot) (p : ProgramInstance) : Type 0 where
   pub means : Means layout (code_view p.code.value) (program_numbered source p.number)
   pub owner : (program_numbered source p.number).owner ≡ p.owner
   pub reads : ReadsAsAsked layout (code_view p.code.value) (program_numbered source p.number)
 
 -- Each path has one slot; variables and inputs are numbered in the order of the slots; the code of each instance does
--- what its program does, and reads what this asks for; each program runs in a task of its resource; each variable can
--- have a line in a record, and no two paths are spelled alike; the names of instances tell them apart, and so do those
--- of the values of each enumerated type.
+-- what its program does, and reads only globals and inputs that the program asks for; each program runs in a task of
+-- its resource; each variable can have a line in a record, and no two paths are spelled alike; the names of instances
+-- are distinct, and so are those of the values of each enumerated type.
 pub record PlanInvariant (source : Source) (types : Enumerations) (variables : List PlanVariable)
     (inputs : List PlanInput) (slots : List SlotPlace) (resources : ℕ) (tasks : List Task) (programs : List ProgramInstance)
     (budget : ℕ) : Type 0 where
@@ -111,5 +107,5 @@ pub record PlanInvariant (source : Source) (types : Enumerations) (variables : L
   pub different : are_different (map (λ v. path_text v.path) variables) ≡ true
   pub limits : IsWithinLimits types variables inputs resources tasks (length programs) budget
   pub once : IsLayout (slots_among slots variables inputs)
-  pub instances : AreToldApart (map (λ p. p.owner) programs)
+  pub instances : AreDistinguished (map (λ p. p.owner) programs)
   pub values : list_all are_different types ≡ true

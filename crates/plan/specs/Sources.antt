@@ -12,7 +12,7 @@ abbrev pub programs_of_tree : Source → List Program
 programs_of_tree source =
     programs_of_configuration (declared_in source) (only_configuration (configurations_in source))
 
--- what stands for a program that is not there: one that does nothing
+-- the stand-in for a program that doesn't exist: it does nothing
 abbrev pub no_program : Program
 no_program = record {
   library = record { functions = []; blocks = [] };
@@ -20,6 +20,6 @@ no_program = record {
   body = record { externals = []; instances = []; statements = no_stmts };
 }
 
--- The program of this number. Nobody above looks into a program.
+-- The program of this number. No code above this crate looks into a program.
 unfoldable pub program_numbered : Source → ℕ → Program
 program_numbered source n = slice_index_or (programs_of_tree source) n no_program

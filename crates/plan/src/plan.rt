@@ -14,7 +14,8 @@ use st_meaning::{PlanInput, PlanVariable};
 use st_types::{Name, Path, Source};
 use std::sync::Arc;
 
-/// What the runtime needs of a text: its variables, inputs, tasks and programs. It keeps the limits of the language.
+/// The parts of a text that the runtime needs: its variables, inputs, tasks and programs. It keeps the limits of the
+/// language.
 pub struct Plan {
     /// The text, with the type of each untyped literal.
     pub text: Arc<Source>,
@@ -26,7 +27,7 @@ pub struct Plan {
     pub inputs: Vec<PlanInput>,
     /// The slots of its variables and inputs by their paths, in the order of the text.
     pub layout: Layout,
-    /// What stands in these slots.
+    /// The contents of these slots.
     pub slots: Vec<SlotPlace>,
     pub resources: usize,
     pub tasks: Vec<Task>,
@@ -38,7 +39,7 @@ pub struct Plan {
     ghost laid_out: { IsLaidOut (map vec_items enumerations.items) variables.items inputs.items slots.items layout },
 }
 
-// Written out, not derived: who drops a plan stands on this, and need not prove again how its trees are dropped.
+// Written out, not derived: a proof that a plan is dropped uses this, and need not prove again how its trees are dropped.
 impl Drop for Plan {
     fn drop(self) {
         let Self {
@@ -78,7 +79,7 @@ impl Plan {
         self.programs.len()
     }
 
-    /// How many variables it has; inputs are none.
+    /// How many variables it has; inputs don't count.
     pub fn slots(&self) -> usize
         ensures { result ≡ length self.now.variables.items }
     {
@@ -106,7 +107,7 @@ impl Plan {
         &self.layout
     }
 
-    /// What stands in the slot of a path: a variable or an input, by its number from 0; none where there is no such path.
+    /// The variable or the input in the slot of a path, by its number from 0; none if there is no such path.
     pub fn place(&self, path: &Path) -> Option<SlotPlace>
         ensures { result ≡ place_of self.now.variables.items self.now.inputs.items path.now }
     {

@@ -6,8 +6,8 @@ ghost use Rattle.plan.specs.declared.task.ProgramInstance.{ProgramInstance};
 ghost use Rattle.slot_run.specs.declared.snapshot.Snapshot.{Snapshot};
 ghost use Rattle.plan.specs.Reading.{AsksForReads};
 
-/// A global or an input that an execution reads, whose snapshot has the code of one of the plan's programs, is one whose
-/// value the program asks for: which it looks up before it has assigned it itself. The type of a plan keeps what this
+/// If an execution reads a global or an input, and its snapshot has the code of one of the plan's programs, the program
+/// asks for its value: it looks it up before it has assigned it itself. The invariant of a plan has the facts that this
 /// rests on.
 pub fn executions_of_plans_read_what_is_asked_for()
     ensures { (plan : Plan) (n : ℕ) (p : ProgramInstance) (snapshot : Snapshot)

@@ -6,14 +6,14 @@ ghost use Rattle.plan.specs.SlotPlaces.{are_numbered, merged};
 use st_types::Value;
 use std::alloc::{AllocError, Global};
 
-/// What stands in a slot: a variable or an input of the plant, by its number from 0.
+/// The content of a slot: a variable or an input of the plant, by its number from 0.
 #[derive(Clone, Copy, Debug, PartialEq, Eq)]
 pub enum SlotPlace {
     Variable(usize),
     Input(usize),
 }
 
-/// What stands in a slot by its number; none where there is no such slot.
+/// The content of a slot by its number; none if there is no such slot.
 pub(crate) fn place_numbered(places: &[SlotPlace], number: u16) -> Option<SlotPlace>
     ensures { result ≡ slice_get places.now number }
 {

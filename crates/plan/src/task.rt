@@ -4,7 +4,7 @@ use slot_code::Code;
 use st_types::Owner;
 use std::sync::Arc;
 
-/// What makes a task due beside its interval: its SINGLE.
+/// The condition besides its interval that makes a task due: its SINGLE.
 #[derive(Clone, Copy, Debug, PartialEq, Eq)]
 pub enum Trigger {
     Absent,
@@ -19,9 +19,9 @@ pub enum Trigger {
 pub struct Task {
     pub resource: usize,
     pub single: Trigger,
-    /// INTERVAL in milliseconds; 0 where there is none.
+    /// INTERVAL in milliseconds; 0 if there is none.
     pub interval: u64,
-    /// The least number runs first.
+    /// The task with the least number runs first.
     pub priority: u64,
 }
 

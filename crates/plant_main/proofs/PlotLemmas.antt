@@ -7,8 +7,8 @@ use Rattle.source_run.specs.declared.job.PlotJob.{PlotJob}
 use Rattle.source_run.specs.declared.job.Job.TheVariants.{Plot}
 use Rattle.plant_main.specs.declared.ending.Declined.TheVariants.{SharedStore, SharedPicture, NoPicture, NoVariable}
 use Rattle.plant_main.specs.declared.ending.Declined.TheVariants.{NoCode}
-use Rattle.plant_main.specs.declared.telling.End.{End}
-use Rattle.plant_main.specs.declared.telling.End.TheVariants as ends
+use Rattle.plant_main.specs.declared.reporting.End.{End}
+use Rattle.plant_main.specs.declared.reporting.End.TheVariants as ends
 use Rattle.plant_main.specs.Jobs.{EndsWell, IsPlanFor, PlotsWell}
 
 -- a plot of the plan of some text, over the rows of a plant, ends well as a job

@@ -17,9 +17,9 @@ use Rattle.source_run.specs.declared.fault.Fault.TheVariants as faults
 use Rattle.source_run.specs.Reports.{report_text}
 use Rattle.source_run.specs.Lives.{IsReport, counts_of}
 use Rattle.source_run.specs.Sources.{RefusesSource}
-use Rattle.plant_main.specs.Jobs.{IsToldBy, IsTraceFault}
+use Rattle.plant_main.specs.Jobs.{IsReportOfTrace, IsTraceFault}
 
--- V1 to V4 are no want of memory
+-- V1 to V4 do not mean out of memory
 pub no_memory : (e : ReplayError) → IsTraceFault (faults.Trace e) → e ≢ replays.NoMemory
 no_memory replays.NoMemory h is = h
 no_memory replays.Form h is = absurd (cc)
@@ -28,7 +28,7 @@ no_memory replays.NotWaiting h is = absurd (cc)
 no_memory replays.Outcome h is = absurd (cc)
 no_memory replays.Device h is = h
 
--- what refuses a source is none of them
+-- the fault of a refused source is none of them
 pub no_trace_fault : (budget : ℕ) (fault : Fault) → RefusesSource budget fault → IsTraceFault fault → ⊥
 no_trace_fault budget (faults.Trace e) refuses h = refuses
 no_trace_fault budget faults.Source refuses h = h
@@ -41,14 +41,14 @@ no_trace_fault budget (faults.Run e) refuses h = h
 pub no_plant_fault : (e : PlantError) (fault : Fault) → fault ≡ faults.Plant e → IsTraceFault fault → ⊥
 no_plant_fault e fault is h = subst (λ (f : Fault). IsTraceFault f) is h
 
--- the report of what was found is that of the life whose trace it is
+-- the report of a life that was found is that of the life whose trace it is
 pub told_so : (plan : Plan) (rows : List Latch) (trace told : List ℕ) (r : Replayed)
     → told ≡ report_text (counts_of r) (map vec_items plan.enumerations.items) plan.variables.items r.values.items
     → (mode : StartMode) (start : Start) (log : Log) → IsTrace plan rows trace mode start log
     → AreFindings plan start log r.rows r.done r.faults r.overruns r.values.items
     → ((m : StartMode) (s : Start) (l : Log) → IsTrace plan rows trace m s l
     → AreFindings plan s l r.rows r.done r.faults r.overruns r.values.items)
-    → IsToldBy plan rows trace told
+    → IsReportOfTrace plan rows trace told
 told_so plan rows trace told r text mode start log is found only = record {
   mode = mode;
   start = start;
@@ -63,7 +63,7 @@ told_so plan rows trace told r text mode start log is found only = record {
     report s l f =
         record { counts = counts_of r; values = r.values.items; found = f; acked_are = refl; spelled = text }
 
--- what follows of a value, and of a fault
+-- a fact that follows of a value, and of a fault
 pub mapped : {T E : Type 0} (P Q : T → Type 0) (r : Result T E) → ((t : T) → P t → Q t) → IfOk r P → IfOk r Q
 mapped P Q (Ok t) step holds = step t holds
 mapped P Q (Err e) step holds = tt

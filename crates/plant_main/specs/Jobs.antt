@@ -1,4 +1,4 @@
--- What jobs tell where they end well, and why a trace is refused.
+-- The reports of jobs that end well, and why a trace is refused.
 use Rattle.std.specs.Prelude.{◌≡◌, ◌≤◌, ◌⊎◌, ◌++◌, ℕ, List, Some, None, find}
 use Rattle.std.specs.List.{Contains}
 use denote.Bor.{Bor}
@@ -13,7 +13,7 @@ use Rattle.durable_core.specs.declared.starting.StartMode.{StartMode}
 use Rattle.commit_lock.specs.Replays.{IsTrace}
 use Rattle.trace.specs.Texts.{budget_text}
 use Rattle.plots.specs.Calls.{IsUncalled}
-use Rattle.source_run.specs.ToldCodes.{code_of, codes_like, is_code}
+use Rattle.source_run.specs.ListedCodes.{code_bytes, codes_like, is_code}
 use Rattle.source_run.specs.Spelling.{explanation_text}
 use Rattle.source_run.specs.declared.entry.Explanation.{Explanation}
 use Rattle.retain_store.specs.Recovered.{recovered}
@@ -30,11 +30,11 @@ use Rattle.source_run.specs.declared.fault.Fault.TheVariants as faults
 use Rattle.source_run.specs.Sources.{IsPlanIn}
 use Rattle.source_run.specs.Lives.{IsReport}
 use Rattle.source_run.specs.Runs.{IsReportOf}
-use Rattle.plant_main.specs.declared.telling.End.{End}
+use Rattle.plant_main.specs.declared.reporting.End.{End}
 use Rattle.plant_main.specs.declared.ending.Declined.{Declined}
 use Rattle.plant_main.specs.declared.ending.Declined.TheVariants.{SharedStore, SharedPicture, NoPicture}
 use Rattle.plant_main.specs.declared.ending.Declined.TheVariants.{NoVariable, NoCode}
-use Rattle.plant_main.specs.declared.telling.End.TheVariants as ends
+use Rattle.plant_main.specs.declared.reporting.End.TheVariants as ends
 use Rattle.plant_main.specs.declared.showing.Sight.{Sight}
 use Rattle.plant_main.specs.declared.showing.Sight.TheVariants as sights
 use Rattle.plant_main.specs.Sizes.{sizes_text}
@@ -54,7 +54,7 @@ pub record IsRun (D : Type 0) (budget : ℕ) (asked : Start) (told : List ℕ) :
   pub report : IsReportOf D plan asked told
 
 -- the report of the life of the plan whose trace this is, over these rows; it is the trace of no other life
-pub record IsToldBy (plan : Plan) (rows : List Latch) (trace told : List ℕ) : Type 0 where
+pub record IsReportOfTrace (plan : Plan) (rows : List Latch) (trace told : List ℕ) : Type 0 where
   pub mode : StartMode
   pub start : restarts.Start
   pub log : Log
@@ -65,14 +65,14 @@ pub record IsToldBy (plan : Plan) (rows : List Latch) (trace told : List ℕ) : 
 
 -- the same over the rows of a plant
 abbrev pub IsReplayOf : Plan → List ℕ → List ℕ → Type 0
-IsReplayOf plan trace told = (rows : List Latch) × AreRowsOf plan.inputs.items rows × IsToldBy plan rows trace told
+IsReplayOf plan trace told = (rows : List Latch) × AreRowsOf plan.inputs.items rows × IsReportOfTrace plan rows trace told
 
--- the text is no trace of a life of the plan over these rows
+-- the text isn't a trace of a life of the plan over these rows
 abbrev pub IsNoTrace : Plan → List Latch → List ℕ → Type 0
 IsNoTrace plan rows trace =
     (mode : StartMode) (start : restarts.Start) (log : Log) → IsTrace plan rows trace mode start log → ⊥
 
--- the plan of a text for the budget that the trace tells
+-- the plan of a text for the budget in the trace
 pub record IsPlanFor (trace : List ℕ) (plan : Plan) : Type 0 where
   pub text : List ℕ
   pub budget : ℕ
@@ -80,14 +80,14 @@ pub record IsPlanFor (trace : List ℕ) (plan : Plan) : Type 0 where
   pub tells : trace ≡ budget_text budget ++ lines
   pub is : IsPlanIn text budget plan
 
--- the report of the life that some trace tells, of the plan of a text for its budget, over the rows of a plant
+-- the report of the life of some trace, of the plan of a text for its budget, over the rows of a plant
 pub record IsReplay (told : List ℕ) : Type 0 where
   pub trace : List ℕ
   pub plan : Plan
   pub plan_is : IsPlanFor trace plan
   pub report : IsReplayOf plan trace told
 
--- what these bytes of a retain file hold: the last record, or both areas; or what a warm start of a plan would make of
+-- the contents of these bytes of a retain file: the last record, or both areas; or the result of a warm start of a plan from
 -- them
 abbrev pub file_shown : Sight → List ℕ → List ℕ
 file_shown sights.Last file = shown_text (recovered file)
@@ -98,7 +98,7 @@ file_shown (sights.Against plan) file = against_shown plan (recovered file)
 abbrev pub IsSeen : Sight → List ℕ → Type 0
 IsSeen sight told = (file : List ℕ) × (told ≡ file_shown sight file)
 
--- what a view asks for, with the plan of a text where it names a source
+-- the part that a view asks for, with the plan of a text if it names a source
 abbrev pub IsSightOf : View → Sight → Type 0
 IsSightOf views.Last sights.Last = Unit {0}
 IsSightOf views.Both sights.Both = Unit {0}
@@ -108,24 +108,24 @@ IsSightOf view sight = ⊥
 abbrev pub IsShowing : View → List ℕ → Type 0
 IsShowing view told = (sight : Sight) × IsSightOf view sight × IsSeen sight told
 
--- the explanation of a code that there is
+-- the explanation of a known code
 abbrev pub IsExplained : List ℕ → List ℕ → Type 0
-IsExplained code told = (entry : Explanation) × (find (is_code code) (codes_like code) ≡ Some (code_of entry))
+IsExplained code told = (entry : Explanation) × (find (is_code code) (codes_like code) ≡ Some (code_bytes entry))
     × (told ≡ explanation_text entry)
 
--- the trace tells a life of the plan over these rows
-abbrev pub IsLifeTold : Plan → List Latch → List ℕ → Type 0
-IsLifeTold plan rows trace =
+-- the trace is that of a life of the plan over these rows
+abbrev pub IsTraceOfPlan : Plan → List Latch → List ℕ → Type 0
+IsTraceOfPlan plan rows trace =
     (mode : StartMode) × (start : restarts.Start) × (log : Log) × IsTrace plan rows trace mode start log
 
--- some trace tells a life of the plan of a text for its budget, over the rows of a plant
+-- some trace is that of a life of the plan of a text for its budget, over the rows of a plant
 pub record IsPlotted : Type 0 where
   pub trace : List ℕ
   pub plan : Plan
   pub plan_is : IsPlanFor trace plan
   pub rows : List Latch
   pub rows_are : AreRowsOf plan.inputs.items rows
-  pub life : IsLifeTold plan rows trace
+  pub life : IsTraceOfPlan plan rows trace
 
 -- one of the paths is that of no variable and of no input of a plan
 pub record NamesNone (plan : Plan) (paths : List (Bor (List ℕ))) : Type 0 where
@@ -140,20 +140,20 @@ pub record NamesNothing (paths : List (Bor (List ℕ))) : Type 0 where
   pub plan_is : IsPlanFor trace plan
   pub names : NamesNone plan paths
 
--- what a job tells where it is done: the built-in run something, check the sizes, a run and a replay their report, a
--- look what a retain file holds or what a warm start would make of it, a plot some picture of a life that a trace
--- tells, and the explanation of a code
-abbrev pub Tells : Type 0 → Job → List ℕ → Type 0
-Tells D jobs.First text = Unit {0}
-Tells D (jobs.Check job) text = IsCheck DEFAULT_BUDGET text
-Tells D (jobs.Run job) text = IsRun D job.budget job.start text
-Tells D (jobs.Replay job) text = IsReplay text
-Tells D (jobs.Show job) text = IsShowing job.view text
-Tells D (jobs.Plot job) text = IsPlotted
-Tells D (jobs.Explain code) text = IsExplained code.now text
+-- the report of a job that is done: some text of the built-in run, the sizes of a check, the report of a run and of a
+-- replay, the contents of a retain file or the result of a warm start from it, some picture of a life that a trace records,
+-- and the explanation of a code
+abbrev pub Reports : Type 0 → Job → List ℕ → Type 0
+Reports D jobs.First text = Unit {0}
+Reports D (jobs.Check job) text = IsCheck DEFAULT_BUDGET text
+Reports D (jobs.Run job) text = IsRun D job.budget job.start text
+Reports D (jobs.Replay job) text = IsReplay text
+Reports D (jobs.Show job) text = IsShowing job.view text
+Reports D (jobs.Plot job) text = IsPlotted
+Reports D (jobs.Explain code) text = IsExplained code.now text
 
--- Why a job isn't begun: a retain file or a picture is another file of the job, or a picture can't be written, of which
--- files tell nothing, so these are not held to it; a path names nothing of the plan; or there is no such code.
+-- Why a job isn't begun: a retain file or a picture is another file of the job, or a picture can't be written, which are
+-- left open here, since contracts don't know files; a path names nothing of the plan; or there is no such code.
 abbrev pub Declines : Job → Declined → Type 0
 Declines (jobs.Run job) SharedStore = Unit {0}
 Declines (jobs.Plot job) SharedPicture = Unit {0}
@@ -164,7 +164,7 @@ Declines job why = ⊥
 
 -- how a job ends well
 abbrev pub EndsWell : Type 0 → Job → End → Type 0
-EndsWell D job (ends.Report text) = Tells D job text.items
+EndsWell D job (ends.Report text) = Reports D job text.items
 EndsWell D job (ends.Declined why) = Declines job why
 
 -- V1 to V4
@@ -178,7 +178,7 @@ IsTraceFault other = ⊥
 abbrev pub HasNoBudget : List ℕ → Type 0
 HasNoBudget trace = (n : ℕ) (rest : List ℕ) → 1 ≤ n → n ≤ MAX_BUDGET → trace ≡ budget_text n ++ rest → ⊥
 
--- the text is no trace of the plan of a text for its budget, over the rows of a plant
+-- the text isn't a trace of the plan of a text for its budget, over the rows of a plant
 pub record IsNoReplay (trace : List ℕ) : Type 0 where
   pub plan : Plan
   pub plan_is : IsPlanFor trace plan
@@ -193,7 +193,7 @@ RefusesTrace trace fault = IsTraceFault fault
 
 -- how a plot of this plan, over these rows and by this trace, ends well
 abbrev pub PlotsWell : Plan → List Latch → List ℕ → List (Bor (List ℕ)) → End → Type 0
-PlotsWell plan rows trace paths (ends.Report text) = IsLifeTold plan rows trace
+PlotsWell plan rows trace paths (ends.Report text) = IsTraceOfPlan plan rows trace
 PlotsWell plan rows trace paths (ends.Declined NoPicture) = Unit {0}
 PlotsWell plan rows trace paths (ends.Declined NoVariable) = NamesNone plan paths
 PlotsWell plan rows trace paths other = ⊥

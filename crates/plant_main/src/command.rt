@@ -24,7 +24,7 @@ fn file<'a>(alloc: Global, name: &'a str, help: &'a str) -> Arg<'a> {
 fn start<'a>(alloc: Global) -> Arg<'a> {
     Arg::new(alloc, "start")
         .long("start")
-        .help("Go on from the retain file, or begin with initial values")
+        .help("Continue from the retain file, or begin with initial values")
         .value_parser(STARTS.as_slice())
         .required(true)
 }
@@ -41,7 +41,7 @@ fn budget<'a>(alloc: Global) -> Arg<'a> {
 fn pace<'a>(alloc: Global) -> Arg<'a> {
     Arg::new(alloc, "pace")
         .long("pace")
-        .help("Latch a row when all before it is settled, or at once, to measure")
+        .help("Latch a row when all earlier ones are settled, or at once, to measure")
         .value_parser(PACES.as_slice())
         .default_value("settle")
 }
@@ -49,9 +49,7 @@ fn pace<'a>(alloc: Global) -> Arg<'a> {
 fn machine<'a>(alloc: Global) -> Arg<'a> {
     Arg::new(alloc, "machine")
         .long("machine")
-        .help(
-            "Run programs by quick code where there is some, or all of them on values, to compare",
-        )
+        .help("Run programs with quick code where possible, or all on values, to compare")
         .value_parser(MACHINES.as_slice())
         .default_value("quick")
 }
@@ -61,7 +59,7 @@ fn plant_file<'a>(alloc: Global) -> Arg<'a> {
 }
 
 fn trace_file<'a>(alloc: Global) -> Arg<'a> {
-    file(alloc, "trace", "The trace to run again").required(true)
+    file(alloc, "trace", "The trace to replay").required(true)
 }
 
 fn flag<'a>(alloc: Global, name: &'a str, help: &'a str) -> Arg<'a> {
@@ -91,7 +89,7 @@ fn run<'a>(alloc: Global) -> Result<Command<'a>, AllocError> {
         budget(alloc),
         pace(alloc),
         machine(alloc),
-        flag(alloc, "stats", "Say by which machine the executions went"),
+        flag(alloc, "stats", "Count the program runs of each machine"),
         explain_flag(alloc),
         file(alloc, "trace", "The trace to write after the run"),
     ]?;
@@ -108,7 +106,7 @@ fn replay<'a>(alloc: Global) -> Result<Command<'a>, AllocError> {
         explain_flag(alloc),
     ]?;
     Command::new(alloc, "replay")
-        .about("Runs a trace again by one thread and prints the report")
+        .about("Replays a trace in one thread and prints the report")
         .args(args)
 }
 
@@ -124,14 +122,14 @@ fn show<'a>(alloc: Global) -> Result<Command<'a>, AllocError> {
         .help("Show what a warm start of this source would keep, change and drop");
     let args = vec![in alloc; store, both, against]?;
     Command::new(alloc, "show")
-        .about("Prints what a retain file holds, and never writes")
+        .about("Prints a retain file's contents and never writes")
         .args(args)
 }
 
 fn plot<'a>(alloc: Global) -> Result<Command<'a>, AllocError> {
     let paths = Arg::new(alloc, "path")
         .value_name("PATH")
-        .help("The variables to show; without any, the first ones")
+        .help("The variables to show; by default the first ones")
         .num_args(0..);
     let args = vec![in alloc;
         source(alloc),
@@ -148,7 +146,7 @@ fn plot<'a>(alloc: Global) -> Result<Command<'a>, AllocError> {
 fn explain<'a>(alloc: Global) -> Result<Command<'a>, AllocError> {
     let code = Arg::new(alloc, "code")
         .value_name("CODE")
-        .help("A code, as C3 or S2")
+        .help("A code, such as C3 or S2")
         .required(true);
     Command::new(alloc, "explain")
         .about("Says what a code means")
@@ -165,7 +163,7 @@ fn plant<'a>(alloc: Global) -> Result<Command<'a>, AllocError> {
         .subcommand(first)
 }
 
-/// The command with one more subcommand, where memory sufficed for both.
+/// The command with one more subcommand, if memory sufficed for both.
 fn with<'a>(
     command: Result<Command<'a>, AllocError>,
     made: Result<Command<'a>, AllocError>,

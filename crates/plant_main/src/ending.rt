@@ -5,11 +5,11 @@ ghost use Rattle.std.specs.Prelude.{◌≡◌};
 use source_run::Fault;
 use thiserror::Error;
 
-/// The exit status where the words are refused, or the job isn't begun.
+/// The exit status if the words are refused, or the job isn't begun.
 const REFUSED: u8 = 1;
 
-/// The exit status where the standard output can't be written.
-const UNTOLD: u8 = 5;
+/// The exit status if the standard output can't be written.
+const OUTPUT_FAILED: u8 = 5;
 
 /// Why a job isn't begun.
 #[derive(Clone, Copy, Debug, PartialEq, Eq, Error)]
@@ -24,7 +24,7 @@ pub enum Declined {
     #[error("error: the picture can't be written")]
     NoPicture,
     /// A path names no variable of the source.
-    #[error("error: a path names no variable of the source")]
+    #[error("error: the source has no variable with this path")]
     NoVariable,
     /// No code is explained under that name.
     #[error("error: there is no such code")]
@@ -34,7 +34,7 @@ pub enum Declined {
 /// How the program ends.
 #[derive(Clone, Copy, Debug, PartialEq, Eq)]
 pub enum Ending {
-    /// The job is done, and what it tells is on the standard output.
+    /// The job is done, and its report is on the standard output.
     Done,
     /// The help that was asked for is on the standard output.
     Helped,
@@ -45,14 +45,14 @@ pub enum Ending {
     /// A fault ended the job.
     Fault(Fault),
     /// The standard output takes no more.
-    Untold,
+    OutputFailed,
 }
 
 impl Ending {
     ghost use Rattle.plant_main.specs.Statuses.{ending_status};
 
-    /// The exit status: 0 done or helped, 1 for words that are refused and what isn't begun, that of a fault, and 5
-    /// where the standard output takes no more.
+    /// The exit status: 0 done or helped, 1 for words that are refused and a job that isn't begun, that of a fault, and 5 if
+    /// the standard output takes no more.
     pub fn status(self) -> u8
         ensures { result ≡ ending_status self }
     {
@@ -60,7 +60,7 @@ impl Ending {
             Ending::Done | Ending::Helped => 0,
             Ending::Misworded | Ending::Declined(_) => REFUSED,
             Ending::Fault(fault) => fault.status(),
-            Ending::Untold => UNTOLD,
+            Ending::OutputFailed => OUTPUT_FAILED,
         }
     }
 }

@@ -1,4 +1,4 @@
-//! What a person is shown behind the line of a fault.
+//! The text after the line of a fault, for a person.
 
 use crate::source_faults::source_fault;
 use diagnostics::{SourceFault, WholeFault, write_reason};
@@ -33,7 +33,7 @@ fn source_of<'a>(job: &Job<'a>) -> Option<&'a str> {
     }
 }
 
-/// Why a source is refused, where it is.
+/// Why a source is refused, if it is.
 fn refused(fault: Fault) -> Option<SourceFault> {
     match fault {
         Fault::Source => Some(SourceFault::Whole(WholeFault::Unread)),
@@ -42,8 +42,8 @@ fn refused(fault: Fault) -> Option<SourceFault> {
     }
 }
 
-/// Writes what the code of a fault means.
-fn tell_meaning<E: Write>(fault: Fault, err: &mut E) {
+/// Writes the meaning of the code of a fault.
+fn write_meaning<E: Write>(fault: Fault, err: &mut E) {
     let code = code_of(fault).text();
     if let Some(title) = title(code) {
         let _ = writeln!(err, "{code}: {title}");
@@ -51,7 +51,7 @@ fn tell_meaning<E: Write>(fault: Fault, err: &mut E) {
     }
 }
 
-/// The source that is looked into: none of it where it can't be read.
+/// The source that is looked into, or an empty one if it can't be read.
 fn text_of<F: Files>(
     alloc: Global,
     files: &mut F,
@@ -64,8 +64,8 @@ fn text_of<F: Files>(
     }
 }
 
-/// Writes what is wrong in the source of a job, and where; whether that is done.
-fn tell_place<F: Files, E: Write>(
+/// Writes the error in the source of a job, and its place; returns whether that is done.
+fn write_place<F: Files, E: Write>(
     alloc: Global,
     files: &mut F,
     job: &Job<'_>,
@@ -81,8 +81,8 @@ fn tell_place<F: Files, E: Write>(
     }
 }
 
-/// Shows what a fault means where the job asks for it: a refused source with the line at the place, all else by what its
-/// code means. What can't be written, or shown for want of memory, is left out.
+/// Shows the meaning of a fault if the job asks for it: a refused source with the line at the place, all else by the meaning
+/// of its code. Anything that can't be written, or for which memory runs out, is left out.
 pub(crate) fn explain<F: Files, E: Write>(
     alloc: Global,
     files: &mut F,
@@ -90,7 +90,7 @@ pub(crate) fn explain<F: Files, E: Write>(
     fault: Fault,
     err: &mut E,
 ) {
-    if is_explained(job) && !tell_place(alloc, files, job, fault, err) {
-        tell_meaning(fault, err);
+    if is_explained(job) && !write_place(alloc, files, job, fault, err) {
+        write_meaning(fault, err);
     }
 }

@@ -23,7 +23,7 @@ const ROWS: u64 = 100;
 /// Room in the log for each row, and for an execution of both programs at it.
 const LOG_ROOM: usize = 300;
 
-/// What a built-in plan without its variable would be.
+/// The fault if the built-in plan lacked its variable.
 const FOREIGN: Fault = Fault::Run(RunFault::Refused(Refusal::Serial(SerialRefusal::Foreign)));
 
 /// A core of the plan, started cold over the disk.
@@ -45,7 +45,7 @@ fn built_in_rows(alloc: Global) -> Result<Vec<Row>, AllocError> {
     Ok(rows)
 }
 
-/// The line that tells the value of a variable.
+/// The line with the value of a variable.
 fn line_of(alloc: Global, path: &Path, value: Value) -> Result<Vec<u8>, Fault> {
     let mut line = Vec::new(alloc);
     match write_variable(&mut line, &[], path, value) {
@@ -54,7 +54,7 @@ fn line_of(alloc: Global, path: &Path, value: Value) -> Result<Vec<u8>, Fault> {
     }
 }
 
-/// The line that tells the value of n.
+/// The line with the value of n.
 fn count_line<D: Disk>(alloc: Global, core: &Core<D>) -> Result<Vec<u8>, Fault> {
     let path = Path::global(alloc, Name::from_slice(alloc, built_in::COUNT.as_bytes())?);
     match core.value(&path) {
@@ -63,7 +63,7 @@ fn count_line<D: Disk>(alloc: Global, core: &Core<D>) -> Result<Vec<u8>, Fault> 
     }
 }
 
-/// Runs the plan in threads over the disk, and gives the line that tells the value of n after it.
+/// Runs the plan in threads over the disk, and gives the line with the value of n after it.
 fn served<D: Disk + Drop + Send, R: Threads + Wait + Sync>(
     rt: &R,
     alloc: Global,
@@ -78,8 +78,7 @@ fn served<D: Disk + Drop + Send, R: Threads + Wait + Sync>(
     }
 }
 
-/// Runs the built-in configuration in threads over an empty simulated disk, and gives the line that tells the value
-/// of n after it.
+/// Runs the built-in configuration in threads over an empty simulated disk, and gives the line with the value of n after it.
 pub fn first<R: Threads + Wait + Sync>(rt: &R, alloc: Global) -> Result<Vec<u8>, Fault> {
     let plan = build(alloc, built_in::TEXT.as_bytes(), DEFAULT_BUDGET)?;
     served(rt, alloc, plan, SimDisk::new(alloc, Vec::new(alloc))?)

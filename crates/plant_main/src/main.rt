@@ -1,7 +1,7 @@
 //! The program `plant`: its command line, read by clap, the real files and the standard outputs.
 //!
 //! It owns every job and the order of work. A report is printed after a run that ended well, and none beside a refusal,
-//! but where the standard output fails half way.
+//! unless the standard output fails half way.
 #![tactic(auto)]
 
 mod built_in;
@@ -16,10 +16,10 @@ mod plotting;
 mod program;
 mod reading;
 mod replaying;
+mod reporting;
 mod showing;
 mod sizes;
 mod source_faults;
-mod telling;
 
 use program::plant;
 use source_run::{Fault, RealFiles, write_fault};
@@ -29,16 +29,16 @@ use std::process::ExitCode;
 use std::rt::Env;
 use std::{env, io};
 
-/// The exit status where the words can't be read as text.
+/// The exit status if the words can't be read as text.
 const NO_TEXT: u8 = 1;
 
 /// More bytes of the stack than the deepest text takes, which needs up to 384 KiB.
 const STACK_BYTES: usize = 512 * 1024;
 
-/// Takes the room that the program needs on the stack before any memory, as programs under real-time conditions do. So
-/// where there is no room for it, the program ends as it begins, and never within its work.
+/// Takes the room that the program needs on the stack before any memory, as programs under real-time conditions do. So if
+/// there is no room for it, the program ends as it begins, and never within its work.
 ///
-/// It writes there what no compiler knows, the first byte of the program's name, and reads it again, so that none
+/// It writes a value there that no compiler knows, the first byte of the program's name, and reads it again, so that none
 /// leaves it out.
 #[inline(never)]
 fn takes_stack<R: Env>(rt: &R) -> bool {
@@ -57,18 +57,18 @@ fn texts_of<'a>(alloc: Global, words: &'a [String]) -> Result<Vec<&'a str>, Allo
     words.iter().map(|word| word.as_str()).collect(alloc)
 }
 
-/// Tells that memory is wanted for the words, and gives the exit status.
+/// Reports that there is no memory for the words, and gives the exit status.
 fn no_memory<E: Write>(err: &mut E) -> u8 {
     let _ = write_fault(err, Fault::NO_MEMORY);
     Fault::NO_MEMORY.status()
 }
 
-/// Tells why there are no words, and gives the exit status.
+/// Reports why there are no words, and gives the exit status.
 fn no_words<E: Write>(error: &io::Error, err: &mut E) -> u8 {
     if error.kind() == io::ErrorKind::OutOfMemory {
         return no_memory(err);
     }
-    let _ = writeln!(err, "error: the words are no UTF-8 text");
+    let _ = writeln!(err, "error: the arguments aren't UTF-8");
     NO_TEXT
 }
 

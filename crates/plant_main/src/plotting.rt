@@ -6,7 +6,7 @@ ghost use Rattle.plant_main.specs.Jobs.{EndsWell, IsDrawn, NamesNone, PlotsWell}
 
 use crate::ending::Declined;
 use crate::replaying::read_trace;
-use crate::telling::End;
+use crate::reporting::End;
 use commit_lock::{ReplayError, trace_budget};
 use plan::Plan;
 use plots::{Plot, Shown, find, first_variables, gather, write_plot};
@@ -15,7 +15,7 @@ use st_types::Row;
 use std::alloc::{AllocError, Global};
 use std::sync::Arc;
 
-/// Whether the file for the picture is the source, the plant or the trace, as far as the system tells.
+/// Whether the file for the picture is the source, the plant or the trace, as far as the system knows.
 fn shares_picture<F: Files>(files: &mut F, job: &PlotJob<'_>) -> bool {
     match job.picture {
         Some(picture) => {
@@ -27,8 +27,7 @@ fn shares_picture<F: Files>(files: &mut F, job: &PlotJob<'_>) -> bool {
     }
 }
 
-/// The variables that are shown: those of the paths, or the first ones where there are no paths; none where a path names
-/// none.
+/// The variables that are shown: those of the paths, or the first ones if there are no paths; none if a path names none.
 fn shown(alloc: Global, plan: &Plan, paths: &[&str]) -> Result<Option<Vec<Shown>>, AllocError>
     ensures { IfOk result (λ shown. IfNone shown (NamesNone plan.now paths.now)) }
 {
@@ -56,8 +55,8 @@ fn picture_of(alloc: Global, plan: &Plan, plot: &Plot, title: &str) -> Result<Ve
     }
 }
 
-/// Writes the picture into its file, or gives it for the standard output. The file is made when the picture is there,
-/// so where memory is wanted it stays as it was.
+/// Writes the picture into its file, or gives it for the standard output. The file is made when the picture is there, so if
+/// memory runs out before, it stays as it was.
 fn draw<F: Files>(
     alloc: Global,
     files: &mut F,
@@ -101,7 +100,7 @@ fn plot_rows<F: Files>(
     draw(alloc, files, &plan, &plot, job)
 }
 
-/// Builds the source for the budget that the trace tells, then reads the plant, runs the trace again and draws it.
+/// Builds the source for the budget in the trace, then reads the plant, runs the trace again and draws it.
 fn plot_trace<F: Files>(
     alloc: Global,
     files: &mut F,

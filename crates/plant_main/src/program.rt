@@ -2,7 +2,7 @@
 
 ghost use Rattle.std.specs.Prelude.{◌≡◌, IfOk};
 ghost use Rattle.source_run.specs.declared.job.Job.{Job};
-ghost use Rattle.plant_main.specs.Endings.{Ends, Performs};
+ghost use Rattle.plant_main.specs.Endings.{ProgramEnds, Performs};
 ghost use Rattle.plant_main.specs.Jobs.{EndsWell};
 
 use crate::ending::{Declined, Ending};
@@ -12,9 +12,9 @@ use crate::meaning::meaning;
 use crate::plotting::plot;
 use crate::reading::{is_out_of_memory, read_words};
 use crate::replaying::replay;
+use crate::reporting::{End, report_end, report_words};
 use crate::showing::show;
 use crate::sizes::sizes_of;
-use crate::telling::{End, tell, tell_words};
 use source_run::{CheckJob, DEFAULT_BUDGET, Fault, Files, Job, RunJob, plan_of, run_plan};
 use std::alloc::Global;
 use std::io::Write;
@@ -29,7 +29,7 @@ fn check<F: Files>(alloc: Global, files: &mut F, job: &CheckJob<'_>) -> Result<E
     Ok(End::Report(sizes_of(alloc, &plan)?))
 }
 
-/// Whether the retain file is the source, the plant or the trace, as far as the system tells.
+/// Whether the retain file is the source, the plant or the trace, as far as the system knows.
 fn shares_store<F: Files>(files: &mut F, job: &RunJob<'_>) -> bool {
     if let Some(trace) = job.trace {
         if files.is_one_file(job.store, trace) {
@@ -78,8 +78,8 @@ fn done<F: Files, R: Threads + Wait + Eprint + Sync>(
     }
 }
 
-/// Does a job. A fault is one line `fault CODE` or `fault CODE at PLACE` on the standard error, with a view for a person
-/// behind it where the job asks for one, and nothing is on the standard output then.
+/// Does a job. A fault is one line `fault CODE` or `fault CODE at PLACE` on the standard error, followed by a view for a
+/// person if the job asks for one, and nothing is on the standard output then.
 pub fn perform<F: Files, O: Write, E: Write, R: Threads + Wait + Eprint + Sync>(
     rt: &R,
     alloc: Global,
@@ -90,7 +90,7 @@ pub fn perform<F: Files, O: Write, E: Write, R: Threads + Wait + Eprint + Sync>(
 ) -> Ending
     ensures { Performs O.contents F.Disk job.now result out.old out.new }
 {
-    let ending = tell(done(rt, alloc, files, job), out, err);
+    let ending = report_end(done(rt, alloc, files, job), out, err);
     if let Ending::Fault(fault) = ending {
         explain(alloc, files, job, fault, err);
     }
@@ -106,11 +106,11 @@ pub fn plant<F: Files, O: Write, E: Write, R: Threads + Wait + Eprint + Sync>(
     out: &mut O,
     err: &mut E,
 ) -> Ending
-    ensures { Ends O.contents F.Disk result out.old out.new }
+    ensures { ProgramEnds O.contents F.Disk result out.old out.new }
 {
     match read_words(alloc, words) {
         Ok(job) => perform(rt, alloc, &job, files, out, err),
-        Err(refused) if is_out_of_memory(&refused) => tell(Err(Fault::NO_MEMORY), out, err),
-        Err(refused) => tell_words(&refused, out, err),
+        Err(refused) if is_out_of_memory(&refused) => report_end(Err(Fault::NO_MEMORY), out, err),
+        Err(refused) => report_words(&refused, out, err),
     }
 }

@@ -8,7 +8,9 @@ use crate::command::command;
 use crate::number::plain_number;
 use clap::error::ErrorKind;
 use clap::{ArgMatches, Error};
-use source_run::{CheckJob, Job, Machine, Pace, PlotJob, ReplayJob, RunJob, ShowJob, Start, View};
+use source_run::{
+    AskedMachine, CheckJob, Job, Pace, PlotJob, ReplayJob, RunJob, ShowJob, Start, View,
+};
 use std::alloc::{AllocError, Global};
 
 /// Why no job was read. It shows as clap's text.
@@ -30,10 +32,10 @@ fn pace(text: &str) -> Option<Pace> {
     }
 }
 
-fn machine(text: &str) -> Option<Machine> {
+fn machine(text: &str) -> Option<AskedMachine> {
     match text {
-        "quick" => Some(Machine::Quick),
-        "values" => Some(Machine::Values),
+        "quick" => Some(AskedMachine::Quick),
+        "values" => Some(AskedMachine::Values),
         _ => None,
     }
 }
@@ -69,7 +71,7 @@ fn check<'a>(given: &ArgMatches<'a>) -> Option<CheckJob<'a>> {
     })
 }
 
-/// What is shown of a retain file: clap refuses `--both` beside `--against`.
+/// The view of a retain file: clap refuses `--both` beside `--against`.
 fn view<'a>(given: &ArgMatches<'a>) -> View<'a> {
     match given.get_str("against") {
         Some(source) => View::Against(source),
@@ -122,24 +124,23 @@ fn chosen<'a>(
     Ok(job)
 }
 
-/// What is told of a budget with a sign, which clap takes.
-const SIGNED: &str =
-    "invalid value for '--budget <N>': a whole number of 32 bits without a sign is wanted";
+/// The error for a budget with a sign, which clap takes.
+const SIGNED: &str = "invalid value for '--budget <N>': it isn't an unsigned 32-bit integer";
 
-/// What is told of a retain file that is another file of the run.
+/// The error for a retain file that is another file of the run.
 const SHARED_STORE: &str =
     "invalid value for '--store <F>': it names the source, the plant or the trace";
 
-/// What is told of a picture that is a file which the plot reads.
+/// The error for a picture that is a file which the plot reads.
 const SHARED_PICTURE: &str =
     "invalid value for '--out <F>': it names the source, the plant or the trace";
 
-/// The refusal of what clap takes and `plant` does not.
+/// The refusal of words that clap takes and `plant` does not.
 fn refusal(alloc: Global, text: &str) -> Result<Error, AllocError> {
     command(alloc)?.error(ErrorKind::ValueValidation, text)
 }
 
-/// What is told of a job that would write over a file which it reads.
+/// The error for a job that would write over a file which it reads.
 fn wrong_file(job: &Job<'_>) -> Option<&'static str>
     ensures { IfNone result (IsSafe job.now) }
 {

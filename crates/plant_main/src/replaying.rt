@@ -5,7 +5,7 @@ ghost use Rattle.std.specs.Vec.{vec_items};
 ghost use Rattle.st_types.specs.Rows.{Latch};
 ghost use Rattle.image.specs.Plants.{AreRowsOf};
 ghost use Rattle.source_run.specs.Reports.{report_text};
-ghost use Rattle.plant_main.specs.Jobs.{IsNoTrace, IsReplay, IsReplayOf, IsToldBy, IsTraceFault, RefusesTrace};
+ghost use Rattle.plant_main.specs.Jobs.{IsNoTrace, IsReplay, IsReplayOf, IsReportOfTrace, IsTraceFault, RefusesTrace};
 ghost use Rattle.source_run.specs.Lives.{counts_of};
 
 use commit_lock::{ReplayError, Replayed, replay_text, trace_budget};
@@ -77,7 +77,7 @@ fn report_of(alloc: Global, plan: &Plan, found: &Replayed) -> Result<Vec<u8>, Fa
 
 /// Runs the trace again by one thread over these rows, and gives the report.
 fn run_again(alloc: Global, plan: &Arc<Plan>, rows: &[Row], trace: &[u8]) -> Result<Vec<u8>, Fault>
-    ensures report { IfOk result (λ text. IsToldBy plan.now.value rows.now trace.now text.items) }
+    ensures report { IfOk result (λ text. IsReportOfTrace plan.now.value rows.now trace.now text.items) }
     ensures refused { IfErr result (λ fault. IsTraceFault fault → IsNoTrace plan.now.value rows.now trace.now) }
 {
     let Ok(shared) = Arc::clone(plan) else {
@@ -111,7 +111,7 @@ fn replay_plan<F: Files>(
     }
 }
 
-/// Builds the source for the budget that the trace tells, then reads the plant and runs the trace again.
+/// Builds the source for the budget in the trace, then reads the plant and runs the trace again.
 fn replay_trace<F: Files>(
     alloc: Global,
     files: &mut F,

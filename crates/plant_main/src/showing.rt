@@ -1,4 +1,4 @@
-//! What retain files hold.
+//! The contents of retain files.
 
 ghost use Rattle.std.specs.Prelude.{◌≡◌, IfOk};
 ghost use Rattle.plant_main.specs.Jobs.{IsSeen, IsShowing, IsSightOf, file_shown};
@@ -33,18 +33,18 @@ fn read_store<F: Files>(alloc: Global, files: &mut F, name: &str) -> Result<Vec<
     }
 }
 
-/// What is looked for in a retain file: what a view asks for, with the plan of its source.
+/// The part of a retain file that a view asks for, with the plan of its source.
 #[derive(Drop)]
 pub(crate) enum Sight {
     /// The last record.
     Last,
     /// Both areas.
     Both,
-    /// What a warm start of this plan would make of it.
+    /// The result of a warm start of this plan from it.
     Against(Plan),
 }
 
-/// Reads and builds the source of a look, where it has one.
+/// Reads and builds the source of a look, if it has one.
 fn sight_of<F: Files>(alloc: Global, files: &mut F, job: &ShowJob<'_>) -> Result<Sight, Fault>
     ensures { IfOk result (λ sight. IsSightOf job.now.view sight) }
 {
@@ -58,7 +58,7 @@ fn sight_of<F: Files>(alloc: Global, files: &mut F, job: &ShowJob<'_>) -> Result
     }
 }
 
-/// What is told of the bytes of a retain file.
+/// The text about the bytes of a retain file.
 fn showing(alloc: Global, file: Vec<u8>, sight: &Sight) -> Result<Vec<u8>, StoreFault>
     ensures { IfOk result (λ text. text.items ≡ file_shown sight.now file.items) }
 {
@@ -69,7 +69,7 @@ fn showing(alloc: Global, file: Vec<u8>, sight: &Sight) -> Result<Vec<u8>, Store
     }
 }
 
-/// What is told of a retain file, as a text.
+/// The text about a retain file.
 fn shown_file<F: Files>(
     alloc: Global,
     files: &mut F,
@@ -82,7 +82,7 @@ fn shown_file<F: Files>(
     showing(alloc, file, sight)
 }
 
-/// What a retain file holds, or what a warm start of a source would make of it, as a text; S1 to S3 and S5, and the
+/// The contents of a retain file, or the result of a warm start of a source from it, as a text; S1 to S3 and S5, and the
 /// faults of a source. It reads the source first, and opens the files to read them alone.
 pub(crate) fn show<F: Files>(
     alloc: Global,

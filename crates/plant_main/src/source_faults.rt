@@ -1,4 +1,4 @@
-//! What a text without a plan is refused for.
+//! Why a text without a plan is refused.
 
 use config::{BuildError, ConfigurationError};
 use diagnostics::{SourceFault, WholeFault};
@@ -31,7 +31,7 @@ fn of_layout(error: LayoutError) -> WholeFault {
     }
 }
 
-/// `build` never tells that a text is not linked.
+/// `build` never reports that a text is not linked.
 fn of_code(error: CompileError) -> WholeFault {
     match error {
         CompileError::TooManyPlaces => WholeFault::TooManyPaths,
@@ -40,7 +40,7 @@ fn of_code(error: CompileError) -> WholeFault {
     }
 }
 
-/// What a text without a plan is refused for.
+/// The fault for which a text without a plan is refused.
 pub fn source_fault(error: BuildError) -> SourceFault {
     match error {
         BuildError::Budget => SourceFault::Whole(WholeFault::Budget),

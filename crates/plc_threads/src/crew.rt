@@ -6,7 +6,7 @@ ghost use Rattle.plc_threads.specs.Reports.{AreJoined};
 
 use crate::driver::{Pace, drive};
 use crate::gate::Gate;
-use crate::report::Told;
+use crate::report::AnswerCounts;
 use crate::shared::Shared;
 use crate::worker::{flush_all, work};
 use disk::Disk;
@@ -17,11 +17,11 @@ use std::sync::ledger::Share;
 use std::thread;
 use std::thread::{Scope, Threads};
 
-/// What the workers of a run were told, with the shares of all.
+/// The answers that the workers of a run got, with the shares of all.
 #[derive(Drop)]
 pub struct Joined<J: Run> {
     pub share: Share<J>,
-    pub told: Vec<Told>,
+    pub told: Vec<AnswerCounts>,
 }
 
 /// Starts a worker for each resource and the flusher, latches the rows, and joins all threads.
@@ -77,7 +77,7 @@ fn run_crew<
             stale,
         } = handle.join(rt);
         rest.merge(share);
-        told.push_reserved(Told { committed, stale });
+        told.push_reserved(AnswerCounts { committed, stale });
     }
     if told.len() < resources {
         return Err(RunFault::NotStarted);

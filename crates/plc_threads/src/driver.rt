@@ -1,4 +1,4 @@
-//! What the caller of a run does while its threads work.
+//! The work of a run's caller while its threads work.
 
 ghost use Rattle.std.specs.Prelude.{◌≡◌};
 
@@ -17,10 +17,10 @@ pub enum Pace {
     Free,
 }
 
-/// How often the driver asks the mark before it takes the lock all the same.
+/// How often the driver asks the mark before it takes the lock anyway.
 const ASKS: u32 = 64;
 
-/// Asks the mark, without the lock, whether so much is acknowledged.
+/// Asks the mark, without the lock, whether `length` entries are acknowledged.
 fn ask(mark: &Mark, pass: &mut Pass, length: u64)
     requires own { pass.old.mark ≡ mark.now }
     ensures same { pass.new.mark ≡ pass.old.mark }

@@ -1,14 +1,14 @@
-//! What a caller may do between the steps of a worker.
+//! A hook between the steps of a worker.
 
 use crate::shared::Extent;
 use durable_core::Answer;
 use slot_run::Machine;
 use st_types::Activation;
 
-/// Called by the workers of a run, outside the lock. Tests hold a worker by it.
+/// Called by the workers of a run, outside the lock. Tests use it to hold a worker.
 pub trait Gate {
-    /// How much is taken for a run: what the code names, as always, or all slots, over which the machine on values
-    /// runs.
+    /// Which slots are taken for a run: normally those that the code names, or all of them, over which the machine on
+    /// values runs.
     fn extent(&self) -> Extent {
         Extent::Named
     }
@@ -16,6 +16,6 @@ pub trait Gate {
     /// Between a run of code, by this machine, and its commit.
     fn between(&self, resource: usize, activation: Activation, machine: Machine);
 
-    /// After each answer, that of a commit in one step too.
+    /// After each answer, also that of a commit in one step.
     fn answered(&self, resource: usize, activation: Activation, answer: Answer);
 }

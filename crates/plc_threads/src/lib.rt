@@ -14,7 +14,7 @@ mod worker;
 pub use driver::Pace;
 pub use gate::Gate;
 pub use plant_run::run_plant;
-pub use report::{Report, RunError, Told};
+pub use report::{AnswerCounts, Report, RunError};
 pub use run_lock::{Mark, Pass, RaisePass};
 pub use shared::Extent;
 pub use slot_run::Machine;

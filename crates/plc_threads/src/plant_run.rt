@@ -2,12 +2,12 @@
 
 ghost use Rattle.std.specs.Prelude.{◌≡◌, ◌+◌, ◌++◌, Some, IfOk, IfErr, MatchResult, length};
 ghost use Rattle.st_meaning.specs.Logs.{done_count};
-ghost use Rattle.serial_core.specs.Steps.{made};
+ghost use Rattle.serial_core.specs.Steps.{past_in};
 ghost use Rattle.durable_core.specs.Flushing.{IsAcknowledged};
 ghost use Rattle.plan.specs.PlanViews.{plan_view};
 ghost use Rattle.st_meaning.specs.Logs.{IsLegal};
 ghost use Rattle.run_lock.specs.Lives.{IsGrownFrom, NothingIsDue};
-ghost use Rattle.run_lock.specs.Phases.{IsSo};
+ghost use Rattle.run_lock.specs.Phases.{IsCauseIn};
 ghost use Rattle.plc_threads.specs.Reports.{committed_in};
 
 use crate::crew::{Joined, in_scope};
@@ -27,7 +27,7 @@ use std::sync::Wait;
 use std::sync::ledger::{Blank, Book};
 use std::thread::Threads;
 
-/// What a run has under its lock as it begins.
+/// The state of a run under its lock at the beginning.
 fn locked<J: Run, D: Disk>(
     core: Core<D>,
     book: Book<J>,
@@ -38,7 +38,7 @@ fn locked<J: Run, D: Disk>(
     requires mark { (raises.mark ≡ J.mark) × (raises.top ≡ 0) }
     requires life { (J.life ≡ Some core.state) × (J.entries ≡ length core.state.log) }
     requires start { (J.mode ≡ core.mode) × (J.acked ≡ core.acked) }
-    requires rows { (made core.state).rows ++ rows.items ≡ J.rows }
+    requires rows { (past_in core.state).rows ++ rows.items ≡ J.rows }
 {
     Locked {
         core,
@@ -59,7 +59,7 @@ fn stopped<D: Disk>(core: Core<D>, fault: RunFault) -> RunError<D>
     RunError { core, fault }
 }
 
-/// A run that J names.
+/// A run that `J` names.
 fn run_as<J: Run + Send + Sync, D: Disk + Drop + Send, G: Gate + Sync, R: Threads + Wait + Sync>(
     rt: &R,
     alloc: Global,
@@ -78,15 +78,15 @@ fn run_as<J: Run + Send + Sync, D: Disk + Drop + Send, G: Gate + Sync, R: Thread
     requires mark { (mark.now ≡ J.mark) × (raises.mark ≡ J.mark) × (pass.mark ≡ J.mark) × (raises.top ≡ 0) }
     requires life { (J.life ≡ Some core.state) × (J.entries ≡ length core.state.log) }
     requires start { (J.mode ≡ core.mode) × (J.acked ≡ core.acked) }
-    requires rows { (made core.state).rows ++ rows.items ≡ J.rows }
+    requires rows { (past_in core.state).rows ++ rows.items ≡ J.rows }
     ensures counted { IfOk result
         (λ r. done_count r.core.state.log ≡ done_count core.state.log + committed_in r.told.items) }
-    ensures latched { IfOk result (λ r. (made r.core.state).rows ≡ (made core.state).rows ++ rows.items) }
+    ensures latched { IfOk result (λ r. (past_in r.core.state).rows ≡ (past_in core.state).rows ++ rows.items) }
     ensures nothing_waits { IfOk result (λ r. NothingIsDue r.core.state resources) }
     ensures acknowledged { IfOk result (λ r. IsAcknowledged r.core) }
     ensures each { IfOk result (λ r. length r.told.items ≡ resources) }
     ensures life { MatchResult result (λ r. IsGrownFrom core r.core) (λ e. IsGrownFrom core e.core) }
-    ensures why { IfErr result (λ e. IsSo e.fault e.core) }
+    ensures why { IfErr result (λ e. IsCauseIn e.fault e.core) }
     ensures legal { IfErr result (λ e. IsLegal (plan_view e.core.state.plan) e.core.state.start e.core.state.before
         e.core.state.log) }
 {
@@ -126,9 +126,9 @@ fn run_as<J: Run + Send + Sync, D: Disk + Drop + Send, G: Gate + Sync, R: Thread
 /// Runs a core of the plan in threads: one for each resource, one that flushes, and the caller, which latches the rows.
 /// It ends when all rows are latched, nothing waits and all is acknowledged, or at the first refusal.
 ///
-/// K5 where the core has failed, for this cause, and K1 where its log is full; K3 and K4 where a row was refused, K6
-/// where there was no memory, H1 where a thread could not be started, H2 where all threads have ended well and yet
-/// something is left. The core comes back with each of them.
+/// K5 if the core has failed, for this cause, and K1 if its log is full; K3 and K4 if a row was refused, K6 if an
+/// allocation failed, H1 if a thread could not be started, H2 if all threads have ended well and yet something is left.
+/// The core comes back with each of them.
 pub fn run_plant<D: Disk + Drop + Send, G: Gate + Sync, R: Threads + Wait + Sync>(
     rt: &R,
     alloc: Global,
@@ -138,22 +138,22 @@ pub fn run_plant<D: Disk + Drop + Send, G: Gate + Sync, R: Threads + Wait + Sync
     gate: &G,
 ) -> Result<Report<D>, RunError<D>>
 
-    // What the workers were told Committed is what the log gained.
+    // The log gained one Done for each Committed that the workers got.
     ensures counted { IfOk result
         (λ r. done_count r.core.state.log ≡ done_count core.state.log + committed_in r.told.items) }
 
     // The log gained these rows, in their order, and no others.
-    ensures latched { IfOk result (λ r. (made r.core.state).rows ≡ (made core.state).rows ++ rows.items) }
+    ensures latched { IfOk result (λ r. (past_in r.core.state).rows ≡ (past_in core.state).rows ++ rows.items) }
     ensures nothing_waits { IfOk result (λ r. NothingIsDue r.core.state core.state.plan.resources) }
     ensures acknowledged { IfOk result (λ r. IsAcknowledged r.core) }
     ensures each { IfOk result (λ r. length r.told.items ≡ core.state.plan.resources) }
 
-    // The core that comes back goes on from the one that was given: its log has that one's for a front, and no fewer
+    // The core that comes back continues the one that was given: its log begins with that one's log, and no fewer
     // entries are acknowledged.
     ensures life { MatchResult result (λ r. IsGrownFrom core r.core) (λ e. IsGrownFrom core e.core) }
 
-    // A run that was stopped was so for what is so of its core, whose log is legal.
-    ensures why { IfErr result (λ e. IsSo e.fault e.core) }
+    // If a run was stopped, its cause holds for its core, whose log is legal.
+    ensures why { IfErr result (λ e. IsCauseIn e.fault e.core) }
     ensures legal { IfErr result (λ e. IsLegal (plan_view e.core.state.plan) e.core.state.start e.core.state.before
         e.core.state.log) }
 {

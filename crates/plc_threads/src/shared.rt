@@ -1,4 +1,4 @@
-//! What all threads of a run share.
+//! The state that all threads of a run share.
 
 ghost use Rattle.std.specs.Prelude.{◌≡◌, ◌+◌, Ok, IfSome, IfNone};
 ghost use Rattle.run_lock.specs.Answers.{committed_by, committed_here, stale_after};
@@ -12,12 +12,12 @@ use st_types::{Activation, Entry};
 use std::alloc::Global;
 use std::sync::{Condvar, Mutex, Wait};
 
-/// The one lock of a run, and what tells its threads that something under it has changed. Each kind of thread is woken
-/// for what it waits for, and all of them when the run ends.
+/// The one lock of a run, and the signals to its threads that something under it has changed. Each kind of thread is
+/// woken for the change that it waits for, and all of them when the run ends.
 #[derive(Drop)]
 pub struct Shared<J: Run, D: Disk> {
     pub locked: Mutex<Locked<J, D>>,
-    /// For the workers: a row came, after which programs may be due.
+    /// For the workers: a row was latched, after which programs may be due.
     pub due: Condvar,
     /// For the flusher: the log is longer.
     pub longer: Condvar,
@@ -25,16 +25,16 @@ pub struct Shared<J: Run, D: Disk> {
     pub acknowledged: Condvar,
 }
 
-/// What a commit in one step did.
+/// The result of a commit in one step.
 #[derive(Clone, Copy)]
 pub struct Served {
-    /// The log's length after it; none where nothing waited.
+    /// The log's length after it; none if nothing waited.
     pub length: Option<usize>,
     /// The activation of the log's last entry.
     pub last: Option<Activation>,
 }
 
-/// The activation of the log's last entry; none where that is a row.
+/// The activation of the log's last entry; none if that is a row.
 fn last_activation<D: Disk>(core: &Core<D>) -> Option<Activation> {
     let last = core.len().checked_sub(1)?;
     match core.entry(last) {
@@ -43,16 +43,16 @@ fn last_activation<D: Disk>(core: &Core<D>) -> Option<Activation> {
     }
 }
 
-/// How much is taken for a run.
+/// Which slots are taken for a run.
 #[derive(Clone, Copy, Debug, PartialEq, Eq)]
 pub enum Extent {
-    /// What the code names, where there is quick code.
+    /// Those that the code names, if there is quick code.
     Named,
     /// All slots.
     Whole,
 }
 
-/// What the code of the best activation of a resource names, or all slots where it has no quick code.
+/// The slots that the code of the best activation of a resource names, or all slots if it has no quick code.
 fn named<J: Run, D: Disk>(
     locked: &mut Locked<J, D>,
     alloc: Global,
@@ -76,7 +76,7 @@ fn whole<J: Run, D: Disk>(
     }
 }
 
-/// What is taken for a resource.
+/// The input of a run that is taken for a resource.
 fn taken<J: Run, D: Disk>(
     locked: &mut Locked<J, D>,
     alloc: Global,
@@ -90,7 +90,7 @@ fn taken<J: Run, D: Disk>(
 }
 
 impl<J: Run, D: Disk + Drop> Shared<J, D> {
-    /// What is shared as a run begins.
+    /// The shared state at the beginning of a run.
     pub fn new(locked: Locked<J, D>) -> Shared<J, D> {
         Shared {
             locked: Mutex::new(locked),
@@ -107,7 +107,7 @@ impl<J: Run, D: Disk + Drop> Shared<J, D> {
         self.acknowledged.notify_all();
     }
 
-    /// Wakes those for whom a call matters that makes the log longer, or ends the run.
+    /// Wakes the threads that wait for a longer log or for the end of the run.
     fn wake_after<T, E>(&self, answer: &Result<T, E>) {
         match answer {
             Ok(_) => self.longer.notify_all(),
@@ -115,7 +115,7 @@ impl<J: Run, D: Disk + Drop> Shared<J, D> {
         }
     }
 
-    /// Ends the run, unless it has ended: it is stopped for what no core has told.
+    /// Ends the run, unless it has ended: it is stopped for a reason that no core has given.
     pub fn end<R: Wait>(&self, rt: &R, end: Phase)
         requires { MayEnd end }
     {
@@ -123,8 +123,8 @@ impl<J: Run, D: Disk + Drop> Shared<J, D> {
         self.wake_all();
     }
 
-    /// What a run of the best activation of a resource starts from, once there is one; none where the run has ended. In
-    /// whole, where that is asked for, or what the code names.
+    /// The input of a run of the best activation of a resource, once there is one; none if the run has ended. It has
+    /// all slots if they are asked for, otherwise those that the code names.
     pub fn next<R: Wait>(
         &self,
         rt: &R,
@@ -149,7 +149,7 @@ impl<J: Run, D: Disk + Drop> Shared<J, D> {
         unreachable!()
     }
 
-    /// Commits; none where that was refused, which ends the run.
+    /// Commits; none if the commit was refused, which ends the run.
     pub fn commit<R: Wait>(
         &self,
         rt: &R,
@@ -166,7 +166,7 @@ impl<J: Run, D: Disk + Drop> Shared<J, D> {
         result.ok()
     }
 
-    /// Commits the best activation of a resource in one step; none where that was refused, which ends the run.
+    /// Commits the best activation of a resource in one step; none if the commit was refused, which ends the run.
     pub fn commit_here<R: Wait>(
         &self,
         rt: &R,

@@ -1,4 +1,4 @@
-//! What the thread of a resource does, and what the flusher does.
+//! The threads of resources, and the flusher.
 
 ghost use Rattle.std.specs.Prelude.{◌≡◌, ◌+◌};
 
@@ -12,17 +12,17 @@ use std::alloc::Global;
 use std::sync::Wait;
 use std::sync::ledger::Share;
 
-/// After so many stale answers in a row the next try is a commit in one step.
+/// After this number of stale answers in a row the next try is a commit in one step.
 const PATIENCE: u32 = 8;
 
-/// Tells the gate of a commit in one step.
-fn tell_gate<G: Gate>(gate: &G, resource: usize, served: Served) {
+/// Reports a commit in one step to the gate.
+fn answer_gate<G: Gate>(gate: &G, resource: usize, served: Served) {
     if let (Some(length), Some(activation)) = (served.length, served.last) {
         gate.answered(resource, activation, Answer::Committed(length));
     }
 }
 
-/// Takes, runs and commits what waits on a resource, until the run ends.
+/// Takes, runs and commits the activations that wait on a resource, until the run ends.
 pub fn work<J: Run, D: Disk + Drop, G: Gate, R: Wait>(
     rt: &R,
     alloc: Global,
@@ -45,7 +45,7 @@ pub fn work<J: Run, D: Disk + Drop, G: Gate, R: Wait>(
             let Some(served) = shared.commit_here(rt, &mut tally, alloc, resource) else {
                 break;
             };
-            tell_gate(gate, resource, served);
+            answer_gate(gate, resource, served);
             continue;
         }
         let activation = taken.activation();
@@ -77,7 +77,8 @@ pub fn work<J: Run, D: Disk + Drop, G: Gate, R: Wait>(
 
 /// Flushes whenever the log is longer than what is acknowledged, until the run ends.
 ///
-/// Where the next row comes when all has settled, it flushes once nothing waits: one save has all that came of a row.
+/// If the next row comes when all has settled, it flushes once nothing waits: one save covers all entries that followed
+/// a row.
 pub fn flush_all<J: Run, D: Disk + Drop, R: Wait>(
     rt: &R,
     shared: &Shared<J, D>,

@@ -1,4 +1,4 @@
--- What is escaped is harmless, and grows byte by byte.
+-- Escaped text is harmless, and grows byte by byte.
 use Rattle.std.proofs.Common.{◌≡◌, ◌∙◌, ap, sym, refl, ℕ, ◌+◌, ◌<◌, List, [], ◌∷◌, ◌++◌, length, drop, get_or}
 use Rattle.std.proofs.Common.{true, false, Bool, ◌&&◌, ◌==◌, nat_lt, Option, Some, None, if◌then◌else◌}
 use Rattle.std.specs.Prelude.{codes}
@@ -8,7 +8,7 @@ use Rattle.std.proofs.lemmas.List.{append_assoc, drop_more}
 use Rattle.std.proofs.lemmas.List.Folds.{list_all-append}
 use Rattle.plots.specs.Texts.{escaped, escaped_byte, is_harmless}
 
--- a byte by what it is
+-- a byte, case by case
 by_cases : (byte : ℕ) (amp lt gt quot apos low : Bool) → (byte == 60) ≡ lt → (byte == 62) ≡ gt → (byte == 34) ≡ quot
     → (byte == 39) ≡ apos → nat_lt byte 32 ≡ low → list_all is_harmless
     (if amp then codes "&amp;" else (if lt then codes "&lt;" else (if gt then codes "&gt;" else
@@ -31,15 +31,7 @@ all_harmless [] = refl
 all_harmless (byte ∷ bytes) = list_all-append is_harmless (escaped_byte byte) (escaped bytes)
     ∙ ap (λ b. b && list_all is_harmless (escaped bytes)) (byte_harmless byte) ∙ all_harmless bytes
 
--- one write after another
-pub appends_both : (first second third : Option (List ℕ)) (x y : List ℕ) → Appends first second x
-    → Appends second third y → Appends first third (x ++ y)
-appends_both None second third x y wrote more = tt
-appends_both (Some a) None third x y wrote more = absurd wrote
-appends_both (Some a) (Some b) None x y wrote more = absurd more
-appends_both (Some a) (Some b) (Some c) x y wrote more = more ∙ ap (λ z. z ++ y) wrote ∙ append_assoc a x y
-
--- what is written of a text grows by its next byte
+-- the escaped text grows by that of its next byte
 pub more_escaped : (bytes : List ℕ) (i : ℕ) (before : List ℕ) → i < length bytes
     → before ++ escaped (drop i bytes) ≡ escaped bytes
     → (before ++ escaped_byte (get_or bytes i 0)) ++ escaped (drop (i + 1) bytes) ≡ escaped bytes

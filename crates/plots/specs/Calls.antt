@@ -1,4 +1,4 @@
--- What a word stands for in a plan.
+-- The meaning of a word in a plan.
 use Rattle.std.specs.Prelude.{◌≡◌, ℕ, Bool, true, false, List, Some, slice_get}
 use Rattle.std.specs.Str.{str_eq_ignore_ascii_case}
 use Rattle.st_types.specs.Paths.{Path}

@@ -4,7 +4,7 @@ use Rattle.std.specs.Int.{int_max}
 use Rattle.plots.specs.declared.scale.Scale.{Scale}
 use Rattle.plots.specs.Shares.{share}
 
--- how far a number is above the least of a scale; 0 where it is below, and the whole span where it is further above
+-- how far a number is above the least of a scale; 0 if it is below, and the whole span if it is further above
 abbrev pub part_of : Scale → ℤ → ℕ
 part_of scale number = min (unsigned_abs (int_max number scale.least -ℤ scale.least)) scale.span
 

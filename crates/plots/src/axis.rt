@@ -18,12 +18,12 @@ pub(crate) struct Axis {
     ghost ordered: { begin ≤ end },
 }
 
-/// How many pixels a digit of a moment takes, and what has to be free beside a moment.
+/// How many pixels a digit of a moment takes, and how many have to be free next to a moment.
 const DIGIT_WIDTH: u32 = 7;
 
 const SPACE_WIDTH: u32 = 36;
 
-/// How many moments find room beside one another where the last one is this.
+/// How many moments find room next to one another if the last one is this.
 fn most_moments(last: u64) -> u64 {
     let digits = last.checked_ilog10().map_or(1, |more| more + 1);
     u64::from((LAST - LEFT) / (DIGIT_WIDTH * digits.min(20) + SPACE_WIDTH))

@@ -1,10 +1,10 @@
-//! What a chart shows.
+//! The contents of a chart.
 
 /// Strips, one below the other, over one axis of moments.
 pub struct Chart {
-    /// What it is a chart of.
+    /// Its subject.
     pub title: String,
-    /// What else is to be said of it, in small print.
+    /// A further note, in small print.
     pub note: String,
     /// The moment in milliseconds at which the axis begins.
     pub begin: u64,
@@ -28,7 +28,7 @@ impl Drop for Chart {
 pub enum Strip {
     /// How a number changes.
     Line(Line),
-    /// What happens when.
+    /// What happens, and when.
     Lanes(Lanes),
 }
 
@@ -65,7 +65,7 @@ impl Drop for Line {
 pub enum Shape {
     /// A line of steps.
     Steps,
-    /// A low strip that is filled where the number is not the least.
+    /// A low strip that is filled while the number is not the least.
     Band,
 }
 
@@ -81,7 +81,7 @@ impl Drop for Level {
     }
 }
 
-/// From this moment in milliseconds on it is this number.
+/// From this moment in milliseconds on the value is this number.
 #[derive(Clone, Copy, Debug, PartialEq, Eq)]
 pub struct Point {
     pub moment: u64,
@@ -117,7 +117,7 @@ impl Drop for Lane {
 pub struct Mark {
     pub moment: u64,
     pub sign: Sign,
-    /// The word that tells of it where the mouse is over it.
+    /// The word that is shown while the mouse is over it.
     pub word: &'static str,
 }
 

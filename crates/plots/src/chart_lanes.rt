@@ -17,10 +17,10 @@ pub(crate) fn lanes_height(lanes: &Lanes) -> u64 {
         .saturating_add(u64::from(HEADING + GAP))
 }
 
-/// Marks of one sign that are nearer than this are one, in hundredths of a pixel.
+/// Marks of one sign that are nearer than this are drawn as one, in hundredths of a pixel.
 const NEAR: u32 = 50;
 
-/// Whether a mark at this place is one with the last one that was drawn.
+/// Whether a mark at this place merges with the last one that was drawn.
 fn is_near(last: Option<Hundredths>, x: Hundredths) -> bool {
     match last {
         Some(last) => last.0.abs_diff(x.0) < NEAR,
@@ -28,7 +28,7 @@ fn is_near(last: Option<Hundredths>, x: Hundredths) -> bool {
     }
 }
 
-/// Writes the ticks as one way of a pen.
+/// Writes the ticks as one path.
 fn write_ticks<W: Write>(out: &mut W, axis: &Axis, colour: &str, marks: &[Mark]) -> io::Result<()> {
     write!(out, "<path class=\"ticks\" stroke=\"{colour}\" d=\"")?;
     let mut last = None;
@@ -42,7 +42,7 @@ fn write_ticks<W: Write>(out: &mut W, axis: &Axis, colour: &str, marks: &[Mark])
     write!(out, "\"/>\n")
 }
 
-/// The way of the pen for a sign, from its place, and the name of its class.
+/// The path of a sign, from its place, and the name of its class.
 fn drawing_of(sign: Sign) -> (&'static str, &'static str) {
     match sign {
         Sign::Tick => ("tick", "M0 3v10"),
@@ -51,7 +51,7 @@ fn drawing_of(sign: Sign) -> (&'static str, &'static str) {
     }
 }
 
-/// Writes the beginning of a sign at a place from the left, moved down by so many pixels.
+/// Writes the beginning of a sign at a place from the left, moved down by `y` pixels.
 pub(crate) fn write_sign<W: Write>(
     out: &mut W,
     x: Hundredths,

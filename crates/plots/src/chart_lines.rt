@@ -71,7 +71,7 @@ fn write_level<W: Write>(out: &mut W, drawing: &Drawing, level: &Level) -> io::R
     write!(out, "</text></g>\n")
 }
 
-/// Writes the steps as the way of a pen from the first point to the right edge.
+/// Writes the steps as a path from the first point to the right edge.
 fn write_way<W: Write>(
     out: &mut W,
     axis: &Axis,
@@ -93,7 +93,7 @@ fn write_way<W: Write>(
     write!(out, "H{RIGHT}")
 }
 
-/// Writes what is below a line of steps as a surface.
+/// Writes the area below a line of steps.
 fn write_surface<W: Write>(
     out: &mut W,
     axis: &Axis,

@@ -1,4 +1,4 @@
-//! Where the parts of a chart stand, in pixels.
+//! The places of the parts of a chart, in pixels.
 
 /// How wide a chart is.
 pub(crate) const WIDTH: u32 = 960;
@@ -9,7 +9,7 @@ pub(crate) const MARGIN: u32 = 16;
 /// Where lines begin: the place of the first moment.
 pub(crate) const LEFT: u32 = 144;
 
-/// Where what stands at the left ends.
+/// Where the texts at the left end.
 pub(crate) const SIDE: u32 = LEFT - 8;
 
 /// The place of the last moment.
@@ -42,5 +42,5 @@ pub(crate) const LEVEL_HEIGHT: u32 = 14;
 /// How high a lane is.
 pub(crate) const LANE_HEIGHT: u32 = 24;
 
-/// As many levels as are marked at one line at most.
+/// The greatest number of levels that are marked at one line.
 pub const MOST_LEVELS: usize = 9;

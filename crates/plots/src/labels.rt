@@ -13,10 +13,10 @@ pub(crate) fn path_label(alloc: Global, path: &Path) -> Result<String, AllocErro
     }
 }
 
-/// As many characters as find room at the left of a strip.
+/// The greatest number of characters that find room at the left of a strip.
 const MOST_CHARACTERS: usize = 22;
 
-/// The text, or its beginning and two dots where it is too long for the left of a strip.
+/// The text, or its beginning and two dots if it is too long for the left of a strip.
 fn shortened(alloc: Global, text: &[u8]) -> Result<String, AllocError> {
     if text.len() <= MOST_CHARACTERS {
         return String::from_utf8_lossy(alloc, text);

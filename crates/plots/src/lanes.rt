@@ -43,7 +43,7 @@ fn lane(alloc: Global, program: &ProgramInstance, history: &History) -> Result<L
     })
 }
 
-/// The strip of a resource, by its number from 0, with a lane for each of its programs; none where it has no program.
+/// The strip of a resource, by its number from 0, with a lane for each of its programs; none if it has no program.
 pub(crate) fn lanes(
     alloc: Global,
     plan: &Plan,

@@ -9,7 +9,7 @@ use plan::Plan;
 use st_types::{Kind, Name, Path, Value};
 use std::alloc::{AllocError, Global};
 
-/// What is shown: its path and its type.
+/// The path and the type of a variable or input that is shown.
 fn subject<'a>(plan: &'a Plan, shown: Shown) -> Option<(&'a Path, Kind)> {
     match shown {
         Shown::Variable(number) => {
@@ -23,7 +23,7 @@ fn subject<'a>(plan: &'a Plan, shown: Shown) -> Option<(&'a Path, Kind)> {
     }
 }
 
-/// The points of a line; what was so before the first row is so from the beginning of the plot.
+/// The points of a line; a value from before the first row counts from the beginning of the plot.
 fn points(alloc: Global, begin: u64, changes: &[Change]) -> Result<Vec<Point>, AllocError> {
     let mut points = Vec::with_capacity(alloc, changes.len())?;
     for change in changes {
@@ -50,7 +50,7 @@ fn extremes(changes: &[Change]) -> Option<(Value, Value)> {
     Some((least, greatest))
 }
 
-/// The least and the greatest value; one where they are one value.
+/// The least and the greatest value; one value if they are equal.
 fn bounds(alloc: Global, changes: &[Change]) -> Result<Vec<Value>, AllocError> {
     let mut values = Vec::new(alloc);
     if let Some((least, greatest)) = extremes(changes) {
@@ -62,14 +62,14 @@ fn bounds(alloc: Global, changes: &[Change]) -> Result<Vec<Value>, AllocError> {
     Ok(values)
 }
 
-/// The first change to the value of that number.
+/// The first change to the value of this number.
 fn change_to(changes: &[Change], number: i128) -> Option<&Change> {
     changes
         .iter()
         .find(|change| change.value.number() == number)
 }
 
-/// The names that an enumerated variable had, in the order of its type; the first and the last where they are many.
+/// The names that an enumerated variable had, in the order of its type; the first and the last if they are many.
 fn names_seen(alloc: Global, names: u16, changes: &[Change]) -> Result<Vec<Value>, AllocError> {
     let mut values = Vec::new(alloc);
     for place in 0..names {
@@ -84,17 +84,17 @@ fn names_seen(alloc: Global, names: u16, changes: &[Change]) -> Result<Vec<Value
 }
 
 /// FALSE and TRUE.
-fn truths(alloc: Global) -> Result<Vec<Value>, AllocError> {
+fn bool_levels(alloc: Global) -> Result<Vec<Value>, AllocError> {
     let mut values = Vec::new(alloc);
-    values.push(Value::truth(false))?;
-    values.push(Value::truth(true))?;
+    values.push(Value::from_bool(false))?;
+    values.push(Value::from_bool(true))?;
     Ok(values)
 }
 
 /// The values that are marked at the left of a line.
 fn marked_values(alloc: Global, kind: Kind, changes: &[Change]) -> Result<Vec<Value>, AllocError> {
     match kind {
-        Kind::Bool => truths(alloc),
+        Kind::Bool => bool_levels(alloc),
         Kind::Enumerated { names, .. } => names_seen(alloc, names, changes),
         _ => bounds(alloc, changes),
     }
@@ -118,7 +118,7 @@ fn shape(kind: Kind) -> Shape {
     }
 }
 
-/// The strip of what is shown, if the plan has it; its axis begins at that moment.
+/// The strip of a variable or input, if the plan has it; its axis begins at this moment.
 pub(crate) fn line(
     alloc: Global,
     plan: &Plan,

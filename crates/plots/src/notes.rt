@@ -1,4 +1,4 @@
-//! What is noted of a life that is run again.
+//! Notes on a life that is run again.
 
 ghost use Rattle.std.specs.Prelude.{⊤};
 
@@ -10,7 +10,7 @@ use st_meaning::Outcome;
 use st_types::{Entry, Fault, Row, Value};
 use std::alloc::{AllocError, Global};
 
-/// A value that something took at a moment in milliseconds; no moment where it was so before the first row.
+/// A value that something took at a moment in milliseconds; no moment if it had it before the first row.
 #[derive(Clone, Copy)]
 pub(crate) struct Change {
     pub(crate) moment: Option<u64>,
@@ -27,7 +27,7 @@ pub(crate) struct Course {
 /// What happened to a program.
 #[derive(Clone, Copy, Debug, PartialEq, Eq)]
 pub(crate) enum Happening {
-    /// An execution was committed that did all.
+    /// An execution was committed that ran to its end.
     Done,
     /// An execution was committed that ended with a fault.
     Faulted(Fault),
@@ -42,7 +42,7 @@ pub(crate) struct Event {
     pub(crate) happening: Happening,
 }
 
-/// What happened to a program, one after another.
+/// The events of a program, one after another.
 #[derive(Drop)]
 pub(crate) struct History {
     pub(crate) events: Vec<Event>,
@@ -50,7 +50,7 @@ pub(crate) struct History {
     overruns: u64,
 }
 
-/// What is noted of a life: the values of what is shown, and what happened to each program.
+/// The notes on a life: the values shown, and the history of each program.
 #[derive(Drop)]
 pub(crate) struct Notes {
     pub(crate) courses: Vec<Course>,
@@ -60,7 +60,7 @@ pub(crate) struct Notes {
     pub(crate) span: Option<(u64, u64)>,
 }
 
-/// The value of what is shown, where the entry just done may have changed it.
+/// The value of a variable or input, if the entry just done may have changed it.
 fn value_of(core: &SerialCore, row: Option<&Row>, shown: Shown) -> Option<Value> {
     match shown {
         Shown::Variable(number) => core.values().get(number).copied(),
@@ -69,7 +69,7 @@ fn value_of(core: &SerialCore, row: Option<&Row>, shown: Shown) -> Option<Value>
 }
 
 impl Course {
-    /// Notes a value, if it is another than the last one.
+    /// Notes a value, if it differs from the last one.
     fn note(&mut self, moment: Option<u64>, value: Value) -> Result<(), AllocError> {
         if let Some(last) = self.changes.last() {
             if last.value.is(value) {
@@ -156,7 +156,7 @@ impl Notes {
         }
     }
 
-    /// Notes what an entry of that number was, at that moment.
+    /// Notes the entry of this number, at this moment.
     fn note_entry(
         &mut self,
         core: &SerialCore,
@@ -181,7 +181,7 @@ impl Notes {
 }
 
 impl Watcher for Notes {
-    // nothing is said of what is noted
+    // nothing is said about the notes
     ghost sees = { λ _ _ _. ⊤ };
 
     fn seen(&mut self, core: &SerialCore) -> Result<(), AllocError> {

@@ -48,7 +48,7 @@ fn bottom_of(strips: &[Strip]) -> u64 {
     bottom
 }
 
-/// Writes what the marks are, beside one another.
+/// Writes the meaning of the marks, next to one another.
 fn write_legend<W: Write>(out: &mut W) -> io::Result<()> {
     write!(
         out,
@@ -65,7 +65,7 @@ fn write_legend<W: Write>(out: &mut W) -> io::Result<()> {
     write!(out, "</g>\n")
 }
 
-/// Writes what is above the strips, for a picture of that height.
+/// Writes the part above the strips, for a picture of this height.
 fn write_head<W: Write>(out: &mut W, chart: &Chart, height: u64) -> io::Result<()> {
     write!(
         out,

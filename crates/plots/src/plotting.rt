@@ -21,9 +21,9 @@ use std::io;
 use std::io::Write;
 use std::sync::Arc;
 
-/// What a plot shows: a life that was run again, the values of what is shown, and what happened to each program.
+/// The contents of a plot: a life that was run again, the values shown, and the history of each program.
 pub struct Plot {
-    /// What is told of the life.
+    /// The findings on the life.
     pub found: Replayed,
     notes: Notes,
 }
@@ -34,9 +34,9 @@ impl Drop for Plot {
     }
 }
 
-/// Runs a trace again over the first of these rows, as `replay_text` does, and gathers what a plot shows.
+/// Runs a trace again over the first of these rows, as `replay_text` does, and gathers the contents of a plot.
 ///
-/// V1 to V4 where the text is no trace of the plan, V5 out of memory.
+/// V1 to V4 if the text isn't a trace of the plan, V5 out of memory.
 pub fn gather(
     alloc: Global,
     plan: Arc<Plan>,
@@ -73,7 +73,7 @@ fn left_out(plan: &Plan, courses: &[Course]) -> usize {
         .count()
 }
 
-/// What is said of a plot in small print.
+/// The note on a plot in small print.
 fn note(alloc: Global, plan: &Plan, plot: &Plot) -> Result<String, AllocError> {
     let Replayed {
         rows,

@@ -3,7 +3,7 @@
 ghost use Rattle.std.specs.Prelude.{◌≡◌, ◌≤◌, ◌<◌, ◌^◌, ◌-ℤ◌, ◌≤ℤ◌, ℤ, unsigned_abs};
 ghost use Rattle.plots.specs.Shares.{share};
 
-/// The part of a length that a part of a whole is; the half where the whole is nothing.
+/// The share of a length that corresponds to a part of a whole; the half if the whole is 0.
 fn share(part: u128, whole: u128, length: u32) -> u32
     requires part { part ≤ whole }
     requires short { whole < 2 ^ 96 }
@@ -30,8 +30,8 @@ const WIDEST: u128 = (1 << 96) - 1;
 impl Scale {
     ghost use Rattle.plots.specs.Places.{place_on};
 
-    /// The scale from one number to another that isn't less. Numbers of 64 bits are near enough: one that is 2^96 or
-    /// more above the least counts as the greatest.
+    /// The scale from one number to another that isn't less. Numbers of 64 bits are near enough: one that is 2^96 or more
+    /// above the least counts as the greatest.
     pub fn over(least: i128, greatest: i128) -> Scale
         ensures least { result.least ≡ least }
         ensures span { unsigned_abs (least -ℤ greatest) < 2 ^ 96 → result.span ≡ unsigned_abs (least -ℤ greatest) }
@@ -42,8 +42,8 @@ impl Scale {
         }
     }
 
-    /// How far from its beginning the number lies on a line of that length: the least at 0, the greatest at its end.
-    /// A number that is out of bounds lies at the end that is nearer.
+    /// How far from its beginning the number lies on a line of this length: the least at 0, the greatest at its end. A
+    /// number that is out of bounds lies at the nearer end.
     pub fn place(&self, number: i128, length: u32) -> u32
         ensures place { result ≡ place_on self.now number length }
         ensures within { result ≤ length }

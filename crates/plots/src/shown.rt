@@ -1,4 +1,4 @@
-//! What is shown of a plan.
+//! The variables and inputs of a plan that are shown.
 
 ghost use Rattle.std.specs.Prelude.{◌≡◌, IfOk, IfSome, IfNone, length, min, vec_len};
 ghost use Rattle.plots.specs.Calls.{is_written, IsVariableCalled, IsInputCalled, NoVariableCalled, NoInputCalled};
@@ -13,13 +13,13 @@ use std::alloc::{AllocError, Global};
 /// A variable or an input that is shown.
 #[derive(Clone, Copy, Debug, PartialEq, Eq)]
 pub enum Shown {
-    /// The variable of that number from 0, in layout order.
+    /// The variable of this number from 0, in layout order.
     Variable(usize),
-    /// The input of that number from 0, in declaration order.
+    /// The input of this number from 0, in declaration order.
     Input(usize),
 }
 
-/// As many variables as are shown where none is asked for.
+/// The greatest number of variables that are shown if none is asked for.
 pub const MOST_VARIABLES: usize = 12;
 
 /// Whether the word is the path as reports print it, in any case.
@@ -33,7 +33,7 @@ fn is_written(alloc: Global, path: &Path, word: &[u8]) -> Result<bool, AllocErro
     }
 }
 
-/// The number of the first variable of that path.
+/// The number of the first variable of this path.
 fn variable_of(
     alloc: Global,
     variables: &[PlanVariable],
@@ -52,7 +52,7 @@ fn variable_of(
     Ok(None)
 }
 
-/// The number of the first input of that path.
+/// The number of the first input of this path.
 fn input_of(alloc: Global, inputs: &[PlanInput], word: &[u8]) -> Result<Option<usize>, AllocError>
     ensures found { IfOk result (λ found. IfSome found (IsInputCalled inputs.now word.now)) }
     ensures none { IfOk result (λ found. IfNone found (NoInputCalled inputs.now word.now)) }
@@ -83,7 +83,7 @@ pub fn find(alloc: Global, plan: &Plan, word: &[u8]) -> Result<Option<Shown>, Al
     }
 }
 
-/// The first variables of a plan, as many as are shown where none is asked for.
+/// The first variables of a plan, at most `MOST_VARIABLES`, to be shown if none is asked for.
 pub fn first_variables(alloc: Global, plan: &Plan) -> Result<Vec<Shown>, AllocError>
     ensures { IfOk result (λ shown. vec_len shown ≡ min (length plan.now.variables.items) MOST_VARIABLES) }
 {

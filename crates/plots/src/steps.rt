@@ -3,7 +3,7 @@
 ghost use Rattle.std.specs.Prelude.{◌≡◌, ◌≤◌, ◌<◌, ◌*◌, ◌/◌, ◌^◌, ℕ};
 ghost use Rattle.plots.specs.Steps.{IsRound};
 
-/// The first of so much, twice, five times and ten times as much, and so on, of which the span has at most so many.
+/// The first of 1, 2, 5, 10 and so on times `unit` of which the span has at most `most`.
 fn step_from(unit: u128, span: u64, most: u64) -> u128
     requires some { 0 < most }
     requires unit { 0 < unit }
@@ -24,7 +24,7 @@ fn step_from(unit: u128, span: u64, most: u64) -> u128
     }
 }
 
-/// The least of 1, 2, 5, 10, 20, 50 and so on of which a span has at most so many.
+/// The least of 1, 2, 5, 10, 20, 50 and so on of which a span has at most `most`.
 pub fn round_step(span: u64, most: u64) -> u128
     requires some { 0 < most }
     ensures few { span / result ≤ most }

@@ -26,7 +26,7 @@ fn write_byte<W: Write>(out: &mut W, byte: u8) -> io::Result<()>
 }
 
 #[tactic(auto, using(crate::proofs::TextLemmas::all_harmless))]
-/// Writes a text as XML spells it, so that it shows as it is whatever stands in it; a control character shows as `?`.
+/// Writes a text as XML spells it, so that it shows as it is, whatever it contains; a control character shows as `?`.
 pub fn write_text<W: Write>(out: &mut W, text: &str) -> io::Result<()>
     ensures spelled { OnOk result (Appends (W.contents out.old) (W.contents out.new) (escaped text.now)) }
     ensures harmless { list_all is_harmless (escaped text.now) ≡ true }

@@ -4,7 +4,7 @@ use Rattle.std.proofs.Common.{ap, subst, arith, rules, ◌<◌, ◌≤◌, ◌+�
 use Rattle.std.specs.Prelude.{Some, slice_get}
 use Rattle.st_types.specs.declared.kind.Kind.{Kind}
 use Rattle.quick_code.specs.declared.quick_instr.QuickInstr.{QuickInstr}
-use Rattle.quick_code.specs.declared.quick_instr.QuickInstr.TheVariants.{Locate, LocateBehind}
+use Rattle.quick_code.specs.declared.quick_instr.QuickInstr.TheVariants.{Locate, LocateNested}
 use Rattle.slot_trees.specs.declared.expression.Place as code_place
 use Rattle.slot_trees.specs.declared.expression.Subscript as code_subscript
 use Rattle.slot_trees.specs.Chains.{Subscript, subscripts_of}
@@ -13,16 +13,16 @@ use Rattle.slot_trees.specs.SlotTrees.{Anchor, Place, SlotExpr, assign, load, no
 use Rattle.slot_trees.specs.SlotTrees.{subscript_then}
 use Rattle.st_compile.proofs.Elements.{subscript_seen}
 use Rattle.st_compile.proofs.Sizes.{expr_size, subscripts_size}
-use Rattle.quick_trees.specs.Pieces.{AreBoth, IsIndexed, IsLed, IsSubscript, IsTemporary, IsWithin}
+use Rattle.quick_trees.specs.Pieces.{InSequence, IsIndexed, IsLed, IsSubscript, IsTemporary, IsWithin}
 use Rattle.quick_trees.specs.Points.{Point, next}
 use Rattle.quick_trees.specs.QuickMemory.{Frame}
-use Rattle.quick_trees.specs.Sites.{Site, base_of}
+use Rattle.quick_trees.specs.UnitValues.{UnitValues, base_of}
 use Rattle.slot_trees.specs.SlotEvaluation.{slot_at}
-use Rattle.quick_trees.specs.Standing.{Exits, IsLedOn, IsMade, IsRead, IsReadApart, QuickUnits}
-use Rattle.quick_trees.specs.Standing.{StandsFor}
+use Rattle.quick_trees.specs.TreeCode.{Exits, IsLedOn, IsAssignedTo, IsRead, IsReadApart, QuickUnits}
+use Rattle.quick_trees.specs.TreeCode.{IsStmtCode}
 use Rattle.quick_checks.specs.declared.reached.Access.TheVariants.{Load, Store}
 use Rattle.quick_checks.specs.Within.{AreLed, PlaceStored, access_instr}
-use Rattle.quick_checks.proofs.Standings.{ticked}
+use Rattle.quick_checks.proofs.TreeCodeLemmas.{ticked}
 
 -- a place by its fields
 pub place_seen : (x : code_place.Place) → place_view x ≡ (let p = code_place.out-Place x in
@@ -38,7 +38,7 @@ subscripts_larger xs x rest is =
     ∙ ap (λ (y : Subscript). suc (expr_size y.index + subscripts_size (subscripts_of (map subscript_view rest))))
     (subscript_seen x)
 
-module _ (f : Frame) (s : Site) (units : QuickUnits) where
+module _ (f : Frame) (s : UnitValues) (units : QuickUnits) where
   -- the code of a subscript, and of the instruction that takes it
   indexed : (x : code_subscript.Subscript) (d index : ℕ) (shift : ℤ) (Instr : ℕ → ℤ → QuickInstr) (p m q : Point)
       → IsSubscript (λ u n. IsReadApart f s units (slot_expr_view x.index) u n d) x.lower shift x.count index p m
@@ -89,18 +89,18 @@ module _ (f : Frame) (s : Site) (units : QuickUnits) where
       (rest : List code_subscript.Subscript) (d c index : ℕ) (shift : ℤ) (Instr : ℕ → ℤ → ℕ → ℕ → QuickInstr)
       (p m l q : Point) → xs ≡ x ∷ rest → (length rest ≡ 0 → ⊥) → c ≡ suc d
       → IsSubscript (λ u n. IsReadApart f s units (slot_expr_view x.index) u n c) x.lower shift x.count index p m
-      → slice_get f.code m.place ≡ Some (LocateBehind d index shift d x.count x.stride) → l ≡ next m
+      → slice_get f.code m.place ≡ Some (LocateNested d index shift d x.count x.stride) → l ≡ next m
       → IsLedOn f s units (subscripts_of (map subscript_view rest)) d Instr l q
       → IsLedOn f s units (subscripts_of (map subscript_view xs)) d Instr p q
   led_more xs x [] d c index shift Instr p m l q is some deep h at e on = absurd (some refl)
   led_more xs x (y ∷ ys) d c index shift Instr p m l q is some deep h at e on =
-      let Led : Subscript → Type 0 = λ z. AreBoth (IsIndexed f (λ u n. IsReadApart f s units z.index u n (suc d))
-      z.lower z.count (λ i n. LocateBehind d i n d z.count z.stride))
+      let Led : Subscript → Type 0 = λ z. InSequence (IsIndexed f (λ u n. IsReadApart f s units z.index u n (suc d))
+      z.lower z.count (λ i n. LocateNested d i n d z.count z.stride))
       (IsLedOn f s units (subscripts_of (map subscript_view (y ∷ ys))) d Instr) p q in
       subst (λ zs. IsLedOn f s units (subscripts_of (map subscript_view zs)) d Instr p q) (sym is)
       (subst Led (sym (subscript_seen x)) (record {
         middle = l;
-        first = indexed x (suc d) index shift (λ i n. LocateBehind d i n d x.count x.stride) p m l (rw deep at h) at e;
+        first = indexed x (suc d) index shift (λ i n. LocateNested d i n d x.count x.stride) p m l (rw deep at h) at e;
         second = on;
       }))
 
@@ -117,7 +117,7 @@ module _ (f : Frame) (s : Site) (units : QuickUnits) where
       → 2 ≤ length xs
       → IsWithin f s (slot_at (base_of s) a) (subscripts_of (map subscript_view xs)) t
       (λ word. AreLed f s units (subscripts_of (map subscript_view xs)) d (access_instr (Load to) d word)) p q
-      → IsMade f s units (load (place a (subscripts_of (map subscript_view xs)))) t d to p q
+      → IsAssignedTo f s units (load (place a (subscripts_of (map subscript_view xs)))) t d to p q
   within_made a [] t d to p q le h = absurd (omega arith)
   within_made a (x ∷ []) t d to p q le h = absurd (omega arith)
   within_made a (x ∷ y ∷ xs) t d to p q le h = h
@@ -138,7 +138,7 @@ module _ (f : Frame) (s : Site) (units : QuickUnits) where
   }
 
   pub within_stands : (x : Place) (y : SlotExpr) (d : ℕ) (e : Exits) (p m q : Point) → p.ahead ≡ suc m.ahead
-      → m ≡ record p { ahead = m.ahead } → PlaceStored f s units x y d m q → StandsFor f s units (assign x y) d e p q
+      → m ≡ record p { ahead = m.ahead } → PlaceStored f s units x y d m q → IsStmtCode f s units (assign x y) d e p q
   within_stands (place a no_subscripts) y d e p m q t n h = absurd h
   within_stands (place a (subscript_then i lower count stride no_subscripts)) y d e p m q t n h = absurd h
   within_stands (place a (subscript_then i lower count stride (subscript_then j low more wide ss))) y d e p m q t n h =

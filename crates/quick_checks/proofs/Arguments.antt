@@ -10,11 +10,11 @@ use Rattle.slot_trees.specs.SlotTrees.{SlotFunction, SlotLibrary}
 use Rattle.quick_trees.specs.Calls.{AreBegun, IsBegun, IsFunction, quick_units}
 use Rattle.quick_trees.specs.Points.{Point}
 use Rattle.quick_trees.specs.QuickMemory.{Frame}
-use Rattle.quick_trees.specs.Sites.{Site}
-use Rattle.quick_trees.specs.Sites as sites
-use Rattle.quick_trees.specs.Standing.{AreArguments, IsRead, QuickUnits}
+use Rattle.quick_trees.specs.UnitValues.{UnitValues}
+use Rattle.quick_trees.specs.UnitValues as sites
+use Rattle.quick_trees.specs.TreeCode.{AreArguments, IsRead, QuickUnits}
 use Rattle.quick_checks.specs.declared.constants.Reading.{Reading}
-use Rattle.quick_checks.specs.declared.scope.Seat.{Seat}
+use Rattle.quick_checks.specs.declared.scope.FunctionWord.{FunctionWord}
 use Rattle.quick_checks.specs.Checking.{kinds_read, seat_of, words_read}
 
 kinds_more : (rs : List Reading) (a : Reading) (ts : List Kind)
@@ -35,7 +35,7 @@ all_words : (ws : List ℕ) → ws ++ [] ≡ ws
 all_words [] = refl
 all_words (w ∷ ws) = ap (λ us. w ∷ us) (all_words ws)
 
-module _ (f : Frame) (s : Site) (units : QuickUnits) where
+module _ (f : Frame) (s : UnitValues) (units : QuickUnits) where
   arguments_next : (xs : List code_expr.SlotExpr) (k j : ℕ) (x : code_expr.SlotExpr) (d c : ℕ) (a : Reading)
       (p r q : Point) (ts : List Kind) (ws : List ℕ) → k < length xs → j ≡ k + 1
       → x ≡ get_or xs k x → IsRead f s units (slot_expr_view x) a.kind d a.word p r → c ≡ suc d
@@ -84,27 +84,27 @@ module _ (f : Frame) (s : Site) (units : QuickUnits) where
   arguments_all xs k d depth rs start p le before =
       rw (all_kinds (kinds_read rs), all_words (words_read rs)) at (before [] [] p (arguments_over xs k d p le))
 
-seats_more : (ss : List Seat) (x : Seat) (rest : List sites.Seat)
+seats_more : (ss : List FunctionWord) (x : FunctionWord) (rest : List sites.FunctionWord)
     → map seat_of (ss ++ x ∷ []) ++ rest ≡ map seat_of ss ++ (seat_of x ∷ rest)
 seats_more [] x rest = refl
 seats_more (y ∷ ss) x rest = ap (λ us. seat_of y ∷ us) (seats_more ss x rest)
 
-all_seats : (ss : List sites.Seat) → ss ++ [] ≡ ss
+all_seats : (ss : List sites.FunctionWord) → ss ++ [] ≡ ss
 all_seats [] = refl
 all_seats (s ∷ ss) = ap (λ us. s ∷ us) (all_seats ss)
 
-pub begun_more : (f : Frame) (g : SlotFunction) (words : List ℕ) (start k : ℕ) (ss new : List Seat) (x : Seat)
+pub begun_more : (f : Frame) (g : SlotFunction) (words : List ℕ) (start k : ℕ) (ss new : List FunctionWord) (x : FunctionWord)
     (begin p r : Point) → IsBegun f g words start k (seat_of x) p r → new ≡ ss ++ x ∷ []
-    → ((rest : List sites.Seat) (q : Point) → AreBegun f g words start k rest p q
+    → ((rest : List sites.FunctionWord) (q : Point) → AreBegun f g words start k rest p q
     → AreBegun f g words start 0 (map seat_of ss ++ rest) begin q)
-    → (rest : List sites.Seat) (q : Point) → AreBegun f g words start (k + 1) rest r q
+    → (rest : List sites.FunctionWord) (q : Point) → AreBegun f g words start (k + 1) rest r q
     → AreBegun f g words start 0 (map seat_of new ++ rest) begin q
 begun_more f g words start k ss new x begin p r one n before rest q after =
     let h = before (seat_of x ∷ rest) q (r, (one, rw add-one at after)) in
     rw n (rw (seats_more ss x rest) h)
 
-pub begun_all : (f : Frame) (g : SlotFunction) (words : List ℕ) (start k : ℕ) (ss : List Seat) (begin p : Point)
-    → ((rest : List sites.Seat) (q : Point) → AreBegun f g words start k rest p q
+pub begun_all : (f : Frame) (g : SlotFunction) (words : List ℕ) (start k : ℕ) (ss : List FunctionWord) (begin p : Point)
+    → ((rest : List sites.FunctionWord) (q : Point) → AreBegun f g words start k rest p q
     → AreBegun f g words start 0 (map seat_of ss ++ rest) begin q)
     → AreBegun f g words start 0 (map seat_of ss) begin p
 begun_all f g words start k ss begin p before = rw (all_seats (map seat_of ss)) at (before [] p refl)
@@ -125,6 +125,6 @@ pub long_kinds : (rs : List Reading) → length (kinds_read rs) ≡ length rs
 long_kinds [] = refl
 long_kinds (r ∷ rs) = ap suc (long_kinds rs)
 
-pub long_seats : (ss : List Seat) → length (map seat_of ss) ≡ length ss
+pub long_seats : (ss : List FunctionWord) → length (map seat_of ss) ≡ length ss
 long_seats [] = refl
 long_seats (s ∷ ss) = ap suc (long_seats ss)

@@ -6,18 +6,18 @@ use Rattle.quick_code.specs.declared.quick_instr.QuickInstr.TheVariants.{Select}
 use Rattle.slot_trees.specs.SlotTrees.{Anchor, SlotArms, SlotExpr, SlotStmts, arm_then, assign, IF, no_arms, no_stmts}
 use Rattle.slot_trees.specs.SlotTrees.{no_subscripts, place, stmt_then}
 use Rattle.slot_trees.specs.SlotEvaluation.{slot_at}
-use Rattle.quick_trees.specs.Notes.{Tells, at_assignment}
+use Rattle.quick_trees.specs.Notes.{Implies, at_assignment}
 use Rattle.quick_trees.specs.Points.{Point, next}
 use Rattle.quick_trees.specs.QuickMemory.{Frame}
-use Rattle.quick_trees.specs.Sites.{HasOwnWord, Site, Touches, base_of, kinds_of}
-use Rattle.quick_trees.specs.Standing.{ArmsStand, Exits, IsAsked, IsChosen, IsRead, QuickUnits, StandsFor, StmtsStand}
+use Rattle.quick_trees.specs.UnitValues.{HasOwnWord, UnitValues, Touches, base_of, kinds_of}
+use Rattle.quick_trees.specs.TreeCode.{AreArmsCode, Exits, IsAsked, IsChosen, IsRead, QuickUnits, IsStmtCode, AreStmtsCode}
 use Rattle.quick_trees.specs.Straight.{IsStraight}
 
-module _ (f : Frame) (s : Site) (units : QuickUnits) where
+module _ (f : Frame) (s : UnitValues) (units : QuickUnits) where
   abbrev becomes : Anchor → SlotExpr → SlotStmts
   becomes a e = stmt_then (assign (place a no_subscripts) e) no_stmts
 
-  -- What a check has found: where it read the first value, what it marked there and behind it, and where it read the
+  -- The result of a check: where it read the first value, the marks that it put there and after it, and where it read the
   -- second one.
   pub choice_stands : (condition chosen other_value : SlotExpr) (variable : Anchor) (kind one other : Kind)
       (d below deep k word first second behind : ℕ) (p asked inner marked middle met from last stepped q : Point)
@@ -27,7 +27,7 @@ module _ (f : Frame) (s : Site) (units : QuickUnits) where
       → marked ≡ inner → met ≡ middle → from ≡ record marked { place = met.place } → one ≡ kind
       → IsRead f s units chosen one below first inner middle → IsStraight f below inner.place met.place → other ≡ kind
       → IsRead f s units other_value other deep second from last → IsStraight f deep met.place last.place
-      → met.ahead ≡ last.ahead → Tells met.noted last.noted
+      → met.ahead ≡ last.ahead → Implies met.noted last.noted
       → slice_get f.code last.place ≡ Some (Select k first second word) → stepped ≡ next last
       → q ≡ record stepped { noted = q.noted } → Touches at_assignment s word stepped.noted q.noted
       → IsChosen f s units (arm_then condition (becomes variable chosen) no_arms) (becomes variable other_value) d p q
@@ -71,18 +71,18 @@ module _ (f : Frame) (s : Site) (units : QuickUnits) where
         straight_second = subst (λ p. IsStraight f (suc (suc d)) p last.place) met_place
             (subst (λ d. IsStraight f d met.place last.place) deepest straight_other);
         as_many = sym (ap (λ (p : Point). p.ahead) met_is) ∙ many;
-        as_much = subst (λ ns. Tells ns last.noted) (ap (λ (p : Point). p.noted) met_is) much;
+        as_much = subst (λ ns. Implies ns last.noted) (ap (λ (p : Point). p.noted) met_is) much;
         stands = stands;
         is = q_is ∙ ap (λ (x : Point). record x { noted = q.noted }) stepped_is;
         touches = subst (λ ns. Touches at_assignment s word ns q.noted) (ap (λ (p : Point). p.noted) stepped_is)
             touches;
       }
 
-  -- an IF behind its tick
+  -- an IF after its tick
   module _ (arms : SlotArms) (otherwise : SlotStmts) (d : ℕ) (e : Exits) (p r q : Point) (ticks : p.ahead ≡ suc r.ahead)
       (rest : r ≡ record p { ahead = r.ahead }) where
     pub if_chosen : (these : SlotArms) (those : SlotStmts) → arms ≡ these → otherwise ≡ those
-        → IsChosen f s units these those d r q → StandsFor f s units (IF arms otherwise) d e p q
+        → IsChosen f s units these those d r q → IsStmtCode f s units (IF arms otherwise) d e p q
     if_chosen these those arms_are otherwise_is is = record {
       behind = r.ahead;
       ticks = ticks;
@@ -91,10 +91,10 @@ module _ (f : Frame) (s : Site) (units : QuickUnits) where
           (subst (λ o. IsChosen f s units these o d r q) (sym otherwise_is) is)));
     }
 
-    pub if_stands : ArmsStand f s units arms (StmtsStand f s units otherwise d e) d e r q
-        → StandsFor f s units (IF arms otherwise) d e p q
+    pub if_stands : AreArmsCode f s units arms (AreStmtsCode f s units otherwise d e) d e r q
+        → IsStmtCode f s units (IF arms otherwise) d e p q
     if_stands is = record {
       behind = r.ahead;
       ticks = ticks;
-      rest = inr (subst (λ r. ArmsStand f s units arms (StmtsStand f s units otherwise d e) d e r q) rest is);
+      rest = inr (subst (λ r. AreArmsCode f s units arms (AreStmtsCode f s units otherwise d e) d e r q) rest is);
     }

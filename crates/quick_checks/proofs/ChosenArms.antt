@@ -11,11 +11,11 @@ use Rattle.slot_trees.specs.Chains.{CaseArm, case_arms_of}
 use Rattle.slot_trees.specs.StatementViews.{slot_case_arm_view, slot_stmts_view}
 use Rattle.quick_code.specs.declared.quick_code.Way.{Way}
 use Rattle.quick_code.specs.Words.{case_of}
-use Rattle.quick_trees.specs.Pieces.{AreBoth}
-use Rattle.quick_trees.specs.Points.{Joins, Part, Point, along}
+use Rattle.quick_trees.specs.Pieces.{InSequence}
+use Rattle.quick_trees.specs.Points.{Joins, CodeRelation, Point, along}
 use Rattle.quick_trees.specs.QuickMemory.{Frame}
-use Rattle.quick_trees.specs.Sites.{Site}
-use Rattle.quick_trees.specs.Standing.{ChosenStand, Exits, QuickUnits, StmtsStand, part_by}
+use Rattle.quick_trees.specs.UnitValues.{UnitValues}
+use Rattle.quick_trees.specs.TreeCode.{IsChosenCode, Exits, QuickUnits, AreStmtsCode, part_by}
 use Rattle.quick_checks.specs.Choices.{body_at, chosen}
 
 pub body_is : (arms : List code_case_arm.SlotCaseArm) (k : ℕ) (a : code_case_arm.SlotCaseArm) → k < length arms
@@ -24,12 +24,12 @@ body_is [] k a lt is = absurd (omega arith)
 body_is (x ∷ xs) zero a lt is = ap (λ (y : code_case_arm.SlotCaseArm). slot_stmts_view y.body.items) is
 body_is (x ∷ xs) (suc k) a lt is = body_is xs k a (omega arith) is
 
-first_part : (b : Bool) (m : ℕ) (X Y : Part) (p q : Point) → (if b then 0 else suc m) ≡ 0 → X p q
+first_part : (b : Bool) (m : ℕ) (X Y : CodeRelation) (p q : Point) → (if b then 0 else suc m) ≡ 0 → X p q
     → part_by b X Y p q
 first_part true m X Y p q e h = h
 first_part false m X Y p q e h = absurd (omega arith)
 
-later_part : (b : Bool) (m k : ℕ) (X Y : Part) (p q : Point) → (if b then 0 else suc m) ≡ suc k
+later_part : (b : Bool) (m k : ℕ) (X Y : CodeRelation) (p q : Point) → (if b then 0 else suc m) ≡ suc k
     → (m ≡ k → Y p q) → part_by b X Y p q
 later_part true m k X Y p q e h = absurd (omega arith)
 later_part false m k X Y p q e h = h (omega arith)
@@ -41,7 +41,7 @@ chosen_most n (a ∷ arms) =
     elim (list_any (label_holds n) a.0) as (λ b. (if b then 0 else suc (chosen n arms)) ≤ suc (length arms))
     [ true ↦ omega arith | false ↦ omega arith ]
 
--- a number is of none of so many ways, or of one of them
+-- a number is of none of the ways, or of one of them
 pub case_or_none : (count : ℕ) (z : ℤ) → (case_of count z ≡ count)
     ⊎ ((j : ℕ) × (j < count) × (z ≡ pos j) × (case_of count z ≡ j))
 case_or_none count (negsuc m) = inl refl
@@ -54,10 +54,10 @@ long_views : (arms : List code_case_arm.SlotCaseArm) → length (map slot_case_a
 long_views [] = refl
 long_views (a ∷ arms) = ap suc (long_views arms)
 
-module _ (f : Frame) (s : Site) (units : QuickUnits) where
-  pub chosen_stands : (n : ℤ) (arms : List CaseArm) (k : ℕ) (otherwise : Part) (d : ℕ) (e : Exits) (p q : Point)
-      → k < length arms → chosen n arms ≡ k → AreBoth (StmtsStand f s units (body_at k arms) d e) (Joins f) p q
-      → ChosenStand f s units n (case_arms_of arms) otherwise d e p q
+module _ (f : Frame) (s : UnitValues) (units : QuickUnits) where
+  pub chosen_stands : (n : ℤ) (arms : List CaseArm) (k : ℕ) (otherwise : CodeRelation) (d : ℕ) (e : Exits) (p q : Point)
+      → k < length arms → chosen n arms ≡ k → InSequence (AreStmtsCode f s units (body_at k arms) d e) (Joins f) p q
+      → IsChosenCode f s units n (case_arms_of arms) otherwise d e p q
   chosen_stands n [] k otherwise d e p q lt is h = absurd (omega arith)
   chosen_stands n (a ∷ arms) zero otherwise d e p q lt is h =
       first_part (list_any (label_holds n) a.0) (chosen n arms) _ _ p q is h
@@ -65,35 +65,35 @@ module _ (f : Frame) (s : Site) (units : QuickUnits) where
       later_part (list_any (label_holds n) a.0) (chosen n arms) k _ _ p q is
       (λ same. chosen_stands n arms k otherwise d e p q (omega arith) same h)
 
-  pub none_stands : (n : ℤ) (arms : List CaseArm) (otherwise : Part) (d : ℕ) (e : Exits) (p q : Point)
-      → chosen n arms ≡ length arms → AreBoth otherwise (Joins f) p q
-      → ChosenStand f s units n (case_arms_of arms) otherwise d e p q
+  pub none_stands : (n : ℤ) (arms : List CaseArm) (otherwise : CodeRelation) (d : ℕ) (e : Exits) (p q : Point)
+      → chosen n arms ≡ length arms → InSequence otherwise (Joins f) p q
+      → IsChosenCode f s units n (case_arms_of arms) otherwise d e p q
   none_stands n [] otherwise d e p q is h = h
   none_stands n (a ∷ arms) otherwise d e p q is h =
       later_part (list_any (label_holds n) a.0) (chosen n arms) (length arms) _ _ p q is
       (λ same. none_stands n arms otherwise d e p q same h)
 
-  pub case_stands : (n : ℤ) (arms : List code_case_arm.SlotCaseArm) (otherwise : Part) (d : ℕ) (e : Exits)
+  pub case_stands : (n : ℤ) (arms : List code_case_arm.SlotCaseArm) (otherwise : CodeRelation) (d : ℕ) (e : Exits)
       (start behind : Point) (shift : ℤ) (first count : ℕ) (choices : List ℕ) (way : Way)
       → ((m : ℤ) → case_of count (m +ℤ shift) ≡ count → chosen m (map slot_case_arm_view arms) ≡ length arms)
       → ((m : ℤ) (j : ℕ) → j < count → m +ℤ shift ≡ pos j
       → slice_get choices j ≡ Some (chosen m (map slot_case_arm_view arms)))
       → ((k : ℕ) → k < length arms → (j : ℕ) (w : Way) → slice_get choices j ≡ Some k
       → slice_get f.ways (first + j) ≡ Some w
-      → AreBoth (StmtsStand f s units (body_at k (map slot_case_arm_view arms)) d e) (Joins f) (along start w) behind)
+      → InSequence (AreStmtsCode f s units (body_at k (map slot_case_arm_view arms)) d e) (Joins f) (along start w) behind)
       → slice_get f.ways (first + count) ≡ Some way
       → ((j : ℕ) (v : Way) → slice_get choices j ≡ Some (length arms) → slice_get f.ways (first + j) ≡ Some v
       → v ≡ way)
-      → AreBoth otherwise (Joins f) (along start way) behind
+      → InSequence otherwise (Joins f) (along start way) behind
       → (w : Way) → slice_get f.ways (first + case_of count (n +ℤ shift)) ≡ Some w
-      → ChosenStand f s units n (case_arms_of (map slot_case_arm_view arms)) otherwise d e (along start w) behind
+      → IsChosenCode f s units n (case_arms_of (map slot_case_arm_view arms)) otherwise d e (along start w) behind
   case_stands n arms otherwise d e start behind shift first count choices way inside are each last rest other w look =
       let views = map slot_case_arm_view arms in
       let long : length views ≡ length arms = long_views arms in
       let none : chosen n views ≡ length arms → w ≡ way
-      → ChosenStand f s units n (case_arms_of views) otherwise d e (along start w) behind =
+      → IsChosenCode f s units n (case_arms_of views) otherwise d e (along start w) behind =
       λ is same. none_stands n views otherwise d e (along start w) behind (is ∙ sym long)
-      (subst (λ v. AreBoth otherwise (Joins f) (along start v) behind) (sym same) other) in
+      (subst (λ v. InSequence otherwise (Joins f) (along start v) behind) (sym same) other) in
       elim (case_or_none count (n +ℤ shift)) [
         | inl out ↦ (
             let at : slice_get f.ways (first + count) ≡ Some w =

@@ -1,4 +1,4 @@
--- What stands for a standard function, whichever it is.
+-- The code that stands for a standard function, whichever it is.
 use Rattle.std.proofs.Common.{inr, ℕ}
 use Rattle.st_types.specs.declared.kind.Kind.{Kind}
 use Rattle.st_meaning.specs.StandardFunctions.{ABS, CONVERT, LIMIT, MAX, MIN, ROL, ROR, SEL, SHL, SHR, Standard}
@@ -7,10 +7,10 @@ use Rattle.quick_trees.specs.Functions.{IsEvaluated}
 use Rattle.quick_trees.specs.Pieces.{IsTemporary}
 use Rattle.quick_trees.specs.Points.{Point}
 use Rattle.quick_trees.specs.QuickMemory.{Frame}
-use Rattle.quick_trees.specs.Sites.{Site}
-use Rattle.quick_trees.specs.Standing.{AreArguments, IsRead, QuickUnits}
+use Rattle.quick_trees.specs.UnitValues.{UnitValues}
+use Rattle.quick_trees.specs.TreeCode.{AreArguments, IsRead, QuickUnits}
 
-module _ (f : Frame) (s : Site) (units : QuickUnits) where
+module _ (f : Frame) (s : UnitValues) (units : QuickUnits) where
   pub read_evaluated : (g : Standard) (es : SlotExprs) (t : Kind) (d k : ℕ) (p q : Point) → IsTemporary f k d
       → IsEvaluated f (AreArguments f s units es d) g t d k p q → IsRead f s units (compute g es) t d k p q
   read_evaluated ABS es t d k p q there is = (there, is)

@@ -1,4 +1,4 @@
--- Arguments that were read, so many of them.
+-- The arguments that were read, by their number.
 use Rattle.std.proofs.Common.{◌≡◌, List, [], ◌∷◌, length, get_or, ap, ap₂, sym, arith}
 use Rattle.quick_trees.specs.Functions.{AreThree, AreTwo, IsOne}
 use Rattle.quick_checks.specs.declared.constants.Reading.{Reading}

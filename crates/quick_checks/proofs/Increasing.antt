@@ -1,11 +1,11 @@
--- Slots each of which is behind the one before it are in increasing order.
+-- Slots each of which is after the one before it are in increasing order.
 use Rattle.std.proofs.Common.{◌≡◌, ℕ, zero, suc, List, length, arith, ap, ◌∙◌, subst, sym, ◌<◌, ◌+◌, ◌-◌}
 use Rattle.std.specs.Prelude.{Some, slice_get}
 use Rattle.std.proofs.lemmas.Option.{slice_get_within}
 use Rattle.quick_trees.specs.Windows.{IsWindow}
 use Rattle.quick_trees.proofs.Lists.{within_there}
 
--- each is behind the one before it
+-- each is after the one before it
 abbrev pub IsBehind : List ℕ → ℕ → Type 0
 IsBehind ws w = (u j k : ℕ) → w ≡ u + 1 → slice_get ws u ≡ Some j → slice_get ws w ≡ Some k → j < k
 

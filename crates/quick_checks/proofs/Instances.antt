@@ -10,14 +10,14 @@ use Rattle.slot_trees.specs.SlotTrees.{Anchor, BlockCode, Place, SlotArgument, S
 use Rattle.slot_trees.specs.SlotTrees.{copied, given, no_subscripts, place}
 use Rattle.slot_trees.specs.SlotEvaluation.{slot_at}
 use Rattle.quick_trees.specs.declared.noting.Noting.{Noting}
-use Rattle.quick_trees.specs.Calls.{AreMembers, BlockStands, quick_units}
-use Rattle.quick_trees.specs.Notes.{AllChange, Changes}
+use Rattle.quick_trees.specs.Calls.{AreMembers, IsBlockCode, quick_units}
+use Rattle.quick_trees.specs.Notes.{NotesChange, NoteChanges}
 use Rattle.quick_trees.specs.Pieces.{AreElsewhere, Input}
 use Rattle.quick_trees.specs.Points.{AreNoted, Point}
 use Rattle.quick_trees.specs.QuickMemory.{Frame}
-use Rattle.quick_trees.specs.Sites.{Site, base_of}
-use Rattle.quick_trees.specs.Standing.{InputsGiven, InputsRead, IsCopied, IsGiven, IsReadOrMoved}
-use Rattle.quick_trees.specs.Standing.{OutputsCopied, QuickUnits}
+use Rattle.quick_trees.specs.UnitValues.{UnitValues, base_of}
+use Rattle.quick_trees.specs.TreeCode.{InputsGiven, InputsRead, IsCopied, IsGiven, IsReadOrMoved}
+use Rattle.quick_trees.specs.TreeCode.{OutputsCopied, QuickUnits}
 use Rattle.quick_checks.specs.declared.members.Taken.{Taken}
 use Rattle.quick_checks.specs.Checking.{input_taken, inputs_taken}
 use Rattle.quick_checks.specs.Members.{IsMember}
@@ -47,28 +47,28 @@ members_stand f (x ∷ ms) k w h =
     )
 
 pub change_begins : (change : Noting → Option Noting) (first count : ℕ) (start : List Noting) (k n : ℕ)
-    (after : List Noting) → k ≡ first + 0 → n + 0 ≡ count → AllChange change k n start after
-    → AllChange change first count start after
+    (after : List Noting) → k ≡ first + 0 → n + 0 ≡ count → NotesChange change k n start after
+    → NotesChange change first count start after
 change_begins change first count start k n after a b h =
     let from : k ≡ first = omega arith in
     let many : n ≡ count = omega arith in
-    subst (λ m. AllChange change first m start after) many (subst (λ m. AllChange change m n start after) from h)
+    subst (λ m. NotesChange change first m start after) many (subst (λ m. NotesChange change m n start after) from h)
 
 pub change_more : (change : Noting → Option Noting) (first count index slot : ℕ) (start old new : List Noting)
-    → slot ≡ first + index → Changes change slot old new
-    → ((k n : ℕ) (after : List Noting) → k ≡ first + index → n + index ≡ count → AllChange change k n old after
-    → AllChange change first count start after)
+    → slot ≡ first + index → NoteChanges change slot old new
+    → ((k n : ℕ) (after : List Noting) → k ≡ first + index → n + index ≡ count → NotesChange change k n old after
+    → NotesChange change first count start after)
     → (k n : ℕ) (after : List Noting) → k ≡ first + (index + 1) → n + (index + 1) ≡ count
-    → AllChange change k n new after → AllChange change first count start after
+    → NotesChange change k n new after → NotesChange change first count start after
 change_more change first count index slot start old new is one before k n after from many h =
     let e : k ≡ suc slot = omega arith in
-    before slot (suc n) after is (omega arith) (new, (one, subst (λ m. AllChange change m n new after) e h))
+    before slot (suc n) after is (omega arith) (new, (one, subst (λ m. NotesChange change m n new after) e h))
 
 pub changed_all : (change : Noting → Option Noting) (first count index : ℕ) (start old : List Noting)
     → index ≡ count
-    → ((k n : ℕ) (after : List Noting) → k ≡ first + index → n + index ≡ count → AllChange change k n old after
-    → AllChange change first count start after)
-    → AllChange change first count start old
+    → ((k n : ℕ) (after : List Noting) → k ≡ first + index → n + index ≡ count → NotesChange change k n old after
+    → NotesChange change first count start after)
+    → NotesChange change first count start old
 changed_all change first count index start old e before = before (first + index) 0 old refl (omega arith) refl
 
 elsewhere : (xs : List Taken) (k : ℕ) → ((m : ℕ) (i : Taken) → slice_get xs m ≡ Some i → i.word ≡ k → ⊥)
@@ -81,7 +81,7 @@ taken_more : (ts : List Taken) (t : Taken) (js : List Input)
 taken_more [] t js = refl
 taken_more (x ∷ ts) t js = ap (λ is. input_taken x ∷ is) (taken_more ts t js)
 
-module _ (f : Frame) (s : Site) (units : QuickUnits) where
+module _ (f : Frame) (s : UnitValues) (units : QuickUnits) where
   pub given_next : (at : ℕ) (xs : List Taken) (k j : ℕ) (x : Taken) (slot to : ℕ) (p r q : Point) → j ≡ k + 1
       → slice_get xs k ≡ Some x → slot ≡ at + x.member → IsGiven f s units slot x.kind x.word to p r
       → ((m : ℕ) → j ≤ m → (i : Taken) → slice_get xs m ≡ Some i → i.word ≡ to → ⊥)
@@ -159,9 +159,9 @@ module _ (f : Frame) (s : Site) (units : QuickUnits) where
   copied_read x o y d old rest js p q is more =
       (js, (refl, subst (λ (z : SlotArgument). InputsRead f s units (z ∷ rest) d js p q) (sym is) more))
 
--- what is known of a block one call deeper
+-- facts known of a block one call deeper
 pub block_stands : (f : Frame) (library : SlotLibrary) (n m : ℕ) (code : BlockCode) (at d : ℕ) (p q : Point)
-    → suc m ≡ n → BlockStands f library (quick_units f library m) code at d p q
+    → suc m ≡ n → IsBlockCode f library (quick_units f library m) code at d p q
     → (quick_units f library n).blocks code at d p q
 unfolding quick_units
 block_stands f library n m code at d p q e h = subst (λ k. (quick_units f library k).blocks code at d p q) e h

@@ -6,7 +6,7 @@ pub mod Below
 pub mod Chains
 pub mod Leading
 pub mod AlongSubscripts
-pub mod Standings
+pub mod TreeCodeLemmas
 pub mod Arguments
 pub mod Inputs
 pub mod Tables

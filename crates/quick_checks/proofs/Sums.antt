@@ -8,8 +8,8 @@ use Rattle.st_compile.proofs.Sizes.{expr_size}
 use Rattle.quick_trees.specs.Pieces.{HasNumbers}
 use Rattle.quick_trees.specs.Points.{Point}
 use Rattle.quick_trees.specs.QuickMemory.{Frame}
-use Rattle.quick_trees.specs.Sites.{Site}
-use Rattle.quick_trees.specs.Standing.{IsRead, IsReadWithout, QuickUnits}
+use Rattle.quick_trees.specs.UnitValues.{UnitValues}
+use Rattle.quick_trees.specs.TreeCode.{IsRead, IsReadWithout, QuickUnits}
 use Rattle.quick_checks.specs.Sums.{IsSum}
 
 number_between : (t : Kind) (lower : ℤ) (count j : ℕ) → least t ≤ℤ lower → (lower +ℤ pos count) ≤ℤ greatest t
@@ -31,7 +31,7 @@ sum_larger (compute g es) rest t n is = absurd is
 sum_larger (call g es) rest t n is = absurd is
 
 -- reading the other part reads all of a sum but the constant
-pub sum_read : (f : Frame) (s : Site) (units : QuickUnits) (e rest : SlotExpr) (t : Kind) (n : ℤ) (d k : ℕ)
+pub sum_read : (f : Frame) (s : UnitValues) (units : QuickUnits) (e rest : SlotExpr) (t : Kind) (n : ℤ) (d k : ℕ)
     (p q : Point) → IsSum e rest t n → IsRead f s units rest t d k p q → IsReadWithout f s units e t n d k p q
 sum_read f s units (binary op x y) rest t n d k p q (inl (adds, is)) read =
     inl (adds, subst (λ e. IsRead f s units e t d k p q) is read)

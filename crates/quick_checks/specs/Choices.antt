@@ -5,7 +5,7 @@ use Rattle.st_meaning.specs.Execution.{label_holds}
 use Rattle.slot_trees.specs.Chains.{CaseArm}
 use Rattle.slot_trees.specs.SlotTrees.{SlotStmts, no_stmts}
 
--- the first arm with a label that holds the number; behind the last one where there is none
+-- the first arm with a label that holds the number; the number of arms if there is none
 abbrev pub chosen : ℤ → List CaseArm → ℕ
 chosen n [] = 0
 chosen n (a ∷ arms) = if list_any (label_holds n) a.0 then 0 else suc (chosen n arms)

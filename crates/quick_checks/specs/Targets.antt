@@ -1,4 +1,4 @@
--- What straight-line code is made of.
+-- The instructions of straight-line code.
 use Rattle.std.specs.Prelude.{ℕ, Option, Some, None}
 use Rattle.quick_code.specs.declared.quick_instr.QuickInstr.{QuickInstr}
 use Rattle.quick_code.specs.declared.quick_instr.QuickInstr.TheVariants.{Move, Set, MoveWithin, Select, Clock, AddInt}

@@ -6,8 +6,8 @@ ghost use Rattle.slot_trees.specs.ExpressionViews.{anchor_view, slot_expr_view};
 ghost use Rattle.slot_trees.specs.StatementViews.{block_code_view, slot_argument_view};
 ghost use Rattle.quick_trees.specs.Pieces.{Input};
 ghost use Rattle.quick_trees.specs.Points.{Point};
-ghost use Rattle.quick_trees.specs.Sites.{IsWhole};
-ghost use Rattle.quick_trees.specs.Standing.{InputsRead, IsInvoked, IsReadOrMoved};
+ghost use Rattle.quick_trees.specs.UnitValues.{IsProgramOrBlock};
+ghost use Rattle.quick_trees.specs.TreeCode.{InputsRead, IsInvoked, IsReadOrMoved};
 ghost use Rattle.quick_checks.specs.Checking.{Always, inputs_taken, point_of, site_of};
 
 use crate::constants::Reading;
@@ -50,7 +50,7 @@ pub fn check_invoked(
 
 /// The unit is a program or a block.
 fn of_program(values: &Values) -> Result<(), Refusal>
-    ensures { OnOk result (IsWhole (site_of values.now)) }
+    ensures { OnOk result (IsProgramOrBlock (site_of values.now)) }
 {
     match values {
         Values::Whole(_) => Ok(()),
@@ -82,7 +82,7 @@ fn check_inputs(
     Ok(inputs)
 }
 
-/// The same of an argument, behind the inputs before it: from which depth on temporaries are free then.
+/// The same of an argument, after the inputs before it: from which depth on temporaries are free then.
 #[cycle(check)]
 fn check_argument(
     draft: &QuickDraft,
@@ -109,7 +109,7 @@ fn check_argument(
     }
 }
 
-/// Finds the code that reads an input: its value is then where it stands, or moved to a temporary.
+/// Finds the code that reads an input: its value is then in its own word, or moved to a temporary.
 #[cycle(check)]
 fn check_input(
     draft: &QuickDraft,
@@ -164,8 +164,8 @@ fn check_block(
     }
 }
 
-/// The same of a block of the text: its body stands in the place of the call, with calls one less deep, and RETURN
-/// leads behind it.
+/// The same of a block of the text: its body takes the place of the call, with calls one less deep, and RETURN leads to the
+/// code after it.
 #[cycle(check)]
 fn check_own(
     draft: &QuickDraft,

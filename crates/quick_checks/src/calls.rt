@@ -5,7 +5,7 @@ ghost use Rattle.slot_trees.specs.Chains.{exprs_of};
 ghost use Rattle.slot_trees.specs.ExpressionViews.{slot_expr_view};
 ghost use Rattle.slot_trees.specs.LibraryViews.{slot_function_view};
 ghost use Rattle.quick_trees.specs.Calls.{kinds_in};
-ghost use Rattle.quick_trees.specs.Standing.{AreArguments, IsCall};
+ghost use Rattle.quick_trees.specs.TreeCode.{AreArguments, IsCall};
 ghost use Rattle.quick_checks.specs.Checking.{Always, kinds_read, point_of, words_read};
 
 use crate::constants::Reading;
@@ -95,8 +95,8 @@ fn kinds_of(alloc: Global, function: &SlotFunction) -> Result<Vec<Kind>, Refusal
     Ok(kinds)
 }
 
-/// Finds the code of a function in the place of its call, where its values stand from a word on: the type of the
-/// result, which is then in a word.
+/// Finds the code, in the place of its call, of a function whose values begin at a word: the type of the result, which is
+/// then in a word.
 #[cycle(check)]
 fn check_function(
     draft: &QuickDraft,
@@ -138,7 +138,7 @@ fn check_function(
     Ok(kind)
 }
 
-/// Where temporaries begin behind the values of a function that stand from a word on, if there is room for these.
+/// Where temporaries begin after the values of a function, which begin at a word, if there is room for these.
 fn room(draft: &QuickDraft, function: &SlotFunction, start: u16) -> Result<u16, Refusal>
     ensures below { IfOk result (λ d. d ≡ start + length (slot_function_view function.now).fresh) }
     ensures room { OnOk result (start + length (slot_function_view function.now).fresh ≤ draft.now.words) }

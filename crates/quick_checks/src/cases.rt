@@ -6,9 +6,9 @@ ghost use Rattle.quick_code.specs.declared.quick_instr.QuickInstr.TheVariants as
 ghost use Rattle.slot_trees.specs.Chains.{case_arms_of};
 ghost use Rattle.slot_trees.specs.ExpressionViews.{slot_expr_view};
 ghost use Rattle.slot_trees.specs.StatementViews.{slot_case_arm_view, slot_stmts_view};
-ghost use Rattle.quick_trees.specs.Pieces.{AreBoth};
+ghost use Rattle.quick_trees.specs.Pieces.{InSequence};
 ghost use Rattle.quick_trees.specs.Points.{Joins, along};
-ghost use Rattle.quick_trees.specs.Standing.{ChosenStand, IsCase, IsRead, StmtsStand};
+ghost use Rattle.quick_trees.specs.TreeCode.{IsChosenCode, IsCase, IsRead, AreStmtsCode};
 ghost use Rattle.quick_checks.specs.Choices.{body_at};
 ghost use Rattle.quick_checks.specs.Checking.{Always, exits_of, landing_of, point_of};
 
@@ -61,7 +61,7 @@ fn check_arm(
 ) -> Result<(), Refusal>
     ensures { OnOk result (Always draft.now library.now scope.now (λ f s units. (j : ℕ) (w : Way)
         → slice_get choices.now j ≡ Some index → slice_get f.ways (table.now.first + j) ≡ Some w
-        → AreBoth (StmtsStand f s units (slot_stmts_view body.now) depth (exits_of exits.now)) (Joins f)
+        → InSequence (AreStmtsCode f s units (slot_stmts_view body.now) depth (exits_of exits.now)) (Joins f)
         (along (landing_of start.now) w) (landing_of behind.now))) }
 {
     let Some(way) = way_of_arm(draft, table, choices, index)? else {
@@ -91,8 +91,8 @@ pub fn check_case(
 ) -> Result<(), Refusal>
     ensures { OnOk result (Always draft.now library.now scope.now (λ f s units. IsCase f
         (λ t k p q. IsRead f s units (slot_expr_view selector.now) t depth k p q)
-        (λ n p q. ChosenStand f s units n (case_arms_of (map slot_case_arm_view arms.now))
-        (StmtsStand f s units (slot_stmts_view otherwise.now) depth (exits_of exits.now)) depth (exits_of exits.now)
+        (λ n p q. IsChosenCode f s units n (case_arms_of (map slot_case_arm_view arms.now))
+        (AreStmtsCode f s units (slot_stmts_view otherwise.now) depth (exits_of exits.now)) depth (exits_of exits.now)
         p q) (point_of at.old) (point_of at.new))) }
 {
     let behind = landing(at)?;
@@ -143,7 +143,7 @@ fn check_case_arms(
 ) -> Result<(), Refusal>
     ensures { OnOk result (Always draft.now library.now scope.now (λ f s units. (k : ℕ) → k < length arms.now
         → (j : ℕ) (w : Way) → slice_get choices.now j ≡ Some k → slice_get f.ways (table.now.first + j) ≡ Some w
-        → AreBoth (StmtsStand f s units (body_at k (map slot_case_arm_view arms.now)) depth (exits_of exits.now))
+        → InSequence (AreStmtsCode f s units (body_at k (map slot_case_arm_view arms.now)) depth (exits_of exits.now))
         (Joins f) (along (landing_of start.now) w) (landing_of behind.now))) }
 {
     let mut index = 0;

@@ -16,8 +16,8 @@ use st_meaning::number_of;
 use st_types::Label;
 use std::alloc::Global;
 
-/// The table of a switch: what is added to the selector, the first way, and how many there are before the last one,
-/// which is that of all other numbers.
+/// The table of a switch: the addend to the selector, the first way, and how many there are before the last one, which is
+/// that of all other numbers.
 #[derive(Clone, Copy)]
 pub struct Table {
     pub shift: i32,
@@ -201,7 +201,7 @@ pub fn all_lead(draft: &QuickDraft, table: &Table, choices: &[usize], arm: usize
     true
 }
 
-/// The way of all numbers of the table for which an arm is chosen; none where there are none.
+/// The way of all numbers of the table for which an arm is chosen; none if there are none.
 pub fn way_of_arm(
     draft: &QuickDraft,
     table: &Table,

@@ -6,13 +6,13 @@ ghost use Rattle.slot_trees.specs.SlotTrees as tree;
 ghost use Rattle.slot_trees.specs.Chains.{arms_of};
 ghost use Rattle.slot_trees.specs.ExpressionViews.{anchor_view, slot_expr_view};
 ghost use Rattle.slot_trees.specs.StatementViews.{slot_arm_view, slot_stmts_view};
-ghost use Rattle.quick_trees.specs.Standing.{IsAsked, IsChosen};
+ghost use Rattle.quick_trees.specs.TreeCode.{IsAsked, IsChosen};
 ghost use Rattle.quick_trees.specs.Straight.{AssignsAt, IsStraight};
 ghost use Rattle.quick_checks.specs.Checking.{Always, frame_of, point_of};
 ghost use Rattle.quick_checks.specs.Targets as spec;
 
 use crate::constants::number_for;
-use crate::cursor::{Cursor, assign, expect, go, instr_at, landing, mark, tell, tick};
+use crate::cursor::{Cursor, assign, expect, go, instr_at, landing, mark, notes_imply, tick};
 use crate::draft::QuickDraft;
 use crate::expressions::{deeper, variable_of};
 use crate::reading::check_read;
@@ -39,7 +39,7 @@ pub struct Choice<'a> {
     pub no: &'a SlotExpr,
 }
 
-/// The assignment that statements are, if they are one alone.
+/// The assignment, if the statements are a single one.
 fn only_assignment(statements: &[SlotStmt]) -> Option<Assignment<'_>>
     ensures { IfSome result (λ a. slot_stmts_view statements.now ≡ tree.stmt_then
         (tree.assign (tree.place (anchor_view a.variable) tree.no_subscripts) (slot_expr_view a.value.now))
@@ -55,7 +55,7 @@ fn only_assignment(statements: &[SlotStmt]) -> Option<Assignment<'_>>
     Some(Assignment { variable, value })
 }
 
-/// The choice that an IF is, if it has one condition, and assigns to the same variable whether that holds or not.
+/// The choice of an IF, if it has one condition, and assigns to the same variable whether that holds or not.
 pub fn choice_of<'a>(arms: &'a [SlotArm], otherwise: &'a [SlotStmt]) -> Option<Choice<'a>>
     ensures if_it_holds { IfSome result (λ c. arms_of (map slot_arm_view arms.now) ≡ tree.arm_then
         (slot_expr_view c.condition.now) (tree.stmt_then
@@ -197,7 +197,7 @@ pub fn check_choice(
     if !is_straight(draft, below, start, middle.place)
         || !is_straight(draft, deep, middle.place, at.place)
         || middle.ahead != at.ahead
-        || !tell(&middle.noted, &at.noted)
+        || !notes_imply(&middle.noted, &at.noted)
     {
         return Err(Refusal::Other);
     }
@@ -215,7 +215,7 @@ pub fn check_choice(
     Ok(())
 }
 
-/// Finds the code that reads a condition: the word that is not 0 where it holds.
+/// Finds the code that reads a condition: the word that is not 0 if it holds.
 #[cycle(check)]
 fn check_asked(
     draft: &QuickDraft,

@@ -5,19 +5,18 @@ ghost use Rattle.st_types.specs.declared.kind.Kind.TheVariants.{Bool as Boolean}
 ghost use Rattle.slot_trees.specs.SlotTrees as tree;
 ghost use Rattle.slot_trees.specs.ExpressionViews.{slot_expr_view};
 ghost use Rattle.quick_trees.specs.Instructions as instrs;
-ghost use Rattle.quick_trees.specs.Pieces.{IsNumber, IsTested, Stands};
-ghost use Rattle.quick_trees.specs.Standing.{IsRead, IsTestedFor};
+ghost use Rattle.quick_trees.specs.Pieces.{IsNumber, IsTested, IsInstr};
+ghost use Rattle.quick_trees.specs.TreeCode.{IsRead, IsTestedFor};
 ghost use Rattle.quick_checks.specs.Checking.{Always, frame_of, point_of};
 
 use crate::constants::{Reading, number_for};
-use crate::cursor::{Cursor, Leg, instr_at, leg_at, stands};
+use crate::cursor::{Cursor, Leg, find, is_instr, leg_at};
 use crate::draft::QuickDraft;
 use crate::expressions::{deeper, temporary};
-use crate::instructions::{branch_for, branch_for_by, truth_branch};
+use crate::instructions::{bool_branch, branch_for, branch_for_by};
 use crate::reading::{check_binary, check_read};
 use crate::refusal::Refusal;
 use crate::scope::{Scope, is_kind};
-use quick_code::is_same;
 use slot_trees::{Operands, SlotExpr, SlotLibrary};
 use st_types::{BinaryOperator, Kind, UnaryOperator};
 
@@ -44,15 +43,15 @@ pub fn check_test(
             check_compared(draft, library, scope, *operator, operands, when, depth, at)
         }
         SlotExpr::Load(_) => {
-            let leg = check_truth(draft, library, scope, condition, when, depth, at)?;
+            let leg = check_bool(draft, library, scope, condition, when, depth, at)?;
             Ok(leg)
         }
         SlotExpr::Constant(_) => {
-            let leg = check_truth(draft, library, scope, condition, when, depth, at)?;
+            let leg = check_bool(draft, library, scope, condition, when, depth, at)?;
             Ok(leg)
         }
         SlotExpr::Call(_, _) => {
-            let leg = check_truth(draft, library, scope, condition, when, depth, at)?;
+            let leg = check_bool(draft, library, scope, condition, when, depth, at)?;
             Ok(leg)
         }
         _ => Err(Refusal::Other),
@@ -61,7 +60,7 @@ pub fn check_test(
 
 /// The same of a BOOL that is read.
 #[cycle(check)]
-fn check_truth(
+fn check_bool(
     draft: &QuickDraft,
     library: &SlotLibrary,
     scope: &Scope,
@@ -78,22 +77,17 @@ fn check_truth(
     if !is_kind(read.kind, Kind::Bool) {
         return Err(Refusal::Other);
     }
-    let leg = truth_tested(draft, at, when, read.word)?;
+    let leg = bool_tested(draft, at, when, read.word)?;
     Ok(leg)
 }
 
 /// The ways of the branch here, if it tests a BOOL.
-fn truth_tested(draft: &QuickDraft, at: &Cursor, when: bool, word: u16) -> Result<Leg, Refusal>
+fn bool_tested(draft: &QuickDraft, at: &Cursor, when: bool, word: u16) -> Result<Leg, Refusal>
     ensures { IfOk result (λ l. slice_get draft.now.code.instrs.items at.now.place
-        ≡ Some (instrs.truth_branch when word l.way l.past)) }
+        ≡ Some (instrs.bool_branch when word l.way l.past)) }
 {
     let leg = leg_at(draft, at)?;
-    if !is_same(
-        instr_at(draft, at.place)?,
-        truth_branch(when, word, leg.way, leg.past),
-    ) {
-        return Err(Refusal::Other);
-    }
+    find(draft, at, bool_branch(when, word, leg.way, leg.past))?;
     Ok(leg)
 }
 
@@ -119,7 +113,7 @@ fn check_compared(
         if !is_kind(kind, Kind::Bool) {
             return Err(Refusal::Other);
         }
-        let leg = truth_tested(draft, at, when, depth)?;
+        let leg = bool_tested(draft, at, when, depth)?;
         return Ok(leg);
     }
     let left = check_read(draft, library, scope, &operands.left, depth, at)?;
@@ -156,11 +150,11 @@ fn words_compared(
     left: u16,
     right: u16,
 ) -> Result<Leg, Refusal>
-    ensures { IfOk result (λ l. (now : ℕ) → Stands (frame_of draft.now now)
+    ensures { IfOk result (λ l. (now : ℕ) → IsInstr (frame_of draft.now now)
         (instrs.branch_for when operator left right l.way l.past) at.now.place) }
 {
     let leg = leg_at(draft, at)?;
-    if !stands(
+    if !is_instr(
         draft,
         at,
         branch_for(when, operator, left, right, leg.way, leg.past),
@@ -187,14 +181,14 @@ fn constant_compared(
     right: &SlotExpr,
 ) -> Option<Compared>
     ensures number { IfSome result (λ k. IsNumber (slot_expr_view right.now) left.kind k.constant) }
-    ensures stands { IfSome result (λ k. (now : ℕ) → Stands (frame_of draft.now now)
+    ensures stands { IfSome result (λ k. (now : ℕ) → IsInstr (frame_of draft.now now)
         (instrs.branch_for_by when operator left.word k.constant k.leg.way k.leg.past) at.now.place) }
 {
     let constant = number_for(right, left.kind)?;
     let Ok(leg) = leg_at(draft, at) else {
         return None;
     };
-    if !stands(
+    if !is_instr(
         draft,
         at,
         branch_for_by(when, operator, left.word, constant, leg.way, leg.past),

@@ -27,7 +27,7 @@ pub fn literal_value(literal: &Literal) -> Result<Value, Refusal>
 {
     let value = match literal {
         Literal::Number(number) => value_of_number(number),
-        Literal::Truth(_, truth) => Ok(Value::truth(*truth)),
+        Literal::Truth(_, truth) => Ok(Value::from_bool(*truth)),
         Literal::Duration(_, milliseconds) => Value::new(Kind::Time, *milliseconds as i128),
         Literal::Enumerated(_) => Err(Fault::Index),
     };
@@ -37,7 +37,7 @@ pub fn literal_value(literal: &Literal) -> Result<Value, Refusal>
     }
 }
 
-/// The word of a constant of a type, where an instruction can have it.
+/// The word of a constant of a type, if an instruction can have it.
 pub fn number_for(expression: &SlotExpr, kind: Kind) -> Option<i32>
     ensures { IfSome result (λ w. IsNumber (slot_expr_view expression.now) kind w) }
 {
@@ -56,7 +56,7 @@ pub fn number_for(expression: &SlotExpr, kind: Kind) -> Option<i32>
     }
 }
 
-/// The word of a constant behind the slots.
+/// The word of a constant after the slots.
 pub fn read_constant(draft: &QuickDraft, literal: &Literal) -> Result<Reading, Refusal>
     ensures { IfOk result (λ r. (now : ℕ) → IsConstant (frame_of draft.now now) literal.now r.kind r.word) }
 {

@@ -7,19 +7,19 @@ ghost use Rattle.st_types.specs.Words.{datum_at};
 ghost use Rattle.quick_code.specs.declared.quick_instr.QuickInstr.TheVariants as instrs;
 ghost use Rattle.slot_trees.specs.ExpressionViews.{anchor_view, slot_expr_view};
 ghost use Rattle.slot_trees.specs.StatementViews.{slot_stmts_view};
-ghost use Rattle.quick_trees.specs.Counting.{AddsStep, AreOrdered, Begins, BeginsToCount, Counts, CountsAtOnce};
-ghost use Rattle.quick_trees.specs.Counting.{CountsBy, CountsByWord, GoesOnCounting, IsLiteralStep, IsLong, IsStep};
+ghost use Rattle.quick_trees.specs.Counting.{AddsStep, AreOrdered, LoopBegins, BeginsToCount, Counts, CountsAtOnce};
+ghost use Rattle.quick_trees.specs.Counting.{CountsBy, CountsByWord, IsRepeatTest, IsLiteralStep, Is64Bit, IsStep};
 ghost use Rattle.quick_trees.specs.Counting as counting;
 ghost use Rattle.quick_trees.specs.Functions.{IsMovedWithin};
 ghost use Rattle.quick_trees.specs.Points.{next};
-ghost use Rattle.quick_trees.specs.Sites.{HasOwnWord, kinds_of};
-ghost use Rattle.quick_trees.specs.Standing.{IsFor, IsKept, IsKeptStep, IsPaced, StmtsStand};
+ghost use Rattle.quick_trees.specs.UnitValues.{HasOwnWord, kinds_of};
+ghost use Rattle.quick_trees.specs.TreeCode.{IsFor, IsKept, IsKeptStep, IsPaced, AreStmtsCode};
 ghost use Rattle.quick_checks.specs.Checking.{Always, exits_of, frame_of, point_of, seat_of, site_of};
 
 use crate::constants::{Reading, literal_number};
 use crate::cursor::{
-    Cursor, Leg, assign, exits_in_loop, expect, expect_for, go, goes_back, instr_at, is_assigned,
-    landing, leads, leg_at, mark, pass, passes_back, read_notes,
+    Cursor, Leg, assign, exits_in_loop, expect, expect_for, find, go, instr_at, is_assigned,
+    landing, leads, leg_at, loops_back, mark, pass, passes_back, read_notes,
 };
 use crate::draft::{Exits, QuickDraft};
 use crate::expressions::{deeper, temporary};
@@ -27,7 +27,7 @@ use crate::instructions::instr_for;
 use crate::ranges::expect_within;
 use crate::reading::check_read;
 use crate::refusal::Refusal;
-use crate::scope::{Scope, Seat, Values, is_kind, seat_at, target_of};
+use crate::scope::{FunctionWord, Scope, Values, function_word_at, is_kind, target_of};
 use crate::statements::check_stmts;
 use quick_code::{QuickInstr, is_same};
 use quick_trees::Pace;
@@ -42,8 +42,8 @@ struct Turns {
     by: i32,
 }
 
-/// How a FOR counts: its control variable, the word of its limit, what it counts by, and from which depth on
-/// temporaries are free within.
+/// How a FOR counts: its control variable, the word of its limit, its step, and from which depth on temporaries are free
+/// within.
 #[derive(Clone, Copy)]
 struct Count {
     control: Reading,
@@ -52,7 +52,7 @@ struct Count {
     depth: u16,
 }
 
-/// The step of a FOR over a type: 1 where none is written, or a literal.
+/// The step of a FOR over a type: 1 if none is written, or a literal.
 fn written_step(kind: Kind, step: &Option<SlotExpr>) -> Result<i32, Refusal>
     ensures step { IfOk result (λ n. IsStep (option_map slot_expr_view step.now) n) }
     ensures moves { IfOk result (λ n. n ≡ pos 0 → ⊥) }
@@ -97,18 +97,18 @@ fn stays(draft: &QuickDraft, values: &Values, word: u16) -> bool
 }
 
 /// Whether a seat is not both a function's own and of a word.
-fn is_other(seats: &[Seat], index: usize, word: u16) -> bool
+fn is_other(seats: &[FunctionWord], index: usize, word: u16) -> bool
     ensures { IsTrue result → slice_get (map seat_of seats.now) index
         ≡ Some (record { word = word; is_own = true }) → ⊥ }
 {
-    match seat_at(seats, index) {
+    match function_word_at(seats, index) {
         Ok(seat) => !seat.is_own || seat.word != word,
         Err(_) => false,
     }
 }
 
 /// Whether no seat is a function's own and has a word.
-fn none_own(seats: &[Seat], word: u16) -> bool
+fn none_own(seats: &[FunctionWord], word: u16) -> bool
     ensures { IsTrue result → (j : ℕ) → slice_get (map seat_of seats.now) j
         ≡ Some (record { word = word; is_own = true }) → ⊥ }
 {
@@ -132,29 +132,11 @@ fn begins_to_count(
     ensures { IfOk result (λ l. (now : ℕ) → BeginsToCount (frame_of draft.now now) turns.now.by turns.now.control limit
         l.way l.past at.now.place) }
 {
-    let control = turns.control;
-    let leg = leg_at(draft, at)?;
-    let there = instr_at(draft, at.place)?;
-    let (way, past) = (leg.way, leg.past);
-    let instr = if turns.by < 0 {
-        QuickInstr::WhenLess {
-            left: control,
-            right: limit,
-            way,
-            past,
-        }
+    if turns.by < 0 {
+        less_at(draft, at, turns.control, limit)
     } else {
-        QuickInstr::WhenLess {
-            left: limit,
-            right: control,
-            way,
-            past,
-        }
-    };
-    if !is_same(there, instr) {
-        return Err(Refusal::Other);
+        less_at(draft, at, limit, turns.control)
     }
-    Ok(leg)
 }
 
 /// The ways of the branch here, if it adds the step and tests the limit.
@@ -170,7 +152,6 @@ fn counts_at_once(
     let control = turns.control;
     let step = turns.by;
     let leg = leg_at(draft, at)?;
-    let there = instr_at(draft, at.place)?;
     let (way, past) = (leg.way, leg.past);
     let instr = match turns.kind {
         Kind::Int => {
@@ -213,52 +194,27 @@ fn counts_at_once(
         }
         _ => return Err(Refusal::Other),
     };
-    if !is_same(there, instr) {
-        return Err(Refusal::Other);
-    }
+    find(draft, at, instr)?;
     Ok(leg)
 }
 
 /// The ways of the branch here, if it tests the limit for a further turn.
-fn goes_on_counting(
-    draft: &QuickDraft,
-    at: &Cursor,
-    turns: &Turns,
-    limit: u16,
-) -> Result<Leg, Refusal>
-    ensures { IfOk result (λ l. (now : ℕ) → GoesOnCounting (frame_of draft.now now) turns.now.by turns.now.control
+fn repeat_test(draft: &QuickDraft, at: &Cursor, turns: &Turns, limit: u16) -> Result<Leg, Refusal>
+    ensures { IfOk result (λ l. (now : ℕ) → IsRepeatTest (frame_of draft.now now) turns.now.by turns.now.control
         limit l.way l.past at.now.place) }
 {
-    let control = turns.control;
-    let leg = leg_at(draft, at)?;
-    let there = instr_at(draft, at.place)?;
-    let (way, past) = (leg.way, leg.past);
-    let instr = if turns.by < 0 {
-        QuickInstr::WhenAtMost {
-            left: limit,
-            right: control,
-            way,
-            past,
-        }
+    if turns.by < 0 {
+        at_most_at(draft, at, limit, turns.control)
     } else {
-        QuickInstr::WhenAtMost {
-            left: control,
-            right: limit,
-            way,
-            past,
-        }
-    };
-    if !is_same(there, instr) {
-        return Err(Refusal::Other);
+        at_most_at(draft, at, turns.control, limit)
     }
-    Ok(leg)
 }
 
 /// Finds the instructions that add the step to the control variable, which is then a number of its type.
 fn expect_added(draft: &QuickDraft, turns: &Turns, at: &mut Cursor) -> Result<(), Refusal>
     ensures added { OnOk result (slice_get draft.now.code.instrs.items at.old.place
         ≡ Some (instrs.AddLintBy turns.now.control turns.now.by turns.now.control)) }
-    ensures within { OnOk result ((now : ℕ) → (IsLong turns.now.kind × (at.new.place ≡ suc at.old.place))
+    ensures within { OnOk result ((now : ℕ) → (Is64Bit turns.now.kind × (at.new.place ≡ suc at.old.place))
         ⊎ (IsMovedWithin (frame_of draft.now now) turns.now.kind turns.now.control turns.now.control
         (suc at.old.place) × (at.new.place ≡ suc (suc at.old.place)))) }
     ensures same { OnOk result (point_of at.new ≡ record (point_of at.old) { place = at.new.place }) }
@@ -295,7 +251,7 @@ fn expect_counted(
         return Ok(leg);
     }
     expect_added(draft, turns, at)?;
-    let leg = goes_on_counting(draft, at, turns, limit)?;
+    let leg = repeat_test(draft, at, turns, limit)?;
     Ok(leg)
 }
 
@@ -338,49 +294,43 @@ fn expect_ordered(
     Ok(upper)
 }
 
-/// The ways of the branch here, if it is taken where a word is below another one.
+/// The ways of the branch here, if it is taken when a word is below another one.
 fn less_at(draft: &QuickDraft, at: &Cursor, left: u16, right: u16) -> Result<Leg, Refusal>
     ensures { IfOk result (λ l. slice_get draft.now.code.instrs.items at.now.place
-        ≡ Some (instrs.WhenLess left right l.way l.past)) }
+        ≡ Some (instrs.JumpIfLess left right l.way l.past)) }
 {
     let leg = leg_at(draft, at)?;
-    let there = instr_at(draft, at.place)?;
     let (way, past) = (leg.way, leg.past);
-    let instr = QuickInstr::WhenLess {
+    let instr = QuickInstr::JumpIfLess {
         left,
         right,
         way,
         past,
     };
-    if !is_same(there, instr) {
-        return Err(Refusal::Other);
-    }
+    find(draft, at, instr)?;
     Ok(leg)
 }
 
-/// The ways of the branch here, if it is taken where a word is not above another one.
+/// The ways of the branch here, if it is taken when a word is not above another one.
 fn at_most_at(draft: &QuickDraft, at: &Cursor, left: u16, right: u16) -> Result<Leg, Refusal>
     ensures { IfOk result (λ l. slice_get draft.now.code.instrs.items at.now.place
-        ≡ Some (instrs.WhenAtMost left right l.way l.past)) }
+        ≡ Some (instrs.JumpIfAtMost left right l.way l.past)) }
 {
     let leg = leg_at(draft, at)?;
-    let there = instr_at(draft, at.place)?;
     let (way, past) = (leg.way, leg.past);
-    let instr = QuickInstr::WhenAtMost {
+    let instr = QuickInstr::JumpIfAtMost {
         left,
         right,
         way,
         past,
     };
-    if !is_same(there, instr) {
-        return Err(Refusal::Other);
-    }
+    find(draft, at, instr)?;
     Ok(leg)
 }
 
 /// Finds the first test of the limit, up to its branch: the ways of this.
 fn expect_begun(draft: &QuickDraft, count: &Count, at: &mut Cursor) -> Result<Leg, Refusal>
-    ensures begins { IfOk result (λ l. (now : ℕ) → Begins (frame_of draft.now now) count.now.pace
+    ensures begins { IfOk result (λ l. (now : ℕ) → LoopBegins (frame_of draft.now now) count.now.pace
         count.now.control.word count.now.limit count.now.depth l.way l.past at.old.place at.new.place) }
     ensures same { OnOk result (point_of at.new ≡ record (point_of at.old) { place = at.new.place }) }
 {
@@ -435,7 +385,7 @@ fn expect_step_added(
     Ok(())
 }
 
-/// Finds the end of a turn, where the step is in a word, up to its branch: the ways of this.
+/// Finds the end of a turn whose step is in a word, up to its branch: the ways of this.
 fn expect_counted_by_word(
     draft: &QuickDraft,
     count: &Count,
@@ -537,7 +487,7 @@ fn check_kept(
     Ok(read)
 }
 
-/// Finds the code that keeps the step of a FOR in a word, and tests it: this word, and the one that tells its sign.
+/// Finds the code that keeps the step of a FOR in a word, and tests it: this word, and the one that has its sign.
 #[cycle(check)]
 fn check_step(
     draft: &QuickDraft,
@@ -589,7 +539,7 @@ fn check_step(
     Ok((kept.word, below))
 }
 
-/// What a FOR over a type counts by: a literal, or a step that its code keeps.
+/// The step of a FOR over a type: a literal, or one that its code keeps.
 #[cycle(check)]
 fn check_pace(
     draft: &QuickDraft,
@@ -631,7 +581,7 @@ pub fn check_for(
     at: &mut Cursor,
 ) -> Result<(), Refusal>
     ensures { OnOk result (Always draft.now library.now scope.now (λ f s units. IsFor f s units
-        (λ c p q. StmtsStand f s units (slot_stmts_view body.now) c
+        (λ c p q. AreStmtsCode f s units (slot_stmts_view body.now) c
         (record (exits_of exits.now) { out = point_of at.new }) p q) (anchor_view control) (slot_expr_view start.now)
         (slot_expr_view limit.now) (option_map slot_expr_view step.now) depth (point_of at.old) (point_of at.new))) }
 {
@@ -674,7 +624,7 @@ pub fn check_for(
         return Err(Refusal::Other);
     }
     let again = expect_turned(draft, &count, at)?;
-    if !goes_back(at, again.way, &head) || !passes_back(at, again.past, &behind) {
+    if !loops_back(at, again.way, &head) || !passes_back(at, again.past, &behind) {
         return Err(Refusal::Other);
     }
     go(at, behind);

@@ -2,11 +2,11 @@
 
 ghost use Rattle.std.specs.Prelude.{◌≡◌, ◌+◌, ℕ, IfOk, IsTrue, OnOk, Some, slice_get, suc};
 ghost use Rattle.quick_trees.specs.Notes as notes;
-ghost use Rattle.quick_trees.specs.Notes.{Changes, Tells};
-ghost use Rattle.quick_trees.specs.Pieces.{Stands};
-ghost use Rattle.quick_trees.specs.Points.{AreNoted, GoesBack, IsNoted, Joins, Meets, Note, along, next, past_branch};
-ghost use Rattle.quick_trees.specs.Sites.{Touches};
-ghost use Rattle.quick_trees.specs.Standing.{IsAssignedAt};
+ghost use Rattle.quick_trees.specs.Notes.{NoteChanges, Implies};
+ghost use Rattle.quick_trees.specs.Pieces.{IsInstr};
+ghost use Rattle.quick_trees.specs.Points.{AreNoted, LoopsBack, IsNoted, Joins, Refines, Note, along, next, past_branch};
+ghost use Rattle.quick_trees.specs.UnitValues.{Touches};
+ghost use Rattle.quick_trees.specs.TreeCode.{IsAssignedAt};
 ghost use Rattle.quick_checks.specs.Checking.{exits_of, frame_of, landing_of, point_of, site_of};
 
 use crate::draft::{Exits, Landing, QuickDraft};
@@ -16,8 +16,8 @@ use quick_code::{QuickInstr, Way, is_same};
 use quick_trees::Noting;
 use std::alloc::Global;
 
-/// How far a check has come: a place of the code, how many ticks of what comes are taken there already, and what is known
-/// of the notes. The landings that are to come stand with the next one last.
+/// How far a check has come: a place of the code, how many ticks of the code that follows are taken there already, and the
+/// facts known of the notes. The landings that are to come are stored with the next one last.
 pub struct Cursor {
     pub place: usize,
     pub ahead: usize,
@@ -48,25 +48,33 @@ pub fn instr_at(draft: &QuickDraft, place: usize) -> Result<QuickInstr, Refusal>
     }
 }
 
-/// Finds an instruction, and goes on behind it.
-pub fn expect(draft: &QuickDraft, at: &mut Cursor, instr: QuickInstr) -> Result<(), Refusal>
-    ensures stands { OnOk result (slice_get draft.now.code.instrs.items at.old.place ≡ Some instr) }
-    ensures next { OnOk result (point_of at.new ≡ next (point_of at.old)) }
+/// Finds an instruction here.
+pub fn find(draft: &QuickDraft, at: &Cursor, instr: QuickInstr) -> Result<(), Refusal>
+    ensures { OnOk result (slice_get draft.now.code.instrs.items at.now.place ≡ Some instr) }
 {
     if !is_same(instr_at(draft, at.place)?, instr) {
         return Err(Refusal::Other);
     }
+    Ok(())
+}
+
+/// Finds an instruction, and goes on after it.
+pub fn expect(draft: &QuickDraft, at: &mut Cursor, instr: QuickInstr) -> Result<(), Refusal>
+    ensures stands { OnOk result (slice_get draft.now.code.instrs.items at.old.place ≡ Some instr) }
+    ensures next { OnOk result (point_of at.new ≡ next (point_of at.old)) }
+{
+    find(draft, at, instr)?;
     at.place += 1;
     Ok(())
 }
 
-/// Finds the instruction that there is for something, if there is one.
+/// Finds the instruction for an operation, if there is one.
 pub fn expect_for(
     draft: &QuickDraft,
     at: &mut Cursor,
     instr: Option<QuickInstr>,
 ) -> Result<(), Refusal>
-    ensures stands { OnOk result ((now : ℕ) → Stands (frame_of draft.now now) instr at.old.place) }
+    ensures stands { OnOk result ((now : ℕ) → IsInstr (frame_of draft.now now) instr at.old.place) }
     ensures next { OnOk result (point_of at.new ≡ next (point_of at.old)) }
 {
     match instr {
@@ -75,7 +83,7 @@ pub fn expect_for(
     }
 }
 
-/// Goes on behind a branch that is not taken.
+/// Goes on after a branch that is not taken.
 pub fn pass(at: &mut Cursor, past: u16) -> Result<(), Refusal>
     ensures { OnOk result (point_of at.new ≡ past_branch (point_of at.old) past) }
 {
@@ -102,7 +110,7 @@ pub fn tick(at: &mut Cursor) -> Result<(), Refusal>
     Ok(())
 }
 
-/// Goes on behind the instruction here.
+/// Goes on after the instruction here.
 pub fn step(at: &mut Cursor) -> Result<(), Refusal>
     ensures { OnOk result (point_of at.new ≡ next (point_of at.old)) }
 {
@@ -113,9 +121,9 @@ pub fn step(at: &mut Cursor) -> Result<(), Refusal>
     Ok(())
 }
 
-/// Whether the instruction that there is for something stands here.
-pub fn stands(draft: &QuickDraft, at: &Cursor, instr: Option<QuickInstr>) -> bool
-    ensures { IsTrue result → (now : ℕ) → Stands (frame_of draft.now now) instr at.now.place }
+/// Whether the instruction here is the one for an operation, if there is one.
+pub fn is_instr(draft: &QuickDraft, at: &Cursor, instr: Option<QuickInstr>) -> bool
+    ensures { IsTrue result → (now : ℕ) → IsInstr (frame_of draft.now now) instr at.now.place }
 {
     let Some(instr) = instr else {
         return false;
@@ -127,14 +135,14 @@ pub fn stands(draft: &QuickDraft, at: &Cursor, instr: Option<QuickInstr>) -> boo
 }
 
 /// Whether as much is known of each slot as a landing asks.
-pub fn tell(these: &[Noting], those: &[Noting]) -> bool
-    ensures { IsTrue result → Tells these.now those.now }
+pub fn notes_imply(these: &[Noting], those: &[Noting]) -> bool
+    ensures { IsTrue result → Implies these.now those.now }
 {
     let mut index = 0;
     while index < those.len() {
         match these.get(index) {
             Some(noting) => {
-                if !noting.tells(those[index]) {
+                if !noting.implies(those[index]) {
                     return false;
                 }
             }
@@ -147,49 +155,49 @@ pub fn tell(these: &[Noting], those: &[Noting]) -> bool
 
 /// Whether a run that is here is at a landing.
 pub fn is_at(at: &Cursor, to: &Landing) -> bool
-    ensures { IsTrue result → Meets (point_of at.now) (landing_of to.now) }
+    ensures { IsTrue result → Refines (point_of at.now) (landing_of to.now) }
 {
-    at.place == to.place && at.ahead == to.ahead && tell(&at.noted, &to.noted)
+    at.place == to.place && at.ahead == to.ahead && notes_imply(&at.noted, &to.noted)
 }
 
 /// Whether a way from here leads to a landing.
 pub fn leads(at: &Cursor, way: Way, to: &Landing) -> bool
-    ensures { IsTrue result → Meets (along (point_of at.now) way) (landing_of to.now) }
+    ensures { IsTrue result → Refines (along (point_of at.now) way) (landing_of to.now) }
 {
     let ticks = usize::from(way.ticks);
     usize::from(way.place) == to.place
         && ticks <= to.ahead
         && to.ahead - ticks == at.ahead
-        && tell(&at.noted, &to.noted)
+        && notes_imply(&at.noted, &to.noted)
 }
 
-/// Whether the branch here leads to a landing where it is not taken.
+/// Whether the branch here leads to a landing when it is not taken.
 pub fn passes(at: &Cursor, past: u16, to: &Landing) -> bool
-    ensures { IsTrue result → Meets (past_branch (point_of at.now) past) (landing_of to.now) }
+    ensures { IsTrue result → Refines (past_branch (point_of at.now) past) (landing_of to.now) }
 {
     let ticks = usize::from(past);
     at.place < to.place
         && to.place - 1 == at.place
         && ticks <= to.ahead
         && to.ahead - ticks == at.ahead
-        && tell(&at.noted, &to.noted)
+        && notes_imply(&at.noted, &to.noted)
 }
 
 /// Whether a way from here leads to a landing, for a tick.
-pub fn goes_back(at: &Cursor, way: Way, to: &Landing) -> bool
-    ensures { IsTrue result → GoesBack (along (point_of at.now) way) (landing_of to.now) }
+pub fn loops_back(at: &Cursor, way: Way, to: &Landing) -> bool
+    ensures { IsTrue result → LoopsBack (along (point_of at.now) way) (landing_of to.now) }
 {
     let ticks = usize::from(way.ticks);
     usize::from(way.place) == to.place
         && 0 < ticks
         && ticks - 1 <= to.ahead
         && to.ahead - (ticks - 1) == at.ahead
-        && tell(&at.noted, &to.noted)
+        && notes_imply(&at.noted, &to.noted)
 }
 
-/// Whether the branch here leads to a landing, for a tick, where it is not taken.
+/// Whether the branch here leads to a landing, for a tick, when it is not taken.
 pub fn passes_back(at: &Cursor, past: u16, to: &Landing) -> bool
-    ensures { IsTrue result → GoesBack (past_branch (point_of at.now) past) (landing_of to.now) }
+    ensures { IsTrue result → LoopsBack (past_branch (point_of at.now) past) (landing_of to.now) }
 {
     let ticks = usize::from(past);
     at.place < to.place
@@ -197,7 +205,7 @@ pub fn passes_back(at: &Cursor, past: u16, to: &Landing) -> bool
         && 0 < ticks
         && ticks - 1 <= to.ahead
         && to.ahead - (ticks - 1) == at.ahead
-        && tell(&at.noted, &to.noted)
+        && notes_imply(&at.noted, &to.noted)
 }
 
 /// Whether a run that is here comes to a landing, at once or by a jump.
@@ -319,7 +327,7 @@ pub fn assign(values: &Values, at: &mut Cursor, word: u16) -> Result<(), Refusal
 /// A look that comes is noted, if the instruction here does that.
 fn note_look(at: &mut Cursor, word: u16) -> Result<(), Refusal>
     ensures next { OnOk result (point_of at.new ≡ record (next (point_of at.old)) { noted = at.new.noted.items }) }
-    ensures changes { OnOk result (Changes notes.with_look_ahead word at.old.noted.items at.new.noted.items) }
+    ensures changes { OnOk result (NoteChanges notes.with_look_ahead word at.old.noted.items at.new.noted.items) }
 {
     let slot = word as usize;
     if slot >= at.noted.len() {
@@ -336,7 +344,7 @@ fn note_look(at: &mut Cursor, word: u16) -> Result<(), Refusal>
 fn note_assignment(at: &mut Cursor, word: u16) -> Result<(), Refusal>
     ensures next { OnOk result (point_of at.new ≡ record (next (point_of at.old)) { noted = at.new.noted.items }) }
     ensures changes { OnOk result
-        (Changes notes.with_assignment_ahead word at.old.noted.items at.new.noted.items) }
+        (NoteChanges notes.with_assignment_ahead word at.old.noted.items at.new.noted.items) }
 {
     let slot = word as usize;
     if slot >= at.noted.len() {
@@ -365,7 +373,7 @@ pub fn read_notes(draft: &QuickDraft, at: &mut Cursor) -> Result<(), Refusal>
     Ok(())
 }
 
-/// The ways of a branch: where it leads, and the ticks where it is not taken.
+/// The ways of a branch: where it leads, and the ticks when it is not taken.
 #[derive(Clone, Copy)]
 pub struct Leg {
     pub way: Way,
@@ -375,16 +383,16 @@ pub struct Leg {
 /// The ways of the branch here.
 pub fn leg_at(draft: &QuickDraft, at: &Cursor) -> Result<Leg, Refusal> {
     match instr_at(draft, at.place)? {
-        QuickInstr::WhenEqual { way, past, .. }
-        | QuickInstr::WhenNotEqual { way, past, .. }
-        | QuickInstr::WhenLess { way, past, .. }
-        | QuickInstr::WhenAtMost { way, past, .. }
-        | QuickInstr::WhenEqualTo { way, past, .. }
-        | QuickInstr::WhenNotEqualTo { way, past, .. }
-        | QuickInstr::WhenBelow { way, past, .. }
-        | QuickInstr::WhenUpTo { way, past, .. }
-        | QuickInstr::WhenAbove { way, past, .. }
-        | QuickInstr::WhenFrom { way, past, .. }
+        QuickInstr::JumpIfEqual { way, past, .. }
+        | QuickInstr::JumpIfNotEqual { way, past, .. }
+        | QuickInstr::JumpIfLess { way, past, .. }
+        | QuickInstr::JumpIfAtMost { way, past, .. }
+        | QuickInstr::JumpIfEqualConst { way, past, .. }
+        | QuickInstr::JumpIfNotEqualConst { way, past, .. }
+        | QuickInstr::JumpIfLessConst { way, past, .. }
+        | QuickInstr::JumpIfAtMostConst { way, past, .. }
+        | QuickInstr::JumpIfGreaterConst { way, past, .. }
+        | QuickInstr::JumpIfAtLeastConst { way, past, .. }
         | QuickInstr::CountUpInt { way, past, .. }
         | QuickInstr::CountUpDint { way, past, .. }
         | QuickInstr::CountDownInt { way, past, .. }
@@ -404,7 +412,7 @@ fn copied(landing: &Landing) -> Result<Landing, Refusal>
     })
 }
 
-/// Where EXIT and RETURN lead in a loop behind which a landing is.
+/// Where EXIT and RETURN lead in a loop that is followed by a landing.
 pub fn exits_in_loop(exits: &Exits, behind: &Landing) -> Result<Exits, Refusal>
     ensures { IfOk result (λ e. exits_of e ≡ record (exits_of exits.now) { out = landing_of behind.now }) }
 {

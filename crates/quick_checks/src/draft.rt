@@ -6,8 +6,8 @@ use quick_code::QuickCode;
 use quick_trees::Noting;
 use st_types::{Kind, Value};
 
-/// Quick code of a program, with the types of its slots, the slots that have words, in the order of these, the
-/// constants that stand behind them, and how many words there are.
+/// Quick code of a program, with the types of its slots, the slots that have words, in the order of these, the constants
+/// that follow them, and how many words there are.
 pub struct QuickDraft {
     pub code: QuickCode,
     pub kinds: Vec<Kind>,
@@ -51,8 +51,8 @@ impl QuickDraft {
     }
 }
 
-/// A place of the code where runs come together, how many ticks of what comes they have taken already, and what is known
-/// of the notes of the slots' words.
+/// A place of the code where runs come together, how many ticks of the code that follows they have taken already, and the
+/// facts known of the notes of the slots' words.
 #[derive(Drop)]
 pub struct Landing {
     pub place: usize,

@@ -7,13 +7,13 @@ ghost use Rattle.slot_trees.specs.Chains.{exprs_of};
 ghost use Rattle.slot_trees.specs.ExpressionViews.{anchor_view, place_view, slot_expr_view};
 ghost use Rattle.quick_trees.specs.Notes as notes;
 ghost use Rattle.quick_trees.specs.Instructions as instrs;
-ghost use Rattle.quick_trees.specs.Pieces.{AreElements, IsNumber, IsTemporary, IsWider, Loads, Stands, Stores};
+ghost use Rattle.quick_trees.specs.Pieces.{AreElements, IsNumber, IsTemporary, IsWider, Loads, IsInstr, Stores};
 ghost use Rattle.quick_trees.specs.Points.{next};
-ghost use Rattle.quick_trees.specs.Sites.{HasOwnWord, HasWord, IsExact, Touches, base_of, kinds_of};
+ghost use Rattle.quick_trees.specs.UnitValues.{HasOwnWord, HasWord, IsExact, Touches, base_of, kinds_of};
 ghost use Rattle.quick_checks.specs.Checking.{frame_of, point_of, site_of};
 
 use crate::constants::{Reading, number_for};
-use crate::cursor::{Cursor, expect, look, stands};
+use crate::cursor::{Cursor, expect, is_instr, look};
 use crate::draft::QuickDraft;
 use crate::instructions::instr_by;
 use crate::refusal::Refusal;
@@ -24,7 +24,7 @@ use quick_trees::Noting;
 use slot_trees::{Anchor, Place, SlotExpr, Subscript};
 use st_types::{BinaryOperator, Kind, is_wide};
 
-/// How many elements an array has at most that quick code goes into.
+/// The number of elements up to which quick code goes into an array.
 const MAX_ELEMENTS: usize = 8192;
 
 /// Looks up a variable: its type and its word.
@@ -77,7 +77,7 @@ pub fn variable_of(place: &Place) -> Option<Anchor>
     }
 }
 
-/// Where an element lies that is so many behind the first of an array.
+/// The slot of the element at an index, from the first of an array.
 pub fn element_at(first: usize, index: usize, stride: usize) -> Option<usize>
     ensures { IfSome result (λ k. k ≡ first + index * stride) }
 {
@@ -136,7 +136,7 @@ pub fn is_exact(values: &Values, noted: &[Noting], word: usize) -> bool
     }
 }
 
-/// The elements of an array: the type and the word of what each begins with.
+/// The elements of an array: the type and the word of each one's first value.
 pub fn read_elements(
     draft: &QuickDraft,
     values: &Values,
@@ -260,7 +260,7 @@ pub fn expect_store(
     Ok(())
 }
 
-/// The constant with which the instruction here makes what an operator makes of a word and an expression.
+/// The constant with which the instruction here computes an operator on a word and an expression.
 pub fn constant_taken(
     draft: &QuickDraft,
     at: &Cursor,
@@ -270,11 +270,11 @@ pub fn constant_taken(
     to: u16,
 ) -> Option<i32>
     ensures number { IfSome result (λ w. IsNumber (slot_expr_view right.now) left.kind w) }
-    ensures stands { IfSome result (λ w. (now : ℕ) → Stands (frame_of draft.now now)
+    ensures stands { IfSome result (λ w. (now : ℕ) → IsInstr (frame_of draft.now now)
         (instrs.instr_by operator left.kind left.word w to) at.now.place) }
 {
     let word = number_for(right, left.kind)?;
-    if stands(
+    if is_instr(
         draft,
         at,
         instr_by(operator, left.kind, left.word, word, to),
@@ -307,7 +307,7 @@ pub fn element_of(place: &Place) -> Option<(Anchor, &Subscript)>
     }
 }
 
-/// The argument, where there is one alone.
+/// The argument, if there is only one.
 #[tactic(auto, using(crate::proofs::Chains::one_expr))]
 pub fn only_argument(arguments: &[SlotExpr]) -> Option<&SlotExpr>
     ensures { IfSome result (λ e. exprs_of (map slot_expr_view arguments.now)
@@ -331,7 +331,7 @@ pub fn temporary(draft: &QuickDraft, depth: u16) -> Result<(), Refusal>
     }
 }
 
-/// One deeper.
+/// One level deeper.
 pub fn deeper(depth: u16) -> Result<u16, Refusal>
     ensures { IfOk result (λ d. d ≡ suc depth) }
 {

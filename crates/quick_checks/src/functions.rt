@@ -5,11 +5,11 @@ ghost use Rattle.st_types.specs.Kinds.{row_of};
 ghost use Rattle.symbols.specs.Standard.{standard_view};
 ghost use Rattle.slot_trees.specs.Chains.{exprs_of};
 ghost use Rattle.slot_trees.specs.ExpressionViews.{slot_expr_view};
-ghost use Rattle.quick_trees.specs.Functions.{AreThree, AreTwo, IsChosen, IsConverted, IsEvaluated, IsFunctionOf};
+ghost use Rattle.quick_trees.specs.Functions.{AreThree, AreTwo, IsPicked, IsConverted, IsEvaluated, IsFunctionOf};
 ghost use Rattle.quick_trees.specs.Functions.{IsGreater, IsLesser, IsLimited, IsOne, IsSelected, IsShifted};
 ghost use Rattle.quick_trees.specs.Functions.{IsWithoutSign};
 ghost use Rattle.quick_trees.specs.Pieces.{IsNumberAt};
-ghost use Rattle.quick_trees.specs.Standing.{AreArguments};
+ghost use Rattle.quick_trees.specs.TreeCode.{AreArguments};
 ghost use Rattle.quick_checks.specs.Checking.{Always, frame_of, kinds_read, point_of, words_read};
 
 use crate::calls::check_arguments;
@@ -85,7 +85,7 @@ fn expect_function(
     }
 }
 
-/// The argument, where there is one alone.
+/// The argument, if there is only one.
 #[tactic(auto, using(crate::proofs::Given::one_reading))]
 fn only_one(read: &[Reading]) -> Option<Reading>
     ensures { IfSome result (λ r. IsOne (kinds_read read.now) (words_read read.now) r.kind r.word) }
@@ -93,7 +93,7 @@ fn only_one(read: &[Reading]) -> Option<Reading>
     if read.len() == 1 { Some(read[0]) } else { None }
 }
 
-/// The arguments, where there are two.
+/// The arguments, if there are two.
 #[tactic(auto, using(crate::proofs::Given::two_readings))]
 pub fn only_two(read: &[Reading]) -> Option<(Reading, Reading)>
     ensures { IfSome result (λ r. AreTwo (kinds_read read.now) (words_read read.now) r.0.kind r.1.kind r.0.word
@@ -106,7 +106,7 @@ pub fn only_two(read: &[Reading]) -> Option<(Reading, Reading)>
     }
 }
 
-/// The arguments, where there are three.
+/// The arguments, if there are three.
 #[tactic(auto, using(crate::proofs::Given::three_readings))]
 fn only_three(read: &[Reading]) -> Option<(Reading, Reading, Reading)>
     ensures { IfSome result (λ r. AreThree (kinds_read read.now) (words_read read.now) r.0.kind r.1.kind r.2.kind
@@ -141,7 +141,7 @@ fn expect_converted(
     Ok(into)
 }
 
-/// How many bits a type has whose bits are moved.
+/// The number of bits of a type whose bits can be moved.
 pub fn width_of(kind: Kind) -> Option<u8>
     ensures bits { IfSome result (λ n. n ≡ (row_of kind).bits) }
     ensures few { IfSome result (λ n. n ≤ 32) }
@@ -197,7 +197,7 @@ fn expect_shifted(
     Ok(value.kind)
 }
 
-/// Two words that are compared, and two of which the one is chosen if the first is at most the second.
+/// Two words that are compared, and two of which one is chosen if the first is at most the second.
 #[derive(Clone, Copy)]
 struct Choice {
     left: u16,
@@ -206,7 +206,7 @@ struct Choice {
     no: u16,
 }
 
-/// Finds the code that assigns the one of two words.
+/// Finds the code that assigns one of two words.
 fn expect_chosen(
     draft: &QuickDraft,
     choice: Choice,
@@ -214,7 +214,7 @@ fn expect_chosen(
     to: u16,
     at: &mut Cursor,
 ) -> Result<(), Refusal>
-    ensures { OnOk result ((now : ℕ) → IsChosen (frame_of draft.now now) choice.left choice.right choice.yes choice.no
+    ensures { OnOk result ((now : ℕ) → IsPicked (frame_of draft.now now) choice.left choice.right choice.yes choice.no
         depth to (point_of at.old) (point_of at.new)) }
 {
     temporary(draft, depth)?;
@@ -328,7 +328,7 @@ fn expect_limited(
     Ok(lower.kind)
 }
 
-/// Finds the instruction that assigns the one of two values where a BOOL is FALSE, and the other where it is TRUE.
+/// Finds the instruction that assigns one of two values if a BOOL is FALSE, and the other if it is TRUE.
 fn expect_selected(
     draft: &QuickDraft,
     read: &[Reading],

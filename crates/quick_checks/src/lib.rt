@@ -1,7 +1,7 @@
 //! Whether quick code stands for a program.
 //!
-//! Whoever drafted the code is not trusted: each piece of the tree is found again in the code, with the ticks that are
-//! taken ahead and what is known of the notes. Where the answer is yes, the code stands for the program.
+//! The author of the code is not trusted: each piece of the tree is found again in the code, with the ticks that are taken
+//! ahead and the facts known of the notes. If the answer is yes, the code stands for the program.
 #![tactic(auto)]
 
 mod blocks;
@@ -35,7 +35,9 @@ mod within;
 pub use choosing::{Choice, choice_of, unequal_to_0};
 pub use constants::{literal_value, number_for};
 pub use draft::Landing;
-pub use instructions::{branch_for, branch_for_by, instr_by, instr_for, truth_branch, truth_for};
+pub use instructions::{
+    bool_branch, branch_for, branch_for_by, comparison_instr, instr_by, instr_for,
+};
 pub use programs::{DraftedProgram, checked};
 pub use refusal::Refusal;
 pub use subscripts::{Sum, shift_for, summed};

@@ -1,4 +1,4 @@
-//! The members of an instance of a block, where it is called.
+//! The members of an instance of a block, when it is called.
 
 ghost use Rattle.std.specs.Prelude.{◌≡◌, ◌≤◌, ◌∷◌, ◌++◌, ◌+◌, [], ℕ, List, IfOk, IsTrue, OnOk, Some, map, slice_get};
 ghost use Rattle.symbols.specs.Standard.{block_view};
@@ -8,9 +8,9 @@ ghost use Rattle.slot_trees.specs.StatementViews.{slot_argument_view};
 ghost use Rattle.quick_code.specs.declared.quick_instr.QuickInstr.TheVariants as instrs;
 ghost use Rattle.quick_trees.specs.Calls.{AreMembers, IsStepped};
 ghost use Rattle.quick_trees.specs.Notes as notes;
-ghost use Rattle.quick_trees.specs.Notes.{AllChange};
+ghost use Rattle.quick_trees.specs.Notes.{NotesChange};
 ghost use Rattle.quick_trees.specs.Points.{Point};
-ghost use Rattle.quick_trees.specs.Standing.{InputsGiven, IsGiven, OutputsCopied};
+ghost use Rattle.quick_trees.specs.TreeCode.{InputsGiven, IsGiven, OutputsCopied};
 ghost use Rattle.quick_checks.specs.Checking.{Ever, frame_of, inputs_taken, point_of};
 ghost use Rattle.quick_checks.specs.Members.{IsMember};
 
@@ -20,14 +20,14 @@ use crate::draft::QuickDraft;
 use crate::expressions::{read_slot, variable_of};
 use crate::refusal::Refusal;
 use crate::scope::{Values, is_kind, kind_at, narrow, own_word_of, slot_of, word_in};
-use quick_code::{QuickInstr, member_count};
+use quick_code::QuickInstr;
 use slot_trees::SlotArgument;
 use st_types::Kind;
 use std::alloc::AllocError;
-use symbols::StandardBlock;
+use symbols::{StandardBlock, member_count};
 
-/// An input that a call gives: its member, so many slots behind the first one of the instance, its type, and the word
-/// that has its value.
+/// An input that a call gives: its member, by its distance from the first slot of the instance, its type, and the word that
+/// has its value.
 #[derive(Clone, Copy)]
 pub struct Taken {
     pub member: usize,
@@ -35,7 +35,7 @@ pub struct Taken {
     pub word: u16,
 }
 
-/// Puts an input behind others.
+/// Appends an input.
 pub fn put_taken(inputs: &mut Vec<Taken>, member: usize, read: Reading) -> Result<(), AllocError>
     ensures { OnOk result (inputs.new.items ≡ inputs.old.items
         ++ record { member = member; kind = read.kind; word = read.word } ∷ []) }
@@ -104,8 +104,8 @@ fn input_at(inputs: &[Taken], index: usize) -> Result<Taken, Refusal>
     }
 }
 
-/// Finds the code that moves the inputs to the members of an instance, one after another. None is in the word of a
-/// member that took one before.
+/// Finds the code that moves the inputs to the members of an instance, one after another. None is in the word of a member
+/// that took one before.
 pub fn check_given(
     draft: &QuickDraft,
     values: &Values,
@@ -179,7 +179,7 @@ fn check_output(
     Ok(())
 }
 
-/// Whether slots from one on are of these types, and their words stand from a word on.
+/// Whether the slots from a first one on are of these types, and their words begin at a word.
 fn are_kinds(draft: &QuickDraft, first: usize, word: u16, kinds: &[Kind]) -> bool
     ensures { IsTrue result → (k : ℕ) (t : Kind) → slice_get kinds.now k ≡ Some t
         → IsMember (frame_of draft.now 0) (first + k) (word + k) t }
@@ -194,7 +194,7 @@ fn are_kinds(draft: &QuickDraft, first: usize, word: u16, kinds: &[Kind]) -> boo
     true
 }
 
-/// Whether the slot so far behind another one is of the type at an index, and has the word so far behind another one.
+/// Whether the slot at a distance from a first one is of the type at that index, and has the word at that distance.
 fn is_of(draft: &QuickDraft, first: usize, word: u16, kinds: &[Kind], index: usize) -> bool
     ensures { IsTrue result → (t : Kind) → slice_get kinds.now index ≡ Some t
         → IsMember (frame_of draft.now 0) (first + index) (word + index) t }
@@ -212,7 +212,7 @@ fn is_of(draft: &QuickDraft, first: usize, word: u16, kinds: &[Kind], index: usi
     is_kind(*there, *kind) && its_word as usize == place
 }
 
-/// Whether the members of a standard block are the slots from one on, and their words stand from a word on.
+/// Whether the members of a standard block are the slots from one on, and their words begin at a word.
 fn are_members(draft: &QuickDraft, block: StandardBlock, first: usize, word: u16) -> bool
     ensures { IsTrue result → (now : ℕ)
         → AreMembers (frame_of draft.now now) (members_of (block_view block)) first word }
@@ -267,7 +267,7 @@ fn are_members(draft: &QuickDraft, block: StandardBlock, first: usize, word: u16
     }
 }
 
-/// Whether the instruction here steps a standard block on an instance whose words stand from one on.
+/// Whether the instruction here steps a standard block on an instance whose words begin at a word.
 fn steps(draft: &QuickDraft, at: &Cursor, block: StandardBlock, word: u16) -> bool
     ensures { IsTrue result → slice_get draft.now.code.instrs.items at.now.place ≡ Some (instrs.Step block word) }
 {
@@ -313,8 +313,8 @@ pub fn check_step(
     Ok(())
 }
 
-/// The word so far behind another one.
-fn word_behind(first: u16, index: usize) -> Result<u16, Refusal>
+/// The word at a distance after another one.
+fn word_after(first: u16, index: usize) -> Result<u16, Refusal>
     ensures { IfOk result (λ w. w ≡ first + index) }
 {
     match (first as usize).checked_add(index) {
@@ -323,31 +323,31 @@ fn word_behind(first: u16, index: usize) -> Result<u16, Refusal>
     }
 }
 
-/// The values of so many words are looked up here, one after another.
+/// The values of `count` words are looked up here, one after another.
 fn look_all(at: &mut Cursor, first: u16, count: usize) -> Result<(), Refusal>
     ensures same { OnOk result (point_of at.new ≡ record (point_of at.old) { noted = at.new.noted.items }) }
-    ensures looks { OnOk result (AllChange notes.at_look first count at.old.noted.items at.new.noted.items) }
+    ensures looks { OnOk result (NotesChange notes.at_look first count at.old.noted.items at.new.noted.items) }
 {
     let slots = Values::Whole(0);
     let mut index = 0;
     while index < count {
-        let word = word_behind(first, index)?;
+        let word = word_after(first, index)?;
         look(&slots, at, word)?;
         index += 1;
     }
     Ok(())
 }
 
-/// The values of so many words are assigned here, one after another.
+/// The values of `count` words are assigned here, one after another.
 fn assign_all(at: &mut Cursor, first: u16, count: usize) -> Result<(), Refusal>
     ensures same { OnOk result (point_of at.new ≡ record (point_of at.old) { noted = at.new.noted.items }) }
     ensures assigns { OnOk result
-        (AllChange notes.at_assignment first count at.old.noted.items at.new.noted.items) }
+        (NotesChange notes.at_assignment first count at.old.noted.items at.new.noted.items) }
 {
     let slots = Values::Whole(0);
     let mut index = 0;
     while index < count {
-        let word = word_behind(first, index)?;
+        let word = word_after(first, index)?;
         assign(&slots, at, word)?;
         index += 1;
     }

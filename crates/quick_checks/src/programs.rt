@@ -25,8 +25,7 @@ use slot_trees::{SlotLibrary, SlotStmt};
 use st_types::{Kind, Value};
 use std::alloc::{AllocError, Global};
 
-/// Quick code of a program, with the slots that have words, in the order of these, and the constants that stand behind
-/// them.
+/// Quick code of a program, with the slots that have words, in the order of these, and the constants that follow them.
 pub struct DraftedProgram {
     pub code: QuickCode,
     pub window: Vec<usize>,
@@ -104,7 +103,7 @@ impl DraftedProgram {
     }
 }
 
-/// Nothing is known of the notes of so many words, but that they are exact.
+/// Nothing is known of the notes of `count` words, but that they are exact.
 fn exact_notes(alloc: Global, count: usize) -> Result<Vec<Noting>, AllocError>
     ensures { IfOk result (λ v. v.items ≡ replicate count Exact) }
 {
@@ -117,7 +116,7 @@ fn exact_notes(alloc: Global, count: usize) -> Result<Vec<Noting>, AllocError>
     Ok(notes)
 }
 
-/// Where a run is that begins by a way.
+/// The point at which a run begins by a way.
 fn begun(
     alloc: Global,
     draft: &QuickDraft,
@@ -166,7 +165,7 @@ fn first_temporary(draft: &QuickDraft) -> Result<u16, Refusal>
     narrow(first)
 }
 
-/// Finds the code of a program with its own variables from a slot on, whose calls are at most so deep.
+/// Finds the code of a program with its own variables from a slot on, and with a bound on the depth of its calls.
 fn check_program(
     alloc: Global,
     draft: &QuickDraft,
@@ -199,7 +198,7 @@ fn check_program(
 }
 
 /// The program, if its code stands for a body over slots of these types, with its own variables from the base on, whose
-/// calls are at most so deep; none where that is not found. The landings are in the order in which the check comes to
+/// calls are at most that deep; none if the check doesn't find it. The landings are in the order in which the check comes to
 /// them.
 pub fn checked(
     alloc: Global,

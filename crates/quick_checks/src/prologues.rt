@@ -1,4 +1,4 @@
-//! What stands before the body of a function in the place of its call.
+//! The code before the body of a function in the place of its call.
 
 ghost use Rattle.std.specs.Prelude.{◌≡◌, ◌<◌, ◌+◌, ℕ, IfNone, IfOk, IfSome, IsTrue, OnSome, Some, length, map, slice_get};
 ghost use Rattle.st_types.specs.declared.kind.Kind.{Kind};
@@ -13,7 +13,7 @@ use crate::constants::Reading;
 use crate::cursor::{Cursor, expect, instr_at, step};
 use crate::draft::QuickDraft;
 use crate::refusal::Refusal;
-use crate::scope::{Seat, is_kind, narrow};
+use crate::scope::{FunctionWord, is_kind, narrow};
 use quick_code::{QuickInstr, is_same};
 use slot_trees::SlotFunction;
 use st_types::{Kind, Value};
@@ -52,7 +52,7 @@ fn value_of_input(function: &SlotFunction, index: usize) -> Option<Value>
     Some(*function.fresh.get(slot)?)
 }
 
-/// Whether the argument at an index is of the type of its input, which is no earlier one.
+/// Whether the argument at an index is of the type of its input, which isn't an earlier one.
 fn is_input(function: &SlotFunction, read: &[Reading], index: usize) -> bool
     ensures typed { IsTrue result → (k : ℕ) (t : Kind)
         → slice_get (slot_function_view function.now).inputs index ≡ Some k
@@ -141,7 +141,7 @@ fn begin_one(
     read: &[Reading],
     start: u16,
     slot: usize,
-) -> Result<Seat, Refusal>
+) -> Result<FunctionWord, Refusal>
     ensures { IfOk result (λ s. (now : ℕ) → IsBegun (frame_of draft.now now) (slot_function_view function.now)
         (words_read read.now) start slot (seat_of s) (point_of at.old) (point_of at.new)) }
 {
@@ -155,7 +155,7 @@ fn begin_one(
             return Err(Refusal::Other);
         };
         step(at)?;
-        return Ok(Seat { word, is_own: true });
+        return Ok(FunctionWord { word, is_own: true });
     };
     let argument = word_at(read, index)?;
     let moved = QuickInstr::Move {
@@ -163,13 +163,13 @@ fn begin_one(
         to: word,
     };
     if !is_same(instr_at(draft, at.place)?, moved) {
-        return Ok(Seat {
+        return Ok(FunctionWord {
             word: argument,
             is_own: false,
         });
     }
     expect(draft, at, moved)?;
-    Ok(Seat { word, is_own: true })
+    Ok(FunctionWord { word, is_own: true })
 }
 
 /// The values of a function are begun.
@@ -179,7 +179,7 @@ pub fn begin(
     function: &SlotFunction,
     read: &[Reading],
     start: u16,
-) -> Result<Vec<Seat>, Refusal>
+) -> Result<Vec<FunctionWord>, Refusal>
     ensures begun { IfOk result (λ v. (now : ℕ) → AreBegun (frame_of draft.now now) (slot_function_view function.now)
         (words_read read.now) start 0 (map seat_of v.items) (point_of at.old) (point_of at.new)) }
     ensures all { IfOk result (λ v. length v.items ≡ length (slot_function_view function.now).fresh) }

@@ -5,12 +5,12 @@ ghost use Rattle.st_types.specs.declared.kind.Kind.TheVariants.{Lint};
 ghost use Rattle.slot_trees.specs.ExpressionViews.{slot_expr_view};
 ghost use Rattle.quick_trees.specs.Functions.{IsMovedWithin};
 ghost use Rattle.quick_trees.specs.Instructions as instrs;
-ghost use Rattle.quick_trees.specs.Pieces.{IsNumber, IsNumberAt, Stands};
+ghost use Rattle.quick_trees.specs.Pieces.{IsNumber, IsNumberAt, IsInstr};
 ghost use Rattle.quick_trees.specs.Points.{next};
 ghost use Rattle.quick_checks.specs.Checking.{frame_of, point_of};
 
 use crate::constants::{Reading, number_for};
-use crate::cursor::{Cursor, expect, expect_for, stands};
+use crate::cursor::{Cursor, expect, expect_for, is_instr};
 use crate::draft::QuickDraft;
 use crate::instructions::instr_by;
 use crate::refusal::Refusal;
@@ -75,8 +75,8 @@ pub fn expect_within(
     )
 }
 
-/// Finds the instruction that there is for something, which assigns a temporary, and the one that assigns this if it is
-/// a number of a type.
+/// Finds the instruction of an operation, which assigns a temporary, and the one that assigns this if it is a number of a
+/// type.
 pub fn expect_kept(
     draft: &QuickDraft,
     kind: Kind,
@@ -86,7 +86,7 @@ pub fn expect_kept(
     at: &mut Cursor,
 ) -> Result<(), Refusal>
     ensures there { OnOk result (depth < draft.now.words) }
-    ensures stands { OnOk result ((now : ℕ) → Stands (frame_of draft.now now) instr at.old.place) }
+    ensures stands { OnOk result ((now : ℕ) → IsInstr (frame_of draft.now now) instr at.old.place) }
     ensures moves { OnOk result
         ((now : ℕ) → IsMovedWithin (frame_of draft.now now) kind depth to (suc at.old.place)) }
     ensures next { OnOk result (point_of at.new ≡ next (next (point_of at.old))) }
@@ -98,7 +98,7 @@ pub fn expect_kept(
     expect_within(draft, kind, depth, to, at)
 }
 
-/// The constant with which the instruction here assigns to a temporary what an operator makes, as of two LINT, of a word
+/// The constant with which the instruction here assigns to a temporary the result of an operator, as of two LINT, on a word
 /// and an expression.
 pub fn constant_as_lint(
     draft: &QuickDraft,
@@ -110,12 +110,12 @@ pub fn constant_as_lint(
 ) -> Option<i32>
     ensures there { IfSome result (λ w. depth < draft.now.words) }
     ensures number { IfSome result (λ w. IsNumber (slot_expr_view right.now) left.kind w) }
-    ensures stands { IfSome result (λ w. (now : ℕ) → Stands (frame_of draft.now now)
+    ensures stands { IfSome result (λ w. (now : ℕ) → IsInstr (frame_of draft.now now)
         (instrs.instr_by operator Lint left.word w depth) at.now.place) }
 {
     let word = number_for(right, left.kind)?;
     if (depth as usize) < draft.words
-        && stands(
+        && is_instr(
             draft,
             at,
             instr_by(operator, Kind::Lint, left.word, word, depth),

@@ -4,7 +4,7 @@ ghost use Rattle.std.specs.Prelude.{◌≡◌, ◌+◌, ℕ, IfOk, IsTrue, OnOk,
 ghost use Rattle.quick_code.specs.declared.quick_instr.QuickInstr.TheVariants as instrs;
 ghost use Rattle.slot_trees.specs.Chains.{subscripts_of};
 ghost use Rattle.slot_trees.specs.ExpressionViews.{subscript_view};
-ghost use Rattle.quick_trees.specs.Pieces.{AreReached, LeadsBehind};
+ghost use Rattle.quick_trees.specs.Pieces.{AreReached, IsOffset};
 ghost use Rattle.quick_trees.specs.Points.{next};
 ghost use Rattle.quick_checks.specs.Checking.{frame_of, point_of, site_of};
 ghost use Rattle.quick_checks.specs.Within.{IsReached, access_instr};
@@ -19,17 +19,17 @@ use quick_code::QuickInstr;
 use slot_trees::Subscript;
 use st_types::Kind;
 
-/// To how many values subscripts may lead that quick code follows.
+/// The number of values up to which quick code follows subscripts.
 const MAX_REACHED: usize = 8192;
 
-/// What is done with a value of an array in an array: it is loaded to a word, or assigned from one.
+/// The use of a value of an array in an array: it is loaded to a word, or assigned from one.
 #[derive(Clone, Copy)]
 pub enum Access {
     Load(u16),
     Store(u16),
 }
 
-/// What is added to a subscript, where an instruction has less room for it.
+/// The addend of a subscript, in an instruction with less room for it.
 fn short(shift: i32) -> Result<i16, Refusal>
     ensures { IfOk result (λ n. n ≡ shift) }
 {
@@ -67,8 +67,8 @@ pub fn expect_located(
     Ok(())
 }
 
-/// The same of an element of an array that lies so far behind already.
-pub fn expect_located_behind(
+/// The same of an element of an array that is already at an offset.
+pub fn expect_located_nested(
     draft: &QuickDraft,
     at: &mut Cursor,
     index: Indexed,
@@ -76,7 +76,7 @@ pub fn expect_located_behind(
     depth: u16,
 ) -> Result<(), Refusal>
     ensures stands { OnOk result (slice_get draft.now.code.instrs.items at.old.place
-        ≡ Some (instrs.LocateBehind depth index.word index.shift depth subscript.now.count subscript.now.stride)) }
+        ≡ Some (instrs.LocateNested depth index.word index.shift depth subscript.now.count subscript.now.stride)) }
     ensures next { OnOk result (point_of at.new ≡ next (point_of at.old)) }
 {
     let shift = short(index.shift)?;
@@ -85,7 +85,7 @@ pub fn expect_located_behind(
     expect(
         draft,
         at,
-        QuickInstr::LocateBehind {
+        QuickInstr::LocateNested {
             offset: depth,
             subscript: index.word,
             shift,
@@ -115,7 +115,7 @@ pub fn expect_access(
     let count = narrow(subscript.count)?;
     let stride = narrow(subscript.stride)?;
     let instr = match access {
-        Access::Load(to) => QuickInstr::LoadBehind {
+        Access::Load(to) => QuickInstr::LoadNested {
             offset: depth,
             subscript: index.word,
             shift,
@@ -124,7 +124,7 @@ pub fn expect_access(
             count,
             stride,
         },
-        Access::Store(from) => QuickInstr::StoreBehind {
+        Access::Store(from) => QuickInstr::StoreNested {
             offset: depth,
             subscript: index.word,
             shift,
@@ -146,7 +146,7 @@ struct Reached {
     kind: Kind,
 }
 
-/// Whether the value so many behind the first one is of the type, has the word, and nothing is known of its note.
+/// Whether the value at an offset from the first one is of the type, has the word, and nothing is known of its note.
 fn is_reached(
     draft: &QuickDraft,
     values: &Values,
@@ -172,7 +172,7 @@ fn is_reached(
     is_kind(kind, array.kind) && own as usize == word && is_exact(values, &at.noted, word)
 }
 
-/// Whether each value is so to which subscripts may lead from one that is so many behind the first one.
+/// Whether that holds for each value to which subscripts may lead from an offset on.
 fn are_reached(
     draft: &QuickDraft,
     values: &Values,
@@ -181,7 +181,7 @@ fn are_reached(
     subscripts: &[Subscript],
     offset: usize,
 ) -> bool
-    ensures { IsTrue result → (now o n : ℕ) → LeadsBehind (subscripts_of (map subscript_view subscripts.now)) o
+    ensures { IsTrue result → (now o n : ℕ) → IsOffset (subscripts_of (map subscript_view subscripts.now)) o
         → n ≡ offset + o → IsReached (frame_of draft.now now) (site_of values.now) at.now.noted.items
         (array.slot + n) (array.word + n) array.kind }
 {
@@ -214,7 +214,7 @@ fn are_few(subscripts: &[Subscript]) -> bool {
     true
 }
 
-/// The type of the values to which subscripts may lead from a slot on, whose words stand like them from a word on.
+/// The type of the values to which subscripts may lead from a slot on, whose words are in the same order from a word on.
 pub fn read_reached(
     draft: &QuickDraft,
     values: &Values,

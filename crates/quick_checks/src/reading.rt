@@ -8,20 +8,20 @@ ghost use Rattle.symbols.specs.Standard.{standard_view};
 ghost use Rattle.slot_trees.specs.ExpressionViews.{anchor_view, slot_expr_view};
 ghost use Rattle.quick_code.specs.declared.quick_instr.QuickInstr.TheVariants as instrs;
 ghost use Rattle.quick_trees.specs.Pieces.{IsConstant, IsFetched, IsMoved, IsNumber, IsSet};
-ghost use Rattle.quick_trees.specs.Sites.{base_of};
-ghost use Rattle.quick_trees.specs.Standing.{IsMade, IsRead, IsReadApart};
+ghost use Rattle.quick_trees.specs.UnitValues.{base_of};
+ghost use Rattle.quick_trees.specs.TreeCode.{IsAssignedTo, IsRead, IsReadApart};
 ghost use Rattle.quick_checks.specs.Checking.{Always, frame_of, point_of};
 
 use crate::calls::check_call;
 use crate::constants::{Reading, literal_value, number_for, read_constant};
-use crate::cursor::{Cursor, expect, instr_at, stands, step};
+use crate::cursor::{Cursor, expect, instr_at, is_instr, step};
 use crate::draft::QuickDraft;
 use crate::expressions::{
     constant_taken, deeper, element_of, expect_load, is_wider, only_argument, read_elements,
     read_variable, temporary, variable_of,
 };
 use crate::functions::{check_evaluated, is_widening};
-use crate::instructions::{instr_for, truth_for};
+use crate::instructions::{comparison_instr, instr_for};
 use crate::ranges::{constant_as_lint, expect_kept, expect_within};
 use crate::refusal::Refusal;
 use crate::scope::{Scope, is_kind};
@@ -132,7 +132,7 @@ pub fn check_made(
     to: u16,
     at: &mut Cursor,
 ) -> Result<Kind, Refusal>
-    ensures { IfOk result (λ t. Always draft.now library.now scope.now (λ f s units. IsMade f s units
+    ensures { IfOk result (λ t. Always draft.now library.now scope.now (λ f s units. IsAssignedTo f s units
         (slot_expr_view expression.now) t depth to (point_of at.old) (point_of at.new))) }
 {
     match expression {
@@ -197,7 +197,7 @@ pub fn check_binary(
     to: u16,
     at: &mut Cursor,
 ) -> Result<Kind, Refusal>
-    ensures { IfOk result (λ t. Always draft.now library.now scope.now (λ f s units. IsMade f s units
+    ensures { IfOk result (λ t. Always draft.now library.now scope.now (λ f s units. IsAssignedTo f s units
         (tree.binary operator (slot_expr_view operands.now.left) (slot_expr_view operands.now.right)) t depth to
         (point_of at.old) (point_of at.new))) }
 {
@@ -216,7 +216,7 @@ pub fn check_binary(
     if !is_kind(right.kind, left.kind) {
         return Err(Refusal::Other);
     }
-    if stands(
+    if is_instr(
         draft,
         at,
         instr_for(operator, left.kind, left.word, right.word, to),
@@ -224,7 +224,11 @@ pub fn check_binary(
         step(at)?;
         return Ok(left.kind);
     }
-    if stands(draft, at, truth_for(operator, left.word, right.word, to)) {
+    if is_instr(
+        draft,
+        at,
+        comparison_instr(operator, left.word, right.word, to),
+    ) {
         step(at)?;
         return Ok(Kind::Bool);
     }

@@ -7,7 +7,7 @@ use std::alloc::{AllocError, AllocFailed};
 pub enum Refusal {
     /// Memory ran out.
     OutOfMemory,
-    /// It is not what the check looks for.
+    /// It is not the code that the check looks for.
     Other,
 }
 

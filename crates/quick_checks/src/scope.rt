@@ -1,9 +1,9 @@
-//! Where the values of a unit stand.
+//! Where the values of a unit are.
 
 ghost use Rattle.std.specs.Prelude.{◌≡◌, ℕ, IfOk, IsTrue, Some, map, slice_get};
 ghost use Rattle.slot_trees.specs.SlotEvaluation.{slot_at};
 ghost use Rattle.slot_trees.specs.ExpressionViews.{anchor_view};
-ghost use Rattle.quick_trees.specs.Sites.{HasOwnWord, HasWord, base_of, kinds_of};
+ghost use Rattle.quick_trees.specs.UnitValues.{HasOwnWord, HasWord, base_of, kinds_of};
 ghost use Rattle.quick_checks.specs.Checking.{frame_of, seat_of, site_of};
 
 use crate::constants::Reading;
@@ -14,7 +14,7 @@ use st_types::Kind;
 
 /// The word of a function's value, which the function may assign or not.
 #[derive(Clone, Copy)]
-pub struct Seat {
+pub struct FunctionWord {
     pub word: u16,
     pub is_own: bool,
 }
@@ -24,7 +24,7 @@ pub enum Values {
     /// Those of all slots, among which the unit's own variables begin at the base.
     Whole(usize),
     /// Those of a function, with their types.
-    Called(Vec<Kind>, Vec<Seat>),
+    Called(Vec<Kind>, Vec<FunctionWord>),
 }
 
 impl Drop for Values {
@@ -73,7 +73,7 @@ pub fn kind_at(draft: &QuickDraft, values: &Values, slot: usize) -> Result<Kind,
 
 /// The seat of a value.
 #[tactic(auto, using(crate::proofs::Seats::seat_seen))]
-pub fn seat_at(seats: &[Seat], slot: usize) -> Result<Seat, Refusal>
+pub fn function_word_at(seats: &[FunctionWord], slot: usize) -> Result<FunctionWord, Refusal>
     ensures { IfOk result (λ s. slice_get (map seat_of seats.now) slot ≡ Some (seat_of s)) }
 {
     match seats.get(slot) {
@@ -107,7 +107,7 @@ pub fn word_of(draft: &QuickDraft, values: &Values, slot: usize) -> Result<u16, 
 {
     match values {
         Values::Whole(_) => word_in(draft, slot),
-        Values::Called(_, seats) => Ok(seat_at(seats, slot)?.word),
+        Values::Called(_, seats) => Ok(function_word_at(seats, slot)?.word),
     }
 }
 
@@ -118,7 +118,7 @@ pub fn own_word_of(draft: &QuickDraft, values: &Values, slot: usize) -> Result<u
     match values {
         Values::Whole(_) => word_in(draft, slot),
         Values::Called(_, seats) => {
-            let seat = seat_at(seats, slot)?;
+            let seat = function_word_at(seats, slot)?;
             if !seat.is_own {
                 return Err(Refusal::Other);
             }

@@ -6,13 +6,13 @@ ghost use Rattle.st_types.specs.Kinds.{greatest};
 ghost use Rattle.slot_trees.specs.SlotTrees as tree;
 ghost use Rattle.slot_trees.specs.ExpressionViews.{slot_expr_view};
 ghost use Rattle.quick_trees.specs.Instructions as instrs;
-ghost use Rattle.quick_trees.specs.Pieces.{IsNumberAt, Stands, TurnsBits};
+ghost use Rattle.quick_trees.specs.Pieces.{IsNumberAt, IsInstr, TurnsBits};
 ghost use Rattle.quick_trees.specs.Points.{next};
-ghost use Rattle.quick_trees.specs.Standing.{IsMade};
+ghost use Rattle.quick_trees.specs.TreeCode.{IsAssignedTo};
 ghost use Rattle.quick_checks.specs.Checking.{Always, frame_of, point_of};
 
 use crate::constants::Reading;
-use crate::cursor::{Cursor, expect_for, stands, step};
+use crate::cursor::{Cursor, expect_for, is_instr, step};
 use crate::draft::QuickDraft;
 use crate::instructions::{instr_by, instr_for};
 use crate::reading::check_read;
@@ -29,7 +29,7 @@ fn is_number(value: Value, kind: Kind, number: i128) -> bool
     is_kind(value.kind(), kind) && value.number() == number
 }
 
-/// The word of a number of a type that is a constant behind the slots.
+/// The word of a number of a type that is a constant after the slots.
 fn number_at(draft: &QuickDraft, kind: Kind, number: i128) -> Result<u16, Refusal>
     ensures { IfOk result (λ k. (now : ℕ) → IsNumberAt (frame_of draft.now now) kind number k) }
 {
@@ -47,7 +47,7 @@ fn number_at(draft: &QuickDraft, kind: Kind, number: i128) -> Result<u16, Refusa
     Err(Refusal::Other)
 }
 
-/// Finds the instruction that takes a value from 0: the word of that constant.
+/// Finds the instruction that subtracts a value from 0: the word of that constant.
 fn expect_negated(
     draft: &QuickDraft,
     at: &mut Cursor,
@@ -55,7 +55,7 @@ fn expect_negated(
     to: u16,
 ) -> Result<u16, Refusal>
     ensures nought { IfOk result (λ k. (now : ℕ) → IsNumberAt (frame_of draft.now now) from.kind (pos 0) k) }
-    ensures stands { IfOk result (λ k. (now : ℕ) → Stands (frame_of draft.now now)
+    ensures stands { IfOk result (λ k. (now : ℕ) → IsInstr (frame_of draft.now now)
         (instrs.instr_for Subtract from.kind k from.word to) at.old.place) }
     ensures next { OnOk result (point_of at.new ≡ next (point_of at.old)) }
 {
@@ -68,7 +68,7 @@ fn expect_negated(
     Ok(nought)
 }
 
-/// The constant that has each bit of a type set, where an instruction can have it.
+/// The constant that has each bit of a type set, if an instruction can have it.
 fn ones_of(kind: Kind) -> Option<i32>
     ensures { IfSome result (λ n. n ≡ greatest kind) }
 {
@@ -78,14 +78,14 @@ fn ones_of(kind: Kind) -> Option<i32>
     }
 }
 
-/// Finds the instruction that turns each bit of a value.
+/// Finds the instruction that flips each bit of a value.
 fn expect_turned(draft: &QuickDraft, at: &mut Cursor, from: Reading, to: u16) -> Result<(), Refusal>
     ensures turns { OnOk result ((now : ℕ) → TurnsBits (frame_of draft.now now) from.kind from.word to at.old.place) }
     ensures next { OnOk result (point_of at.new ≡ next (point_of at.old)) }
 {
     let operator = BinaryOperator::Xor;
     if let Some(ones) = ones_of(from.kind) {
-        if stands(
+        if is_instr(
             draft,
             at,
             instr_by(operator, from.kind, from.word, ones, to),
@@ -115,7 +115,7 @@ pub fn check_unary(
     to: u16,
     at: &mut Cursor,
 ) -> Result<Kind, Refusal>
-    ensures { IfOk result (λ t. Always draft.now library.now scope.now (λ f s units. IsMade f s units
+    ensures { IfOk result (λ t. Always draft.now library.now scope.now (λ f s units. IsAssignedTo f s units
         (tree.unary operator (slot_expr_view operand.now)) t depth to (point_of at.old) (point_of at.new))) }
 {
     let from = check_read(draft, library, scope, operand, depth, at)?;

@@ -6,7 +6,7 @@ ghost use Rattle.slot_trees.specs.Chains.{arms_of, stmts_of};
 ghost use Rattle.slot_trees.specs.ExpressionViews.{anchor_view, slot_expr_view};
 ghost use Rattle.slot_trees.specs.StatementViews.{slot_arm_view, slot_stmt_view, slot_stmts_view};
 ghost use Rattle.quick_trees.specs.Pieces.{IsLoop, IsUntil};
-ghost use Rattle.quick_trees.specs.Standing.{ArmsStand, IsAssignment, IsStored, IsTestedFor, StandsFor, StmtsStand};
+ghost use Rattle.quick_trees.specs.TreeCode.{AreArmsCode, IsAssignment, IsStored, IsTestedFor, IsStmtCode, AreStmtsCode};
 ghost use Rattle.quick_checks.specs.Checking.{Always, exits_of, frame_of, point_of};
 ghost use Rattle.quick_trees.specs.Points.{AreNoted};
 
@@ -16,7 +16,7 @@ use crate::choosing::{check_choice, choice_of, is_choice_next};
 use crate::conditions::check_test;
 use crate::counting::check_for;
 use crate::cursor::{
-    Cursor, assign, exits_in_loop, go, goes_back, is_at, joins, landing, leads, mark, mark_along,
+    Cursor, assign, exits_in_loop, go, is_at, joins, landing, leads, loops_back, mark, mark_along,
     pass, passes, read_notes, tick,
 };
 use crate::draft::{Exits, QuickDraft};
@@ -28,7 +28,7 @@ use crate::subscripts::check_subscript;
 use crate::within::check_stored_within;
 use slot_trees::{Anchor, SlotArm, SlotExpr, SlotLibrary, SlotStmt, Subscript};
 
-/// Finds the code of statements one after another, and what is noted before each.
+/// Finds the code of statements one after another, and the notes before each.
 #[cycle(check)]
 pub fn check_stmts(
     draft: &QuickDraft,
@@ -39,7 +39,7 @@ pub fn check_stmts(
     exits: &Exits,
     at: &mut Cursor,
 ) -> Result<(), Refusal>
-    ensures { OnOk result (Always draft.now library.now scope.now (λ f s units. StmtsStand f s units
+    ensures { OnOk result (Always draft.now library.now scope.now (λ f s units. AreStmtsCode f s units
         (slot_stmts_view statements.now) depth (exits_of exits.now) (point_of at.old) (point_of at.new))) }
 {
     let mut index = 0;
@@ -52,8 +52,8 @@ pub fn check_stmts(
     Ok(())
 }
 
-/// What is noted before a statement. None is read before an empty statement: what stands there may belong to what
-/// comes behind a statement that this one ends.
+/// The notes before a statement. None is read before an empty statement: the notes there may belong to code that follows a
+/// statement that this one ends.
 #[tactic(auto, using(crate::proofs::Noted::noted_none))]
 fn read_notes_before(
     draft: &QuickDraft,
@@ -80,7 +80,7 @@ fn check_stmt(
     exits: &Exits,
     at: &mut Cursor,
 ) -> Result<(), Refusal>
-    ensures { OnOk result (Always draft.now library.now scope.now (λ f s units. StandsFor f s units
+    ensures { OnOk result (Always draft.now library.now scope.now (λ f s units. IsStmtCode f s units
         (slot_stmt_view statement.now) depth (exits_of exits.now) (point_of at.old) (point_of at.new))) }
 {
     tick(at)?;
@@ -201,7 +201,7 @@ fn check_stored(
     Ok(())
 }
 
-/// The same of the arms of an IF, and of what stands where no condition holds.
+/// The same of the arms of an IF, and of the statements that run if no condition holds.
 #[cycle(check)]
 fn check_if(
     draft: &QuickDraft,
@@ -213,9 +213,9 @@ fn check_if(
     exits: &Exits,
     at: &mut Cursor,
 ) -> Result<(), Refusal>
-    ensures { OnOk result (Always draft.now library.now scope.now (λ f s units. ArmsStand f s units
+    ensures { OnOk result (Always draft.now library.now scope.now (λ f s units. AreArmsCode f s units
         (arms_of (map slot_arm_view arms.now))
-        (StmtsStand f s units (slot_stmts_view otherwise.now) depth (exits_of exits.now)) depth (exits_of exits.now)
+        (AreStmtsCode f s units (slot_stmts_view otherwise.now) depth (exits_of exits.now)) depth (exits_of exits.now)
         (point_of at.old) (point_of at.new))) }
 {
     let behind = landing(at)?;
@@ -255,7 +255,7 @@ fn check_while(
 ) -> Result<(), Refusal>
     ensures { OnOk result (Always draft.now library.now scope.now (λ f s units. IsLoop f
         (λ when p q w past. IsTestedFor f s units (slot_expr_view condition.now) when depth p q w past)
-        (λ p q. StmtsStand f s units (slot_stmts_view body.now) depth
+        (λ p q. AreStmtsCode f s units (slot_stmts_view body.now) depth
         (record (exits_of exits.now) { out = point_of at.new }) p q) (point_of at.old) (point_of at.new))) }
 {
     let behind = landing(at)?;
@@ -291,7 +291,7 @@ fn check_repeat(
 ) -> Result<(), Refusal>
     ensures { OnOk result (Always draft.now library.now scope.now (λ f s units. IsUntil f
         (λ when p q w past. IsTestedFor f s units (slot_expr_view condition.now) when depth p q w past)
-        (λ p q. StmtsStand f s units (slot_stmts_view body.now) depth
+        (λ p q. AreStmtsCode f s units (slot_stmts_view body.now) depth
         (record (exits_of exits.now) { out = point_of at.new }) p q) (point_of at.old) (point_of at.new))) }
 {
     let behind = landing(at)?;
@@ -300,7 +300,7 @@ fn check_repeat(
     let head = mark(at)?;
     check_stmts(draft, library, scope, body, depth, &inner, at)?;
     let again = check_test(draft, library, scope, condition, false, depth, at)?;
-    if !goes_back(at, again.way, &head) || !passes(at, again.past, &behind) {
+    if !loops_back(at, again.way, &head) || !passes(at, again.past, &behind) {
         return Err(Refusal::Other);
     }
     go(at, behind);

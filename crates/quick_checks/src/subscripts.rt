@@ -1,10 +1,10 @@
-//! Subscripts: the word that an instruction takes, and what it adds to that.
+//! Subscripts: the word that an instruction takes, and its addend to that.
 
 ghost use Rattle.std.specs.Prelude.{◌≡◌, ◌+ℤ◌, IfOk, IfSome, IsTrue, false};
 ghost use Rattle.st_types.specs.Words as words;
 ghost use Rattle.slot_trees.specs.ExpressionViews.{slot_expr_view};
 ghost use Rattle.quick_trees.specs.Pieces.{HasNumbers, IsNumber, IsSubscript};
-ghost use Rattle.quick_trees.specs.Standing.{IsReadApart};
+ghost use Rattle.quick_trees.specs.TreeCode.{IsReadApart};
 ghost use Rattle.quick_checks.specs.Checking.{Always, point_of};
 ghost use Rattle.quick_checks.specs.Sums.{IsSum};
 
@@ -24,7 +24,7 @@ pub struct Constant {
     pub word: i32,
 }
 
-/// The constant that an expression is, if an instruction can have it.
+/// The constant of an expression, if it is one that an instruction can have.
 pub fn constant_of(expression: &SlotExpr) -> Option<Constant>
     ensures { IfSome result (λ c. IsNumber (slot_expr_view expression.now) c.kind c.word) }
 {
@@ -47,7 +47,7 @@ pub struct Sum<'a> {
     pub added: i32,
 }
 
-/// The sum that an expression is; a difference is the sum with the constant's sign turned.
+/// The sum of an expression, if it is one; a difference is the sum with the constant negated.
 fn sum_of(expression: &SlotExpr) -> Option<Sum<'_>>
     ensures { IfSome result (λ s. IsSum (slot_expr_view expression.now) (slot_expr_view s.rest.now) s.kind s.added) }
 {
@@ -93,7 +93,7 @@ fn has_numbers(kind: Kind, subscript: &Subscript) -> bool
     kind.least() <= subscript.lower && end <= kind.greatest()
 }
 
-/// What is added to the word of a subscript without this number, so that the first element's is 0.
+/// The addend to the word of a subscript without this number, so that the first element's is 0.
 pub fn shift_for(subscript: &Subscript, added: i32) -> Result<i32, Refusal>
     ensures { IfOk result (λ n. subscript.now.lower +ℤ n ≡ added) }
 {
@@ -106,8 +106,8 @@ pub fn shift_for(subscript: &Subscript, added: i32) -> Result<i32, Refusal>
     }
 }
 
-/// The sum that a subscript is, if its type has the number of each element and each instruction has room for the shift:
-/// then the constant need not be added.
+/// The sum of a subscript, if its type has the number of each element and each instruction has room for the shift: then the
+/// constant need not be added.
 pub fn summed(subscript: &Subscript) -> Option<Sum<'_>>
     ensures sum { IfSome result (λ s. IsSum (slot_expr_view subscript.now.index) (slot_expr_view s.rest.now) s.kind
         s.added) }
@@ -127,7 +127,7 @@ pub fn summed(subscript: &Subscript) -> Option<Sum<'_>>
     }
 }
 
-/// A subscript that was read: the word that an instruction takes, and what it adds to that.
+/// A subscript that was read: the word that an instruction takes, and its addend to that.
 #[derive(Clone, Copy)]
 pub struct Indexed {
     pub word: u16,

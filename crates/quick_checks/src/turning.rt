@@ -1,4 +1,4 @@
-//! The code that moves bits up, and that turns them.
+//! The code that moves bits up, and that rotates them.
 
 ghost use Rattle.std.specs.Prelude.{◌≡◌, ◌<◌, ◌≤◌, ◌-◌, ◌^◌, ℕ, IfOk, IfSome, OnOk, if◌then◌else◌, pos};
 ghost use Rattle.st_types.specs.Kinds.{row_of};
@@ -115,7 +115,7 @@ pub fn expect_shifted_up(
     Ok(value.kind)
 }
 
-/// Finds the code that turns bits by a constant number of places, up or down.
+/// Finds the code that rotates bits by a constant number of places, up or down.
 pub fn expect_turned(
     draft: &QuickDraft,
     read: &[Reading],

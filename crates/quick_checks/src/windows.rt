@@ -5,7 +5,7 @@ ghost use Rattle.quick_trees.specs.Windows.{IsWindow};
 
 use std::alloc::{AllocError, Global};
 
-/// Whether the slot at an index is among so many, and behind the one before it.
+/// Whether the slot at an index is below `count`, and after the one before it.
 fn is_next(window: &[usize], index: usize, count: usize) -> bool
     ensures inside { IsTrue result → (k : ℕ) → slice_get window.now index ≡ Some k → k < count }
     ensures behind { IsTrue result → (u j k : ℕ) → index ≡ u + 1 → slice_get window.now u ≡ Some j
@@ -26,7 +26,7 @@ fn is_next(window: &[usize], index: usize, count: usize) -> bool
     }
 }
 
-/// Whether slots are in increasing order, among so many.
+/// Whether slots are in increasing order, and below `count`.
 pub fn is_window(window: &[usize], count: usize) -> bool
     ensures { IsTrue result → IsWindow count window.now }
 {
@@ -40,8 +40,8 @@ pub fn is_window(window: &[usize], count: usize) -> bool
     true
 }
 
-/// The word of each slot that has one, among so many slots. No promise is made of it: who takes a word from it looks at
-/// the window again.
+/// The word of each slot that has one, among `count` slots. No promise is made of it: code that takes a word from it looks
+/// at the window again.
 pub fn words_by_slot(
     alloc: Global,
     window: &[usize],

@@ -6,8 +6,8 @@ ghost use Rattle.slot_trees.specs.SlotEvaluation.{slot_at};
 ghost use Rattle.slot_trees.specs.Chains.{subscripts_of};
 ghost use Rattle.slot_trees.specs.ExpressionViews.{anchor_view, place_view, slot_expr_view, subscript_view};
 ghost use Rattle.quick_trees.specs.Pieces.{IsWithin};
-ghost use Rattle.quick_trees.specs.Sites.{base_of};
-ghost use Rattle.quick_trees.specs.Standing.{IsLedOn, IsMade, IsRead};
+ghost use Rattle.quick_trees.specs.UnitValues.{base_of};
+ghost use Rattle.quick_trees.specs.TreeCode.{IsLedOn, IsAssignedTo, IsRead};
 ghost use Rattle.quick_checks.specs.Checking.{Always, point_of};
 ghost use Rattle.quick_checks.specs.Within.{AreLed, PlaceStored, access_instr};
 
@@ -15,7 +15,7 @@ use crate::constants::Reading;
 use crate::cursor::Cursor;
 use crate::draft::QuickDraft;
 use crate::expressions::{deeper, temporary};
-use crate::reached::{Access, expect_access, expect_located, expect_located_behind, read_reached};
+use crate::reached::{Access, expect_access, expect_located, expect_located_nested, read_reached};
 use crate::reading::check_read;
 use crate::refusal::Refusal;
 use crate::scope::{Scope, is_kind, own_word_of, slot_of};
@@ -65,7 +65,7 @@ pub fn check_made_within(
     to: u16,
     at: &mut Cursor,
 ) -> Result<Kind, Refusal>
-    ensures { IfOk result (λ t. Always draft.now library.now scope.now (λ f s units. IsMade f s units
+    ensures { IfOk result (λ t. Always draft.now library.now scope.now (λ f s units. IsAssignedTo f s units
         (tree.load (place_view place.now)) t depth to (point_of at.old) (point_of at.new))) }
 {
     let subscripts = place.subscripts.as_slice();
@@ -121,7 +121,7 @@ pub fn check_stored_within(
     Ok(())
 }
 
-/// Finds the code that goes along subscripts to a value, and what is done with it there: the type of the value.
+/// Finds the code that goes along subscripts to a value, and its use there: the type of the value.
 #[cycle(check)]
 fn check_within(
     draft: &QuickDraft,
@@ -196,7 +196,7 @@ fn check_led_on(
         expect_access(draft, at, index, subscript, depth, word, access)?;
         return Ok(());
     }
-    expect_located_behind(draft, at, index, subscript, depth)?;
+    expect_located_nested(draft, at, index, subscript, depth)?;
     check_led_on(draft, library, scope, rest, depth, word, access, at)?;
     Ok(())
 }

@@ -10,7 +10,7 @@ use crate::unit::narrow;
 use quick_code::{QuickCode, QuickInstr, Way};
 use std::alloc::Global;
 
-/// How many ticks are taken between each instruction and the next branch. They stand from the last instruction on.
+/// How many ticks are taken between each instruction and the next branch. They are stored from the last instruction on.
 pub struct Aheads<'a> {
     sheet: &'a Sheet,
     counts: Vec<usize>,
@@ -41,7 +41,7 @@ impl Aheads<'_> {
         Ok(aheads)
     }
 
-    /// The ticks between an instruction and the next branch, where those of what stands further down are known.
+    /// The ticks between an instruction and the next branch, if those of the code further down are known.
     fn count(&self, line: Line, below: Option<Line>) -> Result<usize, Stop> {
         if let (QuickInstr::Jump { .. }, Some(lead)) = (line.instr, line.lead) {
             return self.at_mark(lead.mark);

@@ -28,7 +28,7 @@ fn put_one(assigned: &mut Vec<bool>, anchor: Anchor) {
     }
 }
 
-/// Puts down what statements assign.
+/// Records the values that statements assign.
 fn put_assigned(
     assigned: &mut Vec<bool>,
     statements: &[SlotStmt],

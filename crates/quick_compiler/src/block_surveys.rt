@@ -5,9 +5,8 @@ use crate::spot::below;
 use crate::stop::Stop;
 use crate::survey::{Survey, survey_expr, survey_stmts};
 use crate::unit::{Unit, Values};
-use quick_code::member_count;
 use slot_trees::{BlockCode, SlotArgument};
-use symbols::StandardBlock;
+use symbols::{StandardBlock, member_count};
 
 /// Looks at a call of a block: inputs are read and then given, the block runs, and outputs are copied.
 #[cycle(survey)]

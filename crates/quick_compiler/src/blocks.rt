@@ -9,9 +9,9 @@ use crate::spot::Spot;
 use crate::statements::{Exits, put_stmts};
 use crate::stop::Stop;
 use crate::unit::{Unit, Values};
-use quick_code::{QuickInstr, member_count};
+use quick_code::QuickInstr;
 use slot_trees::{Anchor, BlockCode, SlotArgument};
-use symbols::StandardBlock;
+use symbols::{StandardBlock, member_count};
 
 /// A call of a block: its instance, the block, and the arguments.
 #[derive(Clone, Copy)]
@@ -70,7 +70,7 @@ fn put_inputs(
     for argument in arguments {
         if let SlotArgument::Given(member, value) = argument {
             let slot = member_at(first, *member)?;
-            let place = spot.behind(inputs.len())?;
+            let place = spot.after_temporaries(inputs.len())?;
             let read = put_read(unit, draft, value, place)?;
             if read.kind != unit.kind_at(slot)? {
                 return Err(Stop::NotCovered);
@@ -83,7 +83,7 @@ fn put_inputs(
     Ok(inputs)
 }
 
-/// A word that no input is given to before.
+/// A word to which no earlier input is given.
 fn kept(draft: &mut Draft, inputs: &[Input], word: u16, spot: Spot) -> Result<u16, Stop> {
     let mut is_given = false;
     for input in inputs {
@@ -188,7 +188,7 @@ fn copy_outputs(
     Ok(())
 }
 
-/// Notes what a call surely does before its first branch: a block of the text notes for itself.
+/// Notes the looks and assignments that a call surely does before its first branch: a block of the text notes for itself.
 pub fn note_invocation(
     unit: Unit,
     draft: &mut Draft,

@@ -7,7 +7,7 @@ use crate::reading::{Reading, put_read};
 use crate::spot::Spot;
 use crate::statements::{Exits, put_stmts};
 use crate::stop::Stop;
-use crate::unit::{Seat, Unit, Values, narrow};
+use crate::unit::{FunctionWord, Unit, Values, narrow};
 use quick_code::QuickInstr;
 use slot_trees::{SlotExpr, SlotFunction};
 use st_types::Kind;
@@ -25,13 +25,13 @@ pub fn put_call(
 ) -> Result<Kind, Stop> {
     let mut read = Vec::new(draft.alloc);
     for (place, argument) in arguments.iter().enumerate() {
-        read.push(put_read(unit, draft, argument, spot.behind(place)?)?)?;
+        read.push(put_read(unit, draft, argument, spot.after_temporaries(place)?)?)?;
     }
-    let behind = spot.behind(arguments.len())?;
+    let behind = spot.after_temporaries(arguments.len())?;
     put_function(unit, draft, number, &read, behind, to)
 }
 
-/// Writes the code of a function whose arguments are read, and whose values stand from the depth on.
+/// Writes the code of a function whose arguments are read, and whose values begin at the depth.
 #[cycle(draft)]
 fn put_function(
     unit: Unit,
@@ -45,7 +45,7 @@ fn put_function(
         return Err(Stop::NotCovered);
     };
     let function = unit.function_at(number)?;
-    let body = spot.behind(function.fresh.len())?;
+    let body = spot.after_temporaries(function.fresh.len())?;
     draft.sheet.need_words(body.depth as usize);
     let values = begin(draft, function, read, spot)?;
     let inner = Unit {
@@ -63,7 +63,7 @@ fn put_function(
     };
     put_stmts(inner, draft, &function.body, body, exits)?;
     draft.sheet.bind(last)?;
-    let from = inner.seat_at(function.result)?.word;
+    let from = inner.function_word_at(function.result)?.word;
     draft.sheet.put(QuickInstr::Move { from, to })?;
     inner.kind_at(function.result)
 }
@@ -84,12 +84,12 @@ fn begin(
         let Some(own) = (spot.depth as usize).checked_add(slot) else {
             return Err(Stop::NotCovered);
         };
-        let own = Seat {
+        let own = FunctionWord {
             word: narrow(own)?,
             is_own: true,
         };
         let seat = match (inputs.get(slot), assigned.get(slot)) {
-            (Some(Some(argument)), Some(false)) => Seat {
+            (Some(Some(argument)), Some(false)) => FunctionWord {
                 word: argument.word,
                 is_own: false,
             },

@@ -6,7 +6,7 @@ use st_meaning::number_of;
 use st_types::Label;
 use std::alloc::Global;
 
-/// How many numbers the table of a CASE has at most.
+/// The greatest number of entries in the table of a CASE.
 const MAX_NUMBERS: usize = 512;
 
 /// The numbers of a label, or of all labels of a CASE.
@@ -16,9 +16,9 @@ struct Span {
     greatest: i128,
 }
 
-/// The arm of each number, from the least one on that a label has; none where no label has it.
+/// The arm of each number, from the least one on that a label has; none if no label has it.
 pub struct Cases {
-    /// What is added to a number, so that the least one's is 0.
+    /// The addend to a number, so that the least one's is 0.
     pub shift: i32,
     pub arms: Vec<Option<usize>>,
 }

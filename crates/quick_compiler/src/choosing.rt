@@ -1,7 +1,7 @@
 //! The code of an IF that assigns one of two values.
 //!
-//! Both are read, and one is assigned: no branch is there whose way the processor could guess wrongly. That is so where
-//! reading them is cheap and can't fail, and looks up nothing but what is looked up whichever is assigned, or was
+//! Both are read, and one is assigned: there is no branch whose way the processor could guess wrongly. That is done if
+//! reading them is cheap and can't fail, and looks up nothing but values that are looked up whichever is assigned, or were
 //! touched before.
 
 ghost use Rattle.std.specs.Prelude.{◌<◌, IsTrue, length};
@@ -20,14 +20,14 @@ use slot_trees::{Anchor, SlotArm, SlotExpr, SlotStmt};
 use st_types::{BinaryOperator, Kind, UnaryOperator};
 use symbols::Standard;
 
-/// How many levels the expressions of a choice have at most, so that they are cheap.
+/// The greatest number of levels of the expressions of a choice, so that they are cheap.
 const MOST_LEVELS: usize = 4;
 
-/// How many constants a program may have before an IF with a choice. A choice takes words for the constants that it
-/// assigns, where a branch would have them in its instructions, and words for constants are few.
+/// How many constants a program may have before an IF with a choice. A choice takes words for the constants that it assigns,
+/// while a branch would have them in its instructions, and words for constants are few.
 const MOST_CONSTANTS: usize = 1024;
 
-/// The choice that an IF is, if its code is written as that.
+/// The choice of an IF, if its code is written as one.
 pub fn cheap_choice<'a>(
     unit: Unit,
     draft: &Draft,
@@ -52,7 +52,7 @@ pub fn cheap_choice<'a>(
     Ok(Some(choice))
 }
 
-/// Whether code that reads an expression has no branch and, where it may not fail, no operator that may have no result.
+/// Whether code that reads an expression has no branch and, unless it may fail, no operator that may have no result.
 fn is_straight(expression: &SlotExpr, may_fail: bool, levels: usize) -> bool {
     if levels == 0 {
         return false;
@@ -102,7 +102,7 @@ fn may_fail_at(operator: BinaryOperator) -> bool {
     }
 }
 
-/// Whether each variable that an expression of a choice looks up is looked up whatever is chosen.
+/// Whether each variable that an expression of a choice looks up is looked up whichever is chosen.
 fn is_looked_up(
     unit: Unit,
     draft: &Draft,
@@ -161,7 +161,7 @@ fn looks_up(expression: &SlotExpr, variable: Anchor, levels: usize) -> bool {
     }
 }
 
-/// Notes what a choice does: it looks up what its expressions name, and assigns its variable.
+/// Notes the effect of a choice: it looks up each variable in its expressions, and assigns its own.
 pub fn note_choice(
     unit: Unit,
     draft: &mut Draft,
@@ -188,8 +188,8 @@ pub fn put_choice(
     let to = unit.own_word_of(slot)?;
     let condition = put_asked(unit, draft, choice.condition, spot.inside()?)?;
     draft.sheet.tick()?;
-    let yes = put_read(unit, draft, choice.yes, spot.behind(1)?)?;
-    let no = put_read(unit, draft, choice.no, spot.behind(2)?)?;
+    let yes = put_read(unit, draft, choice.yes, spot.after_temporaries(1)?)?;
+    let no = put_read(unit, draft, choice.no, spot.after_temporaries(2)?)?;
     let kind = unit.kind_at(slot)?;
     if yes.kind != kind || no.kind != kind {
         return Err(Stop::NotCovered);
@@ -204,7 +204,7 @@ pub fn put_choice(
     draft.sheet.bind(behind)
 }
 
-/// Writes the code that reads a condition: the word that is not 0 where it holds.
+/// Writes the code that reads a condition: the word that is not 0 if it holds.
 #[cycle(draft)]
 fn put_asked(unit: Unit, draft: &mut Draft, condition: &SlotExpr, spot: Spot) -> Result<u16, Stop> {
     if let Some(operands) = unequal_to_0(condition) {

@@ -34,10 +34,10 @@ fn landings_of(alloc: Global, drafted: Vec<Drafted>) -> Result<Vec<Landing>, All
     Ok(landings)
 }
 
-/// Quick code of a program with its own variables from a slot on, over slots of these types, with calls at most so
-/// deep: over a window of the slots that it names. None where some part has none.
+/// Quick code of a program with its own variables from a slot on, over slots of these types, with calls at most `calls`
+/// deep: over a window of the slots that it names. None if some part has none.
 ///
-/// The code is drafted, and then it is checked against the program: a draft that is not found to stand for it is none.
+/// The code is drafted, and then it is checked against the program: a draft that the check rejects is dropped.
 ///
 /// The only error is out of memory.
 pub fn compile(

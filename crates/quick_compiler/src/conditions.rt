@@ -2,11 +2,11 @@
 
 use crate::draft::Draft;
 use crate::reading::put_read;
-use crate::sheet::{Lead, NO_WAY};
+use crate::sheet::{BranchMark, NO_WAY};
 use crate::spot::Spot;
 use crate::stop::Stop;
 use crate::unit::Unit;
-use quick_checks::{branch_for, branch_for_by, number_for, truth_branch};
+use quick_checks::{bool_branch, branch_for, branch_for_by, number_for};
 use slot_trees::{Operands, SlotExpr};
 use st_types::{BinaryOperator, Kind, UnaryOperator};
 
@@ -14,7 +14,7 @@ use st_types::{BinaryOperator, Kind, UnaryOperator};
 #[derive(Clone, Copy)]
 pub struct Branch {
     pub when: bool,
-    pub lead: Lead,
+    pub lead: BranchMark,
 }
 
 impl Branch {
@@ -22,7 +22,7 @@ impl Branch {
     pub fn unless(mark: usize) -> Branch {
         Branch {
             when: false,
-            lead: Lead {
+            lead: BranchMark {
                 mark,
                 is_turn: false,
             },
@@ -55,7 +55,7 @@ pub fn put_test(
             if read.kind != Kind::Bool {
                 return Err(Stop::NotCovered);
             }
-            let instr = truth_branch(branch.when, read.word, NO_WAY, 0);
+            let instr = bool_branch(branch.when, read.word, NO_WAY, 0);
             draft.sheet.put_branch(Some(instr), branch.lead)
         }
     }
@@ -77,7 +77,7 @@ fn put_compared(
         let instr = branch_for_by(when, operator, left.word, constant, NO_WAY, 0);
         return draft.sheet.put_branch(instr, branch.lead);
     }
-    let right = put_read(unit, draft, &operands.right, spot.behind(1)?)?;
+    let right = put_read(unit, draft, &operands.right, spot.after_temporaries(1)?)?;
     if right.kind != left.kind {
         return Err(Stop::NotCovered);
     }

@@ -3,10 +3,10 @@
 use crate::stop::Stop;
 use st_types::Value;
 
-/// How many constants a program has at most that is drafted.
+/// The greatest number of constants of a program that is drafted.
 const MAX_CONSTANTS: usize = 4096;
 
-/// The word of a value, where an instruction can have it.
+/// The word of a value, if an instruction can have it.
 pub fn small_word(value: Value) -> Option<i32> {
     match i32::try_from(value.word()) {
         Ok(word) => Some(word),
@@ -14,7 +14,7 @@ pub fn small_word(value: Value) -> Option<i32> {
     }
 }
 
-/// The place of a value among the constants, where each stands once.
+/// The place of a value among the constants, each of which is there once.
 pub fn constant_at(constants: &mut Vec<Value>, value: Value) -> Result<usize, Stop> {
     for (place, constant) in constants.as_slice().iter().enumerate() {
         if constant.is(value) {

@@ -15,14 +15,14 @@ use std::alloc::Global;
 /// How many notings all landings may have.
 const MAX_NOTINGS: usize = 50_000_000;
 
-/// A point where runs come together, by its mark, and what is known of the notes there.
+/// A point where runs come together, by its mark, and the facts known of the notes there.
 #[derive(Drop)]
 pub struct Promise {
     pub mark: usize,
     pub noted: Vec<Noting>,
 }
 
-/// Code that is being written, with what is known where it has come.
+/// Code that is being written, with the facts known at its end.
 pub struct Draft {
     pub alloc: Global,
     pub sheet: Sheet,
@@ -33,7 +33,7 @@ pub struct Draft {
     /// The ways of RETURN out of each block around, which are those to its end too.
     pub backs: Vec<Ways<Noting>>,
     pub promises: Vec<Promise>,
-    /// No run comes here, so all is known.
+    /// No run comes here, so anything may be assumed.
     pub is_lost: bool,
     /// How many notings the promises have.
     notings: usize,
@@ -65,7 +65,7 @@ pub struct Written {
 }
 
 impl Draft {
-    /// The code, where it is written to its end.
+    /// The code, once it is written to its end.
     pub fn into_written(self) -> Written {
         let Self {
             alloc: _,
@@ -86,7 +86,7 @@ impl Draft {
         }
     }
 
-    /// No code, of a program that names so many of so many slots, with these constants at least.
+    /// No code yet, of a program that names `named` of `slots` slots, with these constants at least.
     pub fn new(
         alloc: Global,
         named: usize,
@@ -125,7 +125,7 @@ impl Draft {
         depth
     }
 
-    /// Room for what will be known at a landing, which comes behind those before it.
+    /// Room for the facts at a landing, which comes after those before it.
     pub fn promise(&mut self, mark: usize) -> Result<usize, Stop> {
         let place = self.promises.len();
         let noted = Vec::new(self.alloc);
@@ -142,13 +142,13 @@ impl Draft {
         Ok(())
     }
 
-    /// What is known here is known at a landing.
+    /// The facts known here are known at a landing.
     pub fn keep_here(&mut self, place: usize) -> Result<(), Stop> {
         let noted = self.known.all()?;
         self.keep(place, noted)
     }
 
-    /// The run goes on at a mark, and code behind it is looked at from another one on.
+    /// The run goes on at a mark, and code after it is looked at from another one on.
     pub fn leave(&mut self, to: usize, behind: usize) -> Result<(), Stop> {
         self.sheet.jump(to)?;
         let place = self.promise(behind)?;
@@ -169,7 +169,7 @@ impl Draft {
         Ok(())
     }
 
-    /// A way leads behind the block around, if there is one, or elsewhere.
+    /// A way leads to the end of the block around, if there is one, or elsewhere.
     pub fn add_back(&mut self, unit: Unit, comes: bool) -> Result<(), Stop> {
         if !unit.is_noted() {
             return Ok(());

@@ -33,9 +33,9 @@ pub fn put_evaluated(
 ) -> Result<Kind, Stop> {
     let mut read = Vec::new(draft.alloc);
     for (place, argument) in arguments.iter().enumerate() {
-        read.push(put_read(unit, draft, argument, spot.behind(place)?)?)?;
+        read.push(put_read(unit, draft, argument, spot.after_temporaries(place)?)?)?;
     }
-    let behind = spot.behind(arguments.len())?;
+    let behind = spot.after_temporaries(arguments.len())?;
     match function {
         Standard::Shr | Standard::Shl | Standard::Rol | Standard::Ror => {
             let places = places_in(arguments)?;
@@ -75,7 +75,7 @@ fn places_in(arguments: &[SlotExpr]) -> Result<u8, Stop> {
     }
 }
 
-/// How many bits a type has whose bits are moved.
+/// The number of bits of a type whose bits can be moved.
 pub fn width_of(kind: Kind) -> Result<u8, Stop> {
     match kind {
         Kind::Byte => Ok(8),
@@ -101,7 +101,7 @@ fn put_shifted(draft: &mut Draft, read: &[Reading], places: u8, to: u16) -> Resu
     Ok(value.kind)
 }
 
-/// Writes the code of a standard function whose arguments are read, where temporaries from a depth on are free.
+/// Writes the code of a standard function whose arguments are read, with free temporaries from a depth on.
 fn put_function(
     unit: Unit,
     draft: &mut Draft,
@@ -147,7 +147,7 @@ fn put_converted(
     Ok(into)
 }
 
-/// Two words that are compared, and two of which the one is chosen if the first is at most the second.
+/// Two words that are compared, and two of which one is chosen if the first is at most the second.
 #[derive(Clone, Copy)]
 struct Choice {
     left: u16,
@@ -156,7 +156,7 @@ struct Choice {
     no: u16,
 }
 
-/// Writes the code that assigns the one of two words.
+/// Writes the code that assigns one of two words.
 fn put_chosen(draft: &mut Draft, choice: Choice, depth: u16, to: u16) -> Result<(), Stop> {
     let truth = draft.temporary(depth);
     draft.sheet.put(QuickInstr::AtMost {
@@ -206,7 +206,7 @@ fn put_greater(
     Ok(left.kind)
 }
 
-/// One deeper.
+/// One level deeper.
 fn deeper(depth: u16) -> Result<u16, Stop> {
     match depth.checked_add(1) {
         Some(depth) => Ok(depth),

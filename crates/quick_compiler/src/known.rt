@@ -1,25 +1,25 @@
-//! What is known of each slot where a run comes, along several ways.
+//! The facts known of each slot at a place of the code, along several ways.
 
 use crate::stop::Stop;
 use std::alloc::{AllocError, Global};
 
-/// How many changes are looked at in all, where ways part and come together. More are in hostile texts alone.
+/// How many changes are looked at in all, when ways part and come together. More are in hostile texts alone.
 const MAX_LOOKED_AT: usize = 3_000_000;
 
-/// What is known of a slot.
+/// A fact known of a slot.
 pub trait State: Copy {
-    /// The most that is known where either is; none where there is no such thing.
+    /// The most that is known if either holds; none if there is no such fact.
     fn joined(self, other: Self) -> Option<Self>;
 }
 
-/// What is known of one slot.
+/// The fact known of one slot.
 #[derive(Clone, Copy)]
 pub struct Entry<S: Copy> {
     pub slot: usize,
     pub state: S,
 }
 
-/// What is known of each slot, and what was known before each change.
+/// The fact known of each slot, and the earlier one before each change.
 pub struct Known<S: Copy> {
     alloc: Global,
     states: Vec<S>,
@@ -39,16 +39,16 @@ impl<S: Copy> Drop for Known<S> {
     }
 }
 
-/// Ways that come together: what each changed since they parted.
+/// Ways that come together: the changes of each since they parted.
 pub struct Ways<S: Copy> {
-    /// How many changes there were where they parted.
+    /// The number of changes when they parted.
     since: usize,
     coming: Changes<S>,
-    /// Those that lead elsewhere. What they know counts only where none comes.
+    /// Those that lead elsewhere. Their facts count only if none comes.
     leaving: Changes<S>,
 }
 
-/// What some ways changed.
+/// The changes of some ways.
 struct Changes<S: Copy> {
     ways: usize,
     entries: Vec<Entry<S>>,
@@ -90,7 +90,7 @@ impl<S: Copy> Drop for Ways<S> {
 }
 
 impl<S: Copy> Ways<S> {
-    /// No ways yet, which part after so many changes.
+    /// No ways yet, which part after `since` changes.
     pub fn new(alloc: Global, since: usize) -> Ways<S> {
         Ways {
             since,
@@ -101,7 +101,7 @@ impl<S: Copy> Ways<S> {
 }
 
 impl<S: State> Known<S> {
-    /// The same of so many slots.
+    /// The same fact for each of `count` slots.
     pub fn new(alloc: Global, count: usize, state: S) -> Result<Known<S>, AllocError> {
         let mut states = Vec::new(alloc);
         for _ in 0..count {
@@ -115,17 +115,17 @@ impl<S: State> Known<S> {
         })
     }
 
-    /// How many slots there are.
+    /// The number of slots.
     pub fn slots(&self) -> usize {
         self.states.len()
     }
 
-    /// What is known of all slots.
+    /// The facts known of all slots.
     pub fn all(&self) -> Result<Vec<S>, AllocError> {
         Vec::from_slice(self.alloc, &self.states)
     }
 
-    /// What is known of a slot.
+    /// The fact known of a slot.
     pub fn at(&self, slot: usize) -> Result<S, Stop> {
         match self.states.get(slot) {
             Some(state) => Ok(*state),
@@ -147,12 +147,12 @@ impl<S: State> Known<S> {
         Ok(())
     }
 
-    /// How many changes there were.
+    /// The number of changes so far.
     pub fn changes(&self) -> usize {
         self.trail.len()
     }
 
-    /// Goes back to where there were so many changes.
+    /// Goes back to the state after this number of changes.
     pub fn undo(&mut self, changes: usize) {
         while self.trail.len() > changes {
             let Some(entry) = self.trail.pop() else {
@@ -164,7 +164,7 @@ impl<S: State> Known<S> {
         }
     }
 
-    /// What is known of the slots that changed, each once and in order.
+    /// The facts known of the slots that changed, each once and in order.
     pub fn changed(&mut self, since: usize) -> Result<Vec<Entry<S>>, Stop> {
         let changes = self.trail.len().saturating_sub(since);
         let Some(left) = self.left.checked_sub(changes) else {
@@ -236,7 +236,7 @@ impl<S: State> Known<S> {
         }
     }
 
-    /// What some ways know of a slot is known where all come together, as far as the others know it too.
+    /// A fact that some ways know of a slot is known where all come together, as far as the others know it too.
     fn close(&mut self, group: Group<S>, count: usize) -> Result<(), Stop> {
         if group.count >= count {
             return self.set(group.slot, group.state);
@@ -247,7 +247,7 @@ impl<S: State> Known<S> {
     }
 }
 
-/// What some ways know of a slot.
+/// The fact that some ways know of a slot.
 #[derive(Clone, Copy)]
 struct Group<S: Copy> {
     slot: usize,

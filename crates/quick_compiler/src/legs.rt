@@ -2,7 +2,7 @@
 
 use quick_code::{QuickInstr, Way};
 
-/// Where a branch leads, and the ticks where it is not taken.
+/// Where a branch leads, and the ticks when it is not taken.
 #[derive(Clone, Copy)]
 pub struct Leg {
     pub way: Way,
@@ -20,16 +20,16 @@ pub fn is_turning(instr: QuickInstr) -> bool {
 /// Whether an instruction is a branch on a comparison.
 fn is_branch(instr: QuickInstr) -> bool {
     match instr {
-        QuickInstr::WhenEqual { .. }
-        | QuickInstr::WhenNotEqual { .. }
-        | QuickInstr::WhenLess { .. }
-        | QuickInstr::WhenAtMost { .. }
-        | QuickInstr::WhenEqualTo { .. }
-        | QuickInstr::WhenNotEqualTo { .. }
-        | QuickInstr::WhenBelow { .. }
-        | QuickInstr::WhenUpTo { .. }
-        | QuickInstr::WhenAbove { .. }
-        | QuickInstr::WhenFrom { .. } => true,
+        QuickInstr::JumpIfEqual { .. }
+        | QuickInstr::JumpIfNotEqual { .. }
+        | QuickInstr::JumpIfLess { .. }
+        | QuickInstr::JumpIfAtMost { .. }
+        | QuickInstr::JumpIfEqualConst { .. }
+        | QuickInstr::JumpIfNotEqualConst { .. }
+        | QuickInstr::JumpIfLessConst { .. }
+        | QuickInstr::JumpIfAtMostConst { .. }
+        | QuickInstr::JumpIfGreaterConst { .. }
+        | QuickInstr::JumpIfAtLeastConst { .. } => true,
         _ => false,
     }
 }
@@ -62,61 +62,61 @@ pub fn with_leg(instr: QuickInstr, leg: Leg) -> QuickInstr {
 fn branch_with(instr: QuickInstr, leg: Leg) -> QuickInstr {
     let Leg { way, past } = leg;
     match instr {
-        QuickInstr::WhenEqual { left, right, .. } => QuickInstr::WhenEqual {
+        QuickInstr::JumpIfEqual { left, right, .. } => QuickInstr::JumpIfEqual {
             left,
             right,
             way,
             past,
         },
-        QuickInstr::WhenNotEqual { left, right, .. } => QuickInstr::WhenNotEqual {
+        QuickInstr::JumpIfNotEqual { left, right, .. } => QuickInstr::JumpIfNotEqual {
             left,
             right,
             way,
             past,
         },
-        QuickInstr::WhenLess { left, right, .. } => QuickInstr::WhenLess {
+        QuickInstr::JumpIfLess { left, right, .. } => QuickInstr::JumpIfLess {
             left,
             right,
             way,
             past,
         },
-        QuickInstr::WhenAtMost { left, right, .. } => QuickInstr::WhenAtMost {
+        QuickInstr::JumpIfAtMost { left, right, .. } => QuickInstr::JumpIfAtMost {
             left,
             right,
             way,
             past,
         },
-        QuickInstr::WhenEqualTo { left, constant, .. } => QuickInstr::WhenEqualTo {
+        QuickInstr::JumpIfEqualConst { left, constant, .. } => QuickInstr::JumpIfEqualConst {
             left,
             constant,
             way,
             past,
         },
-        QuickInstr::WhenNotEqualTo { left, constant, .. } => QuickInstr::WhenNotEqualTo {
+        QuickInstr::JumpIfNotEqualConst { left, constant, .. } => QuickInstr::JumpIfNotEqualConst {
             left,
             constant,
             way,
             past,
         },
-        QuickInstr::WhenBelow { left, constant, .. } => QuickInstr::WhenBelow {
+        QuickInstr::JumpIfLessConst { left, constant, .. } => QuickInstr::JumpIfLessConst {
             left,
             constant,
             way,
             past,
         },
-        QuickInstr::WhenUpTo { left, constant, .. } => QuickInstr::WhenUpTo {
+        QuickInstr::JumpIfAtMostConst { left, constant, .. } => QuickInstr::JumpIfAtMostConst {
             left,
             constant,
             way,
             past,
         },
-        QuickInstr::WhenAbove { left, constant, .. } => QuickInstr::WhenAbove {
+        QuickInstr::JumpIfGreaterConst { left, constant, .. } => QuickInstr::JumpIfGreaterConst {
             left,
             constant,
             way,
             past,
         },
-        QuickInstr::WhenFrom { left, constant, .. } => QuickInstr::WhenFrom {
+        QuickInstr::JumpIfAtLeastConst { left, constant, .. } => QuickInstr::JumpIfAtLeastConst {
             left,
             constant,
             way,

@@ -1,7 +1,7 @@
-//! Quick code of programs: drafts made of their slot trees, and the code that a check takes.
+//! Quick code of programs: drafts made of their slot trees, and the code that a check accepts.
 //!
-//! Nothing is promised of a draft: whether it stands for its program is found by the check. So drafts are short and
-//! fast, and of a form that the check finds.
+//! Nothing is promised of a draft: the check finds out whether it stands for its program. So drafts are short and fast, and
+//! of a form that the check finds.
 #![tactic(auto)]
 
 mod aheads;

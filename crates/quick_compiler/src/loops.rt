@@ -6,7 +6,7 @@ use crate::known::Ways;
 use crate::notes::note_turns;
 use crate::ranges::put_within;
 use crate::reading::{Reading, put_read};
-use crate::sheet::{Lead, NO_WAY};
+use crate::sheet::{BranchMark, NO_WAY};
 use crate::spot::Spot;
 use crate::statements::{Exits, put_stmts};
 use crate::stop::Stop;
@@ -18,7 +18,7 @@ use quick_trees::Pace;
 use slot_trees::{Anchor, SlotExpr, SlotStmt};
 use st_types::{BinaryOperator, Kind, is_wide};
 
-/// What stands before the body of a FOR.
+/// The values computed before the body of a FOR.
 #[derive(Clone, Copy)]
 pub struct Turning<'a> {
     pub control: Anchor,
@@ -30,7 +30,7 @@ pub struct Turning<'a> {
 /// A loop that is being written.
 #[derive(Clone, Copy)]
 struct Loop {
-    /// The marks behind the loop, at its head, and at the end of its body.
+    /// The marks after the loop, at its head, and at the end of its body.
     behind: usize,
     head: usize,
     foot: usize,
@@ -88,7 +88,7 @@ impl Loop {
     fn back(self, when: bool) -> Branch {
         Branch {
             when,
-            lead: Lead {
+            lead: BranchMark {
                 mark: self.head,
                 is_turn: !when,
             },
@@ -164,14 +164,14 @@ pub fn put_for(
     let kind = unit.kind_at(control)?;
     let word = unit.own_word_of(control)?;
     let start = put_read(unit, draft, turning.start, spot.inside()?)?;
-    let behind = spot.behind(1)?;
+    let behind = spot.after_temporaries(1)?;
     let read = put_read(unit, draft, turning.limit, behind)?;
     if start.kind != kind || read.kind != kind {
         return Err(Stop::NotCovered);
     }
     let limit = kept(unit, draft, read, behind)?;
-    let pace = put_pace(unit, draft, kind, turning.step, spot.behind(2)?)?;
-    let inside = spot.behind(depth_of(pace))?;
+    let pace = put_pace(unit, draft, kind, turning.step, spot.after_temporaries(2)?)?;
+    let inside = spot.after_temporaries(depth_of(pace))?;
     let count = Count {
         kind,
         control: word,
@@ -184,7 +184,7 @@ pub fn put_for(
         to: count.control,
     })?;
     draft.assign(unit, turning.control)?;
-    let over = Lead {
+    let over = BranchMark {
         mark: turned.behind,
         is_turn: false,
     };
@@ -198,7 +198,7 @@ pub fn put_for(
     draft.sheet.bind(turned.head)?;
     let goes_on = put_stmts(unit, draft, body, inside, turned.exits(exits))?;
     turned.end_body(draft, goes_on)?;
-    let back = Lead {
+    let back = BranchMark {
         mark: turned.head,
         is_turn: true,
     };
@@ -214,7 +214,7 @@ fn depth_of(pace: Pace) -> usize {
     }
 }
 
-/// Writes what a FOR over a type counts by, where that is no literal.
+/// Writes the step of a FOR over a type, unless it is a literal.
 #[cycle(draft)]
 fn put_pace(
     unit: Unit,
@@ -235,14 +235,14 @@ fn put_pace(
                 return Err(Stop::NotCovered);
             }
             let step = kept(unit, draft, read, spot)?;
-            let below = draft.temporary(spot.behind(1)?.depth);
+            let below = draft.temporary(spot.after_temporaries(1)?.depth);
             put_sign(draft, step, below)?;
             Ok(Pace::Words { step, below })
         }
     }
 }
 
-/// Writes whether a step is below 0, where it is not 0.
+/// Writes whether a step is below 0, if it is not 0.
 fn put_sign(draft: &mut Draft, step: u16, below: u16) -> Result<(), Stop> {
     draft.sheet.put(QuickInstr::DivideLint {
         left: step,
@@ -284,8 +284,8 @@ struct Count {
 }
 
 impl Count {
-    /// Writes the branch that is taken where the limit is passed at once.
-    fn put_first_test(self, draft: &mut Draft, over: Lead) -> Result<(), Stop> {
+    /// Writes the branch that is taken if the limit is passed at once.
+    fn put_first_test(self, draft: &mut Draft, over: BranchMark) -> Result<(), Stop> {
         let (left, right) = match self.pace {
             Pace::Literal(step) if step > 0 => (self.limit, self.control),
             Pace::Literal(_) => (self.control, self.limit),
@@ -294,7 +294,7 @@ impl Count {
                 (upper, lower)
             }
         };
-        let test = QuickInstr::WhenLess {
+        let test = QuickInstr::JumpIfLess {
             left,
             right,
             way: NO_WAY,
@@ -303,8 +303,8 @@ impl Count {
         draft.sheet.put_branch(Some(test), over)
     }
 
-    /// Puts the control variable and the limit into temporaries, the first of which is not above the second where the
-    /// loop goes on.
+    /// Puts the control variable and the limit into temporaries, the first of which is not above the second if the loop goes
+    /// on.
     fn put_ordered(self, draft: &mut Draft, below: u16) -> Result<(u16, u16), Stop> {
         let Some(second) = self.depth.checked_add(1) else {
             return Err(Stop::NotCovered);
@@ -326,7 +326,7 @@ impl Count {
         Ok((lower, upper))
     }
 
-    /// The end of a turn by one instruction, where there is one.
+    /// The end of a turn by one instruction, if there is one.
     fn next(self, step: i32) -> Option<QuickInstr> {
         let Count {
             kind,
@@ -402,9 +402,9 @@ impl Count {
         draft: &mut Draft,
         lower: u16,
         upper: u16,
-        back: Lead,
+        back: BranchMark,
     ) -> Result<(), Stop> {
-        let test = QuickInstr::WhenAtMost {
+        let test = QuickInstr::JumpIfAtMost {
             left: lower,
             right: upper,
             way: NO_WAY,
@@ -415,7 +415,7 @@ impl Count {
     }
 
     /// Writes the end of a turn.
-    fn put_next(self, unit: Unit, draft: &mut Draft, back: Lead) -> Result<(), Stop> {
+    fn put_next(self, unit: Unit, draft: &mut Draft, back: BranchMark) -> Result<(), Stop> {
         match self.pace {
             Pace::Literal(step) => {
                 if let Some(instr) = self.next(step) {

@@ -1,4 +1,4 @@
-//! What is noted before statements.
+//! The notes before statements.
 
 use crate::blocks::{Invocation, note_invocation};
 use crate::choosing::{cheap_choice, note_choice};
@@ -11,7 +11,7 @@ use crate::unit::Unit;
 use quick_trees::Noting;
 use slot_trees::{Anchor, Place, SlotExpr, SlotStmt};
 
-/// Notes what an expression looks up.
+/// Notes the looks of an expression.
 #[cycle(note)]
 pub fn note_looks(
     unit: Unit,
@@ -42,7 +42,7 @@ pub fn note_looks(
     Ok(())
 }
 
-/// Notes what the subscripts of a place look up.
+/// Notes the looks of the subscripts of a place.
 #[cycle(note)]
 fn note_subscripts(
     unit: Unit,
@@ -57,7 +57,7 @@ fn note_subscripts(
     Ok(())
 }
 
-/// Notes what a statement surely does before its first branch.
+/// Notes the looks and assignments that a statement surely does before its first branch.
 pub fn note_statement(
     unit: Unit,
     draft: &mut Draft,
@@ -111,7 +111,7 @@ pub fn note_statement(
     Ok(())
 }
 
-/// Notes what each turn of a loop does with a slot, once, before the first turn.
+/// Notes the use of a slot in each turn of a loop, once, before the first turn.
 pub fn note_turns(unit: Unit, draft: &mut Draft, turns: Turns, levels: usize) -> Result<(), Stop> {
     if !unit.is_noted() {
         return Ok(());

@@ -8,7 +8,7 @@ use crate::unit::{Unit, narrow};
 use quick_code::QuickInstr;
 use slot_trees::{Anchor, Place, Subscript};
 
-/// How many elements an array has at most that quick code goes into.
+/// The number of elements up to which quick code goes into an array.
 const MAX_ELEMENTS: usize = 8192;
 
 /// Where an expression is assigned to, or looked up.
@@ -20,7 +20,7 @@ pub enum Variable<'a> {
     Within,
 }
 
-/// What a place is.
+/// The kind of a place.
 pub fn variable_of(place: &Place) -> Variable<'_> {
     match place.subscripts.as_slice() {
         [] => Variable::Whole(place.anchor),
@@ -33,7 +33,7 @@ pub fn variable_of(place: &Place) -> Variable<'_> {
 pub fn read_variable(unit: Unit, draft: &mut Draft, anchor: Anchor) -> Result<Reading, Stop> {
     let slot = unit.slot_of(anchor)?;
     let kind = unit.kind_at(slot)?;
-    let word = unit.seat_at(slot)?.word;
+    let word = unit.function_word_at(slot)?.word;
     draft.look(unit, slot)?;
     Ok(Reading { kind, word })
 }

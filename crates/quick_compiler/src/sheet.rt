@@ -5,16 +5,16 @@ use crate::unit::narrow;
 use quick_code::{QuickInstr, Way};
 use std::alloc::Global;
 
-/// How many instructions quick code has at most: each place is a number of 16 bits.
+/// The greatest number of instructions of quick code: each place is a number of 16 bits.
 const MAX_INSTRUCTIONS: usize = 65535;
 
-/// How many ticks the statements may take that a draft is written of, calls in place.
+/// The greatest number of ticks that the statements of a draft may take, calls in place.
 const MAX_TICKS: usize = 4_000_000;
 
 /// A way that is not known yet.
 pub const NO_WAY: Way = Way { place: 0, ticks: 0 };
 
-/// A point of the code: before which instruction it stands, and how many ticks the statements before it take.
+/// A point of the code: the instruction that follows it, and how many ticks the statements before it take.
 #[derive(Clone, Copy)]
 pub struct Point {
     pub place: usize,
@@ -23,7 +23,7 @@ pub struct Point {
 
 /// Where a branch leads.
 #[derive(Clone, Copy)]
-pub struct Lead {
+pub struct BranchMark {
     /// The number of a mark.
     pub mark: usize,
     /// A turn of a loop takes a tick on the way.
@@ -35,7 +35,7 @@ pub struct Lead {
 pub struct Line {
     pub instr: QuickInstr,
     pub ticks: usize,
-    pub lead: Option<Lead>,
+    pub lead: Option<BranchMark>,
 }
 
 /// Code that is being written, from its beginning on.
@@ -64,7 +64,7 @@ impl Drop for Sheet {
 }
 
 impl Sheet {
-    /// No code, over so many words.
+    /// No code yet, over this number of words.
     pub fn new(alloc: Global, words: usize) -> Sheet {
         Sheet {
             lines: Vec::new(alloc),
@@ -75,7 +75,7 @@ impl Sheet {
         }
     }
 
-    fn write(&mut self, instr: QuickInstr, lead: Option<Lead>) -> Result<(), Stop> {
+    fn write(&mut self, instr: QuickInstr, lead: Option<BranchMark>) -> Result<(), Stop> {
         if self.lines.len() >= MAX_INSTRUCTIONS {
             return Err(Stop::NotCovered);
         }
@@ -92,7 +92,7 @@ impl Sheet {
         self.write(instr, None)
     }
 
-    /// Writes the instruction that there is for something.
+    /// Writes the instruction of an operation, if there is one.
     pub fn put_for(&mut self, instr: Option<QuickInstr>) -> Result<(), Stop> {
         match instr {
             Some(instr) => self.write(instr, None),
@@ -100,8 +100,8 @@ impl Sheet {
         }
     }
 
-    /// Writes the branch that there is for something, which leads to a mark.
-    pub fn put_branch(&mut self, instr: Option<QuickInstr>, lead: Lead) -> Result<(), Stop> {
+    /// Writes the branch of an operation, if there is one, which leads to a mark.
+    pub fn put_branch(&mut self, instr: Option<QuickInstr>, lead: BranchMark) -> Result<(), Stop> {
         match instr {
             Some(instr) => self.write(instr, Some(lead)),
             None => Err(Stop::NotCovered),
@@ -110,7 +110,7 @@ impl Sheet {
 
     /// Goes on at a mark.
     pub fn jump(&mut self, mark: usize) -> Result<(), Stop> {
-        let lead = Lead {
+        let lead = BranchMark {
             mark,
             is_turn: false,
         };
@@ -156,7 +156,7 @@ impl Sheet {
         narrow(self.table.len())
     }
 
-    /// There are at least so many words.
+    /// Makes the number of words at least this one.
     pub fn need_words(&mut self, words: usize) {
         if self.words < words {
             self.words = words;

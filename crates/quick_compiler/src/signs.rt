@@ -36,7 +36,7 @@ pub fn put_unary(
     Ok(from.kind)
 }
 
-/// Takes a value from 0.
+/// Subtracts a value from 0.
 fn put_negated(unit: Unit, draft: &mut Draft, from: Reading, to: u16) -> Result<(), Stop> {
     let nought = draft.constant(unit, number_of(from.kind, 0)?)?;
     let operator = BinaryOperator::Subtract;
@@ -45,7 +45,7 @@ fn put_negated(unit: Unit, draft: &mut Draft, from: Reading, to: u16) -> Result<
         .put_for(instr_for(operator, from.kind, nought, from.word, to))
 }
 
-/// Turns each bit of a value.
+/// Flips each bit of a value.
 fn put_turned(unit: Unit, draft: &mut Draft, from: Reading, to: u16) -> Result<(), Stop> {
     let operator = BinaryOperator::Xor;
     let greatest = number_of(from.kind, from.kind.greatest())?;

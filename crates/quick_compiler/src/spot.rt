@@ -16,11 +16,11 @@ impl Spot {
     pub fn inside(self) -> Result<Spot, Stop>
         ensures { IfOk result (λ s. s.levels < self.levels) }
     {
-        self.behind(0)
+        self.after_temporaries(0)
     }
 
-    /// The same behind so many temporaries.
-    pub fn behind(self, count: usize) -> Result<Spot, Stop>
+    /// The same after `count` temporaries.
+    pub fn after_temporaries(self, count: usize) -> Result<Spot, Stop>
         ensures { IfOk result (λ s. s.levels < self.levels) }
     {
         let Some(depth) = (self.depth as usize).checked_add(count) else {

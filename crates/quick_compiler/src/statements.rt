@@ -142,7 +142,7 @@ fn put_assignment(
         }
         Variable::Element(anchor, subscript) => {
             let from = put_read(unit, draft, value, spot.inside()?)?;
-            let index = put_subscript(unit, draft, subscript, spot.behind(1)?)?;
+            let index = put_subscript(unit, draft, subscript, spot.after_temporaries(1)?)?;
             if from.kind != unit.kind_at(unit.slot_of(anchor)?)? {
                 return Err(Stop::NotCovered);
             }
@@ -151,7 +151,7 @@ fn put_assignment(
         Variable::Within => {
             let from = put_read(unit, draft, value, spot.inside()?)?;
             let access = Access::Store(from.word);
-            let kind = put_within(unit, draft, place, spot.behind(1)?, access)?;
+            let kind = put_within(unit, draft, place, spot.after_temporaries(1)?, access)?;
             if kind != from.kind {
                 return Err(Stop::NotCovered);
             }
@@ -212,7 +212,7 @@ fn put_if(
     draft.keep_here(landing)
 }
 
-/// The same of statements that are one way of several. The last one goes on to where they end.
+/// The same of statements that are one way of several. The last one goes on to their common end.
 #[cycle(draft)]
 fn put_arm(
     unit: Unit,
@@ -285,7 +285,7 @@ fn put_case(
     draft.keep_here(landing)
 }
 
-/// The marks of the arms of a CASE that some number leads to, and of what stands behind them for all others.
+/// The marks of the arms of a CASE that some number leads to, and of the statements for all other numbers.
 struct Marks {
     arms: Vec<Option<usize>>,
     /// The last arm that some number leads to.

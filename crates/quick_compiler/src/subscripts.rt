@@ -1,4 +1,4 @@
-//! Subscripts: the word that an instruction takes, and what it adds to that.
+//! Subscripts: the word that an instruction takes, and its addend to that.
 
 use crate::draft::Draft;
 use crate::reading::put_read;
@@ -9,7 +9,7 @@ use quick_checks::{shift_for, summed};
 use slot_trees::Subscript;
 use st_types::is_wide;
 
-/// A subscript as an instruction takes it: a word, and what is added to that, so that the first element's is 0.
+/// A subscript as an instruction takes it: a word, and the addend to that, so that the first element's is 0.
 #[derive(Clone, Copy)]
 pub struct Indexed {
     pub word: u16,

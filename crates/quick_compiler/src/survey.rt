@@ -1,4 +1,4 @@
-//! How the statements of a loop touch slots, so that what each turn does is noted once, before the first one.
+//! How the statements of a loop touch slots, so that the use of a slot in each turn is noted once, before the first one.
 
 use crate::block_surveys::survey_invocation;
 use crate::blocks::Invocation;
@@ -13,7 +13,7 @@ use std::alloc::{AllocError, Global};
 /// How many statements and expressions are looked at in all. Those in loops in loops are looked at for each.
 const MAX_LOOKED_AT: usize = 8_000_000;
 
-/// What is found of the statements up to a point.
+/// The touches of the statements up to a point.
 pub struct Survey {
     alloc: Global,
     known: Known<Touch>,
@@ -37,7 +37,7 @@ impl Drop for Survey {
 }
 
 impl Survey {
-    /// Nothing is found of so many slots.
+    /// No touches yet, of `slots` slots.
     pub fn new(alloc: Global, slots: usize) -> Result<Survey, AllocError> {
         Ok(Survey {
             alloc,
@@ -101,7 +101,7 @@ impl Survey {
         self.known.add(&mut self.outs[self.back], true)
     }
 
-    /// Begins the body of a block, behind which RETURN leads: where it led before.
+    /// Begins the body of a block, to whose end RETURN leads; gives where it led before.
     pub fn begin_block(&mut self) -> Result<usize, Stop> {
         let around = self.back;
         self.back = self.outs.len();
@@ -126,7 +126,7 @@ impl Survey {
     }
 }
 
-/// Turns of a loop: statements, and the condition behind them.
+/// Turns of a loop: statements, and the condition after them.
 #[derive(Clone, Copy)]
 pub struct Turns<'a> {
     pub body: &'a [SlotStmt],

@@ -3,7 +3,7 @@
 use crate::known::State;
 use quick_trees::Noting;
 
-/// How statements touch a slot: what there is among the ways through them.
+/// How statements touch a slot, over all ways through them.
 #[derive(Clone, Copy, PartialEq, Eq)]
 pub struct Touch {
     /// A way neither looks it up nor assigns it.
@@ -25,7 +25,7 @@ impl Touch {
         is_assigned: false,
     };
 
-    /// With a look behind it.
+    /// With a look after it.
     pub fn then_look(self) -> Touch {
         Touch {
             is_untouched: false,
@@ -34,7 +34,7 @@ impl Touch {
         }
     }
 
-    /// With an assignment behind it.
+    /// With an assignment after it.
     pub fn then_assignment(self) -> Touch {
         Touch {
             is_untouched: false,
@@ -73,10 +73,10 @@ impl State for Touch {
 
 impl State for Noting {
     fn joined(self, other: Noting) -> Option<Noting> {
-        if self.tells(other) {
+        if self.implies(other) {
             return Some(other);
         }
-        if other.tells(self) {
+        if other.implies(self) {
             return Some(self);
         }
         None

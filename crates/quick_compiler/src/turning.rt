@@ -1,4 +1,4 @@
-//! The code that moves bits up, and that turns them.
+//! The code that moves bits up, and that rotates them.
 
 use crate::draft::Draft;
 use crate::functions::width_of;
@@ -17,7 +17,7 @@ fn power_of(places: u8) -> Result<u64, Stop> {
     Ok(1u64 << places)
 }
 
-/// Writes the code that moves bits up: what leaves the width is masked out, and the rest is multiplied.
+/// Writes the code that moves bits up: bits that leave the width are masked out, and the rest is multiplied.
 fn put_moved_up(
     unit: Unit,
     draft: &mut Draft,
@@ -64,8 +64,8 @@ pub fn put_shifted_up(
     Ok(value.kind)
 }
 
-/// Writes the code that turns bits up by a number of places: those that are moved up, those that are moved down, and
-/// the sum.
+/// Writes the code that rotates bits up by a number of places: those that are moved up, those that are moved down, and the
+/// sum.
 fn put_sum(
     unit: Unit,
     draft: &mut Draft,
@@ -93,7 +93,7 @@ fn put_sum(
     put_within(unit, draft, value.kind, depth, to)
 }
 
-/// Writes the code that turns bits by a constant number of places, up or down.
+/// Writes the code that rotates bits by a constant number of places, up or down.
 pub fn put_turned(
     unit: Unit,
     draft: &mut Draft,

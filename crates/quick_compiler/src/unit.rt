@@ -1,4 +1,4 @@
-//! Units of a program, and where their values stand.
+//! Units of a program, and where their values are.
 
 use crate::stop::Stop;
 use crate::windows::Window;
@@ -7,7 +7,7 @@ use st_types::Kind;
 
 /// The word of a function's value, which the function may assign or not.
 #[derive(Clone, Copy)]
-pub struct Seat {
+pub struct FunctionWord {
     pub word: u16,
     pub is_own: bool,
 }
@@ -17,7 +17,7 @@ pub enum Values {
     /// Those of all slots, among which the unit's own variables begin at a base.
     Whole(usize),
     /// Those of a function, with their types.
-    Called(Vec<Kind>, Vec<Seat>),
+    Called(Vec<Kind>, Vec<FunctionWord>),
 }
 
 impl Drop for Values {
@@ -28,7 +28,7 @@ impl Drop for Values {
     }
 }
 
-/// A unit, with what its program has.
+/// A unit, with the parts that its whole program shares.
 #[derive(Clone, Copy)]
 pub struct Unit<'a> {
     pub library: &'a SlotLibrary,
@@ -42,7 +42,7 @@ pub struct Unit<'a> {
 }
 
 impl<'a> Unit<'a> {
-    /// Whether notes tell of the values.
+    /// Whether the values have notes.
     pub fn is_noted(self) -> bool {
         match self.values {
             Values::Whole(_) => true,
@@ -75,9 +75,9 @@ impl<'a> Unit<'a> {
     }
 
     /// The seat of a value.
-    pub fn seat_at(self, slot: usize) -> Result<Seat, Stop> {
+    pub fn function_word_at(self, slot: usize) -> Result<FunctionWord, Stop> {
         match self.values {
-            Values::Whole(_) => Ok(Seat {
+            Values::Whole(_) => Ok(FunctionWord {
                 word: self.window.word_of(slot)?,
                 is_own: true,
             }),
@@ -90,7 +90,7 @@ impl<'a> Unit<'a> {
 
     /// The word of a value that may be assigned.
     pub fn own_word_of(self, slot: usize) -> Result<u16, Stop> {
-        let seat = self.seat_at(slot)?;
+        let seat = self.function_word_at(slot)?;
         if seat.is_own {
             Ok(seat.word)
         } else {
@@ -101,7 +101,7 @@ impl<'a> Unit<'a> {
     /// The word of the value that an anchor means.
     pub fn word_of(self, anchor: Anchor) -> Result<u16, Stop> {
         let slot = self.slot_of(anchor)?;
-        Ok(self.seat_at(slot)?.word)
+        Ok(self.function_word_at(slot)?.word)
     }
 
     /// Whether a statement of the unit may assign a word.

@@ -4,12 +4,12 @@ use crate::blocks::{Invocation, member_at};
 use crate::spot::below;
 use crate::stop::Stop;
 use crate::unit::narrow;
-use quick_code::member_count;
 use slot_trees::{
     Anchor, BlockCode, Place, SlotArgument, SlotArm, SlotCaseArm, SlotExpr, SlotLibrary, SlotStmt,
     Subscript,
 };
 use std::alloc::{AllocError, Global};
+use symbols::member_count;
 
 /// How many statements and expressions are looked at in all, those of a block for each call.
 const MAX_LOOKED_AT: usize = 8_000_000;
@@ -50,7 +50,7 @@ impl Window {
     }
 }
 
-/// What is named so far.
+/// The slots that are named so far.
 struct Names {
     /// How many slots are named from each one on.
     spans: Vec<usize>,
@@ -64,7 +64,7 @@ impl Drop for Names {
 }
 
 impl Names {
-    /// Nothing of so many slots.
+    /// None of `count` slots.
     fn new(alloc: Global, count: usize) -> Result<Names, AllocError> {
         Ok(Names {
             spans: vec![in alloc; 0; count]?,
@@ -82,7 +82,7 @@ impl Names {
         }
     }
 
-    /// So many slots are named.
+    /// The slots from `first` on, `count` of them, are named.
     fn name(&mut self, first: usize, count: usize) -> Result<(), Stop> {
         if first >= self.spans.len() {
             return Err(Stop::NotCovered);
@@ -109,7 +109,7 @@ impl Names {
     }
 }
 
-/// The slots that a program names whose own variables begin at a base, among so many.
+/// The slots, among `count`, that a program names whose own variables begin at a base.
 pub fn window_of(
     alloc: Global,
     library: &SlotLibrary,
@@ -131,7 +131,7 @@ fn slot_of(base: usize, anchor: Anchor) -> Result<usize, Stop> {
     }
 }
 
-/// How many slots lie from the first to the last value to which subscripts may lead.
+/// The number of slots from the first to the last value to which subscripts may lead.
 fn span_of(subscripts: &[Subscript]) -> usize {
     let mut behind: usize = 0;
     for subscript in subscripts {
@@ -243,7 +243,7 @@ fn name_case_arms(
     Ok(())
 }
 
-/// The members and the variables of a call, and what the block names on the instance.
+/// The members and the variables of a call, and the slots that the block names on the instance.
 #[cycle(name)]
 fn name_invocation(
     library: &SlotLibrary,
@@ -311,7 +311,7 @@ fn name_expr(
     Ok(())
 }
 
-/// A variable, or all values to which its subscripts may lead, and what these name.
+/// A variable, or all values to which its subscripts may lead, and the slots that these name.
 #[cycle(named_expression)]
 fn name_place(names: &mut Names, base: usize, place: &Place, levels: usize) -> Result<(), Stop> {
     let inner = below(levels)?;

@@ -9,14 +9,14 @@ use quick_code::QuickInstr;
 use slot_trees::{Place, Subscript};
 use st_types::Kind;
 
-/// What is done with a value of an array in an array: it is loaded to a word, or assigned from one.
+/// The use of a value of an array in an array: it is loaded to a word, or assigned from one.
 #[derive(Clone, Copy)]
 pub enum Access {
     Load(u16),
     Store(u16),
 }
 
-/// Writes the code that goes along subscripts to a value, and what is done with it there: its type.
+/// Writes the code that goes along subscripts to a value, and its use there: its type.
 #[cycle(draft)]
 pub fn put_within(
     unit: Unit,
@@ -36,7 +36,7 @@ pub fn put_within(
         let index = if number == 0 {
             put_subscript(unit, draft, subscript, spot.inside()?)?
         } else {
-            put_subscript(unit, draft, subscript, spot.behind(1)?)?
+            put_subscript(unit, draft, subscript, spot.after_temporaries(1)?)?
         };
         let step = if number == 0 {
             Step::First
@@ -58,7 +58,7 @@ enum Step {
     Last,
 }
 
-/// An array: the temporary for the offset of an element, its first word, and what is done with the value.
+/// An array: the temporary for the offset of an element, its first word, and the use of the value.
 #[derive(Clone, Copy)]
 struct Array {
     offset: u16,
@@ -90,7 +90,7 @@ impl Array {
             return Err(Stop::NotCovered);
         };
         Ok(match (step, access) {
-            (Step::Last, Access::Load(to)) => QuickInstr::LoadBehind {
+            (Step::Last, Access::Load(to)) => QuickInstr::LoadNested {
                 offset,
                 subscript: word,
                 shift,
@@ -99,7 +99,7 @@ impl Array {
                 count,
                 stride,
             },
-            (Step::Last, Access::Store(from)) => QuickInstr::StoreBehind {
+            (Step::Last, Access::Store(from)) => QuickInstr::StoreNested {
                 offset,
                 subscript: word,
                 shift,
@@ -108,7 +108,7 @@ impl Array {
                 count,
                 stride,
             },
-            _ => QuickInstr::LocateBehind {
+            _ => QuickInstr::LocateNested {
                 offset,
                 subscript: word,
                 shift,

@@ -15,11 +15,11 @@ use Rattle.quick_code.specs.QuickRuns.{Left}
 use Rattle.quick_code.specs.QuickSteps.{Memory, look, with_word}
 use Rattle.slot_trees.specs.SlotTrees.{SlotFunction}
 use Rattle.slot_trees.specs.SlotExecution.{Slots, stored_at, stored_over}
-use Rattle.slot_trees.specs.SlotRuns.{slots_begun}
+use Rattle.slot_trees.specs.SlotRuns.{bound_input_slots}
 use Rattle.quick_trees.specs.Calls.{AreBegun, AreInputs, IsBegun, IsInput, kinds_in}
 use Rattle.quick_trees.specs.Points.{Point}
-use Rattle.quick_trees.specs.QuickMemory.{Ends, Frame, first_temporary}
-use Rattle.quick_trees.specs.Sites.{IsValueAt, Seat}
+use Rattle.quick_trees.specs.QuickMemory.{EndsWellAt, Frame, first_temporary}
+use Rattle.quick_trees.specs.UnitValues.{IsValueAt, FunctionWord}
 use Rattle.quick_trees.proofs.Lists.{map_there, set_elsewhere, set_here, set_long, some_is, there_within, within_there}
 use Rattle.quick_trees.proofs.Stepping.{stepped}
 use Rattle.quick_trees.proofs.Memories.{IsNoted, Keeps, keeps_all, keeps_below, keeps_both, keeps_word}
@@ -37,7 +37,7 @@ record MayBegin (vs : Slots) (ks : List ℕ) (xs : List Datum) : Type 0 where
 -- The slots as a call begins.
 pub record HasSlots (vs : Slots) (ks : List ℕ) (xs : List Datum) : Type 0 where
   pub slots : Slots
-  pub gives : slots_begun vs ks xs ≡ Ok slots
+  pub gives : bound_input_slots vs ks xs ≡ Ok slots
   pub long : length slots ≡ length vs
   pub input : (i k : ℕ) (x : Datum) → slice_get ks i ≡ Some k → slice_get xs i ≡ Some x → slice_get slots k ≡ Some x
   pub rest : (k : ℕ) → ((i : ℕ) → slice_get ks i ≡ Some k → ⊥) → slice_get slots k ≡ slice_get vs k
@@ -72,7 +72,7 @@ has_slots vs (k ∷ ks) (x ∷ xs) may =
     }) in
     record {
       slots = tail.slots;
-      gives = ap (λ r. proceed r (λ us. slots_begun us ks xs)) (stores vs k first.0 x first.1.0 first.1.1) ∙ tail.gives;
+      gives = ap (λ r. proceed r (λ us. bound_input_slots us ks xs)) (stores vs k first.0 x first.1.0 first.1.1) ∙ tail.gives;
       long = tail.long ∙ set_long vs k x;
       input = λ i. elim i as (λ i. (j : ℕ) (y : Datum) → slice_get (k ∷ ks) i ≡ Some j → slice_get (x ∷ xs) i ≡ Some y
           → slice_get tail.slots j ≡ Some y) [
@@ -121,17 +121,17 @@ module _ (f : Frame) (x : Left) (g : SlotFunction) (kinds : List Kind) (words : 
   abbrev slots : Slots
   slots = begun_slots.slots
 
-  -- A value of the function stands at its seat.
-  pub record IsSeated (i : ℕ) (s : Seat) (n : Memory) : Type 0 where
+  -- A value of the function is at its seat.
+  pub record IsSeated (i : ℕ) (s : FunctionWord) (n : Memory) : Type 0 where
     pub where_is : (s ≡ record { word = d + i; is_own = true }) ⊎ ((s.is_own ≡ false) × (s.word < d))
     pub value : (t : Kind) → slice_get (kinds_in g) i ≡ Some t → IsValueAt n slots t i s.word
 
-  seat_low : (i : ℕ) (s : Seat) → (s ≡ record { word = d + i; is_own = true }) ⊎ ((s.is_own ≡ false) × (s.word < d))
+  seat_low : (i : ℕ) (s : FunctionWord) → (s ≡ record { word = d + i; is_own = true }) ⊎ ((s.is_own ≡ false) × (s.word < d))
       → s.word < d + suc i
-  seat_low i s (inl is) = (let at = ap (λ (s : Seat). s.word) is in omega arith)
+  seat_low i s (inl is) = (let at = ap (λ (s : FunctionWord). s.word) is in omega arith)
   seat_low i s (inr is) = (let lt = is.1 in omega arith)
 
-  still_seated : (i : ℕ) (s : Seat) (n n' : Memory) → Keeps (d + suc i) n n' → IsSeated i s n → IsSeated i s n'
+  still_seated : (i : ℕ) (s : FunctionWord) (n n' : Memory) → Keeps (d + suc i) n n' → IsSeated i s n → IsSeated i s n'
   still_seated i s n n' keeps is = record {
     where_is = is.where_is;
     value = λ t at. (let v = is.value t at in
@@ -151,23 +151,23 @@ module _ (f : Frame) (x : Left) (g : SlotFunction) (kinds : List Kind) (words : 
       )
 
   -- One value was begun.
-  record HasBegun (k : ℕ) (s : Seat) (p q : Point) (n : Memory) (b : ℕ) : Type 0 where
+  record HasBegun (k : ℕ) (s : FunctionWord) (p q : Point) (n : Memory) (b : ℕ) : Type 0 where
     memory : Memory
     keeps : Keeps (d + k) n memory
     noted : IsNoted f q.noted marks memory
     ahead : p.ahead ≡ q.ahead
     seated : IsSeated k s memory
-    ends : Ends f q.place memory b x
+    ends : EndsWellAt f q.place memory b x
 
   -- a word of the function's own is assigned
-  own_begun : (k : ℕ) (s : Seat) (p q : Point) (n : Memory) (b : ℕ) (w : ℤ)
+  own_begun : (k : ℕ) (s : FunctionWord) (p q : Point) (n : Memory) (b : ℕ) (w : ℤ)
       → s ≡ record { word = d + k; is_own = true } → q ≡ next p
       → IsNoted f p.noted marks n → k < length g.fresh
       → ((t : Kind) → slice_get (kinds_in g) k ≡ Some t
       → (slice_get slots k ≡ Some (datum_at t w)) × IsHeld (datum_at t w))
-      → Ends f (suc p.place) (with_word n s.word w) b x → HasBegun k s p q n b
+      → EndsWellAt f (suc p.place) (with_word n s.word w) b x → HasBegun k s p q n b
   own_begun k s p q n b w own next noted few value runs =
-      let at : s.word ≡ d + k = ap (λ (s : Seat). s.word) own in
+      let at : s.word ≡ d + k = ap (λ (s : FunctionWord). s.word) own in
       let many = noted.room.words in
       let here : look (with_word n s.word w) s.word ≡ w = word_here n s.word w (omega arith) in
       subst (λ q. HasBegun k s p q n b) (sym next) (record {
@@ -185,8 +185,8 @@ module _ (f : Frame) (x : Left) (g : SlotFunction) (kinds : List Kind) (words : 
         ends = runs;
       })
 
-  begun_one : (k : ℕ) (s : Seat) (p q : Point) (n : Memory) (b : ℕ) → IsBegun f g words d k s p q → Keeps d m n
-      → IsNoted f p.noted marks n → k < length g.fresh → Ends f p.place n b x → HasBegun k s p q n b
+  begun_one : (k : ℕ) (s : FunctionWord) (p q : Point) (n : Memory) (b : ℕ) → IsBegun f g words d k s p q → Keeps d m n
+      → IsNoted f p.noted marks n → k < length g.fresh → EndsWellAt f p.place n b x → HasBegun k s p q n b
   begun_one k s p q n b (inl is) keeps noted few runs =
       let low = given.low is.1.0.index s.word is.1.0.argument in
       let same = keeps_word d m n s.word keeps low in
@@ -219,16 +219,16 @@ module _ (f : Frame) (x : Left) (g : SlotFunction) (kinds : List Kind) (words : 
       (stepped f p.place x n b (Set w s.word) runs at)
 
   -- All values were begun.
-  pub record HaveBegun (k : ℕ) (seats : List Seat) (p q : Point) (n : Memory) (b : ℕ) : Type 0 where
+  pub record HaveBegun (k : ℕ) (seats : List FunctionWord) (p q : Point) (n : Memory) (b : ℕ) : Type 0 where
     pub memory : Memory
     pub keeps : Keeps (d + k) n memory
     pub noted : IsNoted f q.noted marks memory
     pub ahead : p.ahead ≡ q.ahead
-    pub seated : (j i : ℕ) (s : Seat) → slice_get seats j ≡ Some s → i ≡ k + j → IsSeated i s memory
-    pub ends : Ends f q.place memory b x
+    pub seated : (j i : ℕ) (s : FunctionWord) → slice_get seats j ≡ Some s → i ≡ k + j → IsSeated i s memory
+    pub ends : EndsWellAt f q.place memory b x
 
-  pub have_begun : (k : ℕ) (seats : List Seat) (p q : Point) (n : Memory) (b : ℕ) → AreBegun f g words d k seats p q
-      → Keeps d m n → IsNoted f p.noted marks n → k + length seats ≤ length g.fresh → Ends f p.place n b x
+  pub have_begun : (k : ℕ) (seats : List FunctionWord) (p q : Point) (n : Memory) (b : ℕ) → AreBegun f g words d k seats p q
+      → Keeps d m n → IsNoted f p.noted marks n → k + length seats ≤ length g.fresh → EndsWellAt f p.place n b x
       → HaveBegun k seats p q n b
   have_begun k [] p q n b are keeps noted few runs =
       subst (λ q. HaveBegun k [] p q n b) are (record {
@@ -248,7 +248,7 @@ module _ (f : Frame) (x : Left) (g : SlotFunction) (kinds : List Kind) (words : 
         keeps = keeps_both (d + k) (d + suc k) n one.memory rest.memory (omega arith) one.keeps rest.keeps;
         noted = rest.noted;
         ahead = one.ahead ∙ rest.ahead;
-        seated = λ j. elim j as (λ j. (i : ℕ) (u : Seat) → slice_get (s ∷ seats) j ≡ Some u → i ≡ k + j
+        seated = λ j. elim j as (λ j. (i : ℕ) (u : FunctionWord) → slice_get (s ∷ seats) j ≡ Some u → i ≡ k + j
             → IsSeated i u rest.memory) [
               | zero ↦ λ i u at is. (let here : k ≡ i = omega arith in
                   subst (λ i. IsSeated i u rest.memory) here (subst (λ u. IsSeated k u rest.memory) (some_is at)

@@ -5,7 +5,7 @@ use Rattle.std.specs.Prelude.{◌⊎◌, slice_get}
 use Rattle.st_types.specs.declared.kind.Kind.{Kind}
 use Rattle.st_types.specs.Values.{Datum, IsHeld}
 use Rattle.st_types.specs.Words.{datum_at}
-use Rattle.st_meaning.specs.Failures.{StandIns, ill_typed, or_failure}
+use Rattle.st_meaning.specs.Failures.{StuckFaults, ill_typed, or_failure}
 use Rattle.st_meaning.specs.Loops.{exits, goes_on, returns}
 use Rattle.st_meaning.specs.Ticks.{attempt, follow, give}
 use Rattle.machine_code.specs.declared.mark.Mark.{Mark}
@@ -20,10 +20,10 @@ use Rattle.machine_code.specs.MarkedRuns.{marked_block, marked_function, marked_
 use Rattle.machine_code.specs.MarkedRuns.{unmarked_values}
 use Rattle.quick_trees.specs.Calls.{IsBlock, IsFunction, kinds_in, quick_units, quick_units_over}
 use Rattle.quick_trees.specs.Points.{Point}
-use Rattle.quick_trees.specs.QuickMemory.{Ends, Frame, first_temporary}
-use Rattle.quick_trees.specs.Sites.{HasOwnWord, Seat, called, whole}
-use Rattle.quick_trees.specs.Standing.{Exits, QuickUnits}
-use Rattle.quick_trees.proofs.Lists.{map_long, some_is, there_within}
+use Rattle.quick_trees.specs.QuickMemory.{EndsWellAt, Frame, first_temporary}
+use Rattle.quick_trees.specs.UnitValues.{HasOwnWord, FunctionWord, called, whole}
+use Rattle.quick_trees.specs.TreeCode.{Exits, QuickUnits}
+use Rattle.quick_trees.proofs.Lists.{some_is, there_within}
 use Rattle.quick_trees.proofs.Stepping.{stepped}
 use Rattle.quick_trees.proofs.Memories.{Holds, IsNoted, IsSite, Spares, deeper, keeps_all, whole_site}
 use Rattle.quick_trees.proofs.Beginnings.{HaveBegun, IsSeated, begun_slots, have_begun}
@@ -34,8 +34,9 @@ use Rattle.quick_trees.proofs.Reading.{AreHeld}
 use Rattle.quick_trees.proofs.Running.{HasEnded, joined}
 use Rattle.quick_trees.proofs.Statements.{does_stmts}
 use Rattle.quick_trees.proofs.StandardBlocks.{steps}
+use Rattle.st_types.proofs.ListLemmas.{length_map}
 
--- EXIT and RETURN lead behind the body of a function
+-- EXIT and RETURN lead to the end of the body of a function
 abbrev pub at_last : Point → Exits
 at_last last = record { out = last; back = last }
 
@@ -46,7 +47,7 @@ pub record IsOver (s : Setting) (d : ℕ) (last : Point) (m : Memory) (end : Mar
   pub ticks : n ≡ left + last.ahead
   pub spares : Spares s.frame s.site d m memory
   pub is : AreHeld s last memory (state_of end)
-  pub ends : Ends s.frame last.place memory left s.finish
+  pub ends : EndsWellAt s.frame last.place memory left s.finish
 
 pub is_over : (s : Setting) (d : ℕ) (last : Point) (m : Memory) (end : MarkedEnd) (n : ℕ)
     → HasEnded s d (at_last last) last m end n → IsOver s d last m end n
@@ -57,19 +58,19 @@ is_over s d last m (exits t) n h =
 is_over s d last m (returns t) n h =
     record { memory = h.memory; left = h.left; ticks = h.ticks; spares = h.spares; is = h.is; ends = h.ends }
 
-module _ (f : Frame) (x : Left) (units : QuickUnits) (means : MarkedUnits) (stand_ins : StandIns)
+module _ (f : Frame) (x : Left) (units : QuickUnits) (means : MarkedUnits) (stuck_faults : StuckFaults)
     (does : DoesCalls f x units means) (does_blocks : DoesBlocks f x units means) (g : SlotFunction)
     (kinds : List Kind) (words : List ℕ) (d : ℕ) (t : Kind) (to : ℕ) (p q : Point)
     (r : IsFunction f units g kinds words d t to p q) (marks : List Mark) (m : Memory) (b : ℕ) (values : List Datum)
     (deep : first_temporary f ≤ d) (noted : IsNoted f p.noted marks m) (given : AreGiven m d kinds words values)
-    (runs : Ends f p.place m b x) where
+    (runs : EndsWellAt f p.place m b x) where
   abbrev inside : Setting
   inside = record {
     frame = f;
     site = called (kinds_in g) r.seats;
     units = units;
     means = means;
-    stand_ins = stand_ins;
+    stuck_faults = stuck_faults;
     around = record { values = []; marks = marks };
     finish = x;
     does = does;
@@ -81,30 +82,30 @@ module _ (f : Frame) (x : Left) (units : QuickUnits) (means : MarkedUnits) (stan
       have_begun f x g kinds words d values m marks r.inputs given deep r.room zero r.seats p r.begun m b r.begins
       (keeps_all d m) noted (let all = r.all in omega arith) runs
 
-  seat_is : (k : ℕ) (s : Seat) → slice_get r.seats k ≡ Some s
+  seat_is : (k : ℕ) (s : FunctionWord) → slice_get r.seats k ≡ Some s
       → IsSeated f x g kinds words d values m marks r.inputs given deep r.room k s begun.memory
   seat_is k s at = begun.seated k k s at (omega arith)
 
-  seat_below : (k : ℕ) (s : Seat) → k < length g.fresh
+  seat_below : (k : ℕ) (s : FunctionWord) → k < length g.fresh
       → (s ≡ record { word = d + k; is_own = true }) ⊎ ((s.is_own ≡ false) × (s.word < d)) → s.word < d + length g.fresh
-  seat_below k s lt (inl is) = (let at = ap (λ (s : Seat). s.word) is in omega arith)
+  seat_below k s lt (inl is) = (let at = ap (λ (s : FunctionWord). s.word) is in omega arith)
   seat_below k s lt (inr is) = (let low = is.1 in omega arith)
 
-  within : (k : ℕ) (s : Seat) → slice_get r.seats k ≡ Some s → k < length g.fresh
+  within : (k : ℕ) (s : FunctionWord) → slice_get r.seats k ≡ Some s → k < length g.fresh
   within k s at = (let lt = there_within r.seats k s at in let all = r.all in omega arith)
 
-  own_at : (k : ℕ) (s : Seat) → s.is_own ≡ true
+  own_at : (k : ℕ) (s : FunctionWord) → s.is_own ≡ true
       → (s ≡ record { word = d + k; is_own = true }) ⊎ ((s.is_own ≡ false) × (s.word < d)) → s.word ≡ d + k
-  own_at k s own (inl is) = ap (λ (s : Seat). s.word) is
+  own_at k s own (inl is) = ap (λ (s : FunctionWord). s.word) is
   own_at k s own (inr is) = absurd (let no = is.0 in cc)
 
   own_word : (k w : ℕ) → HasOwnWord f.window (called (kinds_in g) r.seats) k w → w ≡ d + k
   own_word k w own = own_at k (record { word = w; is_own = true }) refl (seat_is k
       (record { word = w; is_own = true }) own).where_is
 
-  only_own : (k j w : ℕ) (s : Seat) → w ≡ d + k → w ≡ s.word
+  only_own : (k j w : ℕ) (s : FunctionWord) → w ≡ d + k → w ≡ s.word
       → (s ≡ record { word = d + j; is_own = true }) ⊎ ((s.is_own ≡ false) × (s.word < d)) → j ≡ k
-  only_own k j w s own has (inl is) = (let at = ap (λ (s : Seat). s.word) is in omega arith)
+  only_own k j w s own has (inl is) = (let at = ap (λ (s : FunctionWord). s.word) is in omega arith)
   only_own k j w s own has (inr is) = absurd (let low = is.1 in omega arith)
 
   site : IsSite f (called (kinds_in g) r.seats) (d + length g.fresh)
@@ -114,7 +115,7 @@ module _ (f : Frame) (x : Left) (units : QuickUnits) (means : MarkedUnits) (stan
         (seat_below k has.0 (within k has.0 has.1.0) (seat_is k has.0 has.1.0).where_is);
     has = λ k w own. (record { word = w; is_own = true }, (own, refl));
     one = λ k w u has had.
-        has.1.1 ∙ ap (λ (s : Seat). s.word) (some_is (sym has.1.0 ∙ had.1.0)) ∙ sym had.1.1;
+        has.1.1 ∙ ap (λ (s : FunctionWord). s.word) (some_is (sym has.1.0 ∙ had.1.0)) ∙ sym had.1.1;
     apart = λ k j w own has.
         only_own k j w has.0 (own_word k w own) has.1.1 (seat_is j has.0 has.1.0).where_is;
     own = λ k w t at own. (let is = own_word k w own in
@@ -132,7 +133,7 @@ module _ (f : Frame) (x : Left) (units : QuickUnits) (means : MarkedUnits) (stan
     noted = begun.noted;
     stays = tt;
     long = (begun_slots f x g kinds words d values m marks r.inputs given deep r.room).long
-        ∙ sym (map_long (λ (v : Datum). v.kind) g.fresh);
+        ∙ sym (length_map (λ (v : Datum). v.kind) g.fresh);
     values = λ k w kind at has. (let v = (seat_is k has.0 has.1.0).value kind at in record {
       is = v.is ∙ ap (λ w. Some (datum_at kind (look begun.memory w))) (sym has.1.1);
       held = subst (λ w. IsHeld (datum_at kind (look begun.memory w)))
@@ -140,7 +141,7 @@ module _ (f : Frame) (x : Left) (units : QuickUnits) (means : MarkedUnits) (stan
     });
   }
 
-  called_one : HasCalled f x (marked_function stand_ins means g values) t d to p q marks m b
+  called_one : HasCalled f x (marked_function stuck_faults means g values) t d to p q marks m b
   unfolding slots
   called_one =
       let start = begun_slots f x g kinds words d values m marks r.inputs given deep r.room in
@@ -155,16 +156,16 @@ module _ (f : Frame) (x : Left) (units : QuickUnits) (means : MarkedUnits) (stan
       let ahead = begun.ahead in
       let same : b + p.ahead ≡ b + r.begun.ahead = omega arith in
       let body = marked_exec_all (scope_of inside) g.body in
-      subst (λ q. HasCalled f x (marked_function stand_ins means g values) t d to p q marks m b) (sym r.is) (record {
+      subst (λ q. HasCalled f x (marked_function stuck_faults means g values) t d to p q marks m b) (sym r.is) (record {
         memory = over.memory;
         word = look over.memory r.result.word;
         left = over.left;
-        gives = ap (λ o. follow (attempt stand_ins o (b + p.ahead)) (λ vs. λ b. follow (body (unmarked_values vs) b)
-            (λ e. attempt stand_ins (or_failure ill_typed (slice_get (state_of e).values g.result))))) start.gives
+        gives = ap (λ o. follow (attempt stuck_faults o (b + p.ahead)) (λ vs. λ b. follow (body (unmarked_values vs) b)
+            (λ e. attempt stuck_faults (or_failure ill_typed (slice_get (state_of e).values g.result))))) start.gives
             ∙ then_gives (body (unmarked_values slots) (b + p.ahead)) ran.end ran.rest
-            (λ e. attempt stand_ins (or_failure ill_typed (slice_get (state_of e).values g.result)))
+            (λ e. attempt stuck_faults (or_failure ill_typed (slice_get (state_of e).values g.result)))
             (ap (body (unmarked_values slots)) same ∙ ran.gives)
-            ∙ ap (λ o. attempt stand_ins (or_failure ill_typed o) ran.rest) value.is
+            ∙ ap (λ o. attempt stuck_faults (or_failure ill_typed o) ran.rest) value.is
             ∙ ap (λ n. Ok (datum_at t (look over.memory r.result.word), n)) ticks;
         fewer = omega arith;
         keeps = record {
@@ -178,7 +179,7 @@ module _ (f : Frame) (x : Left) (units : QuickUnits) (means : MarkedUnits) (stan
       })
 
 -- a block's body runs on the slots of its instance
-module _ (f : Frame) (x : Left) (units : QuickUnits) (means : MarkedUnits) (stand_ins : StandIns)
+module _ (f : Frame) (x : Left) (units : QuickUnits) (means : MarkedUnits) (stuck_faults : StuckFaults)
     (does : DoesCalls f x units means) (does_blocks : DoesBlocks f x units means) where
   instance : ℕ → Tracked → Setting
   instance at around = record {
@@ -186,7 +187,7 @@ module _ (f : Frame) (x : Left) (units : QuickUnits) (means : MarkedUnits) (stan
     site = whole at;
     units = units;
     means = means;
-    stand_ins = stand_ins;
+    stuck_faults = stuck_faults;
     around = around;
     finish = x;
     does = does;
@@ -195,7 +196,7 @@ module _ (f : Frame) (x : Left) (units : QuickUnits) (means : MarkedUnits) (stan
 
   invoked_one : (body : SlotStmts) (at d : ℕ) (p q : Point) → IsBlock f units body at d p q → (around : Tracked)
       (m : Memory) (tr : Tracked) (b : ℕ) → first_temporary f ≤ d → Holds f (whole at) around p.noted m tr
-      → Ends f p.place m b x → HasInvoked f x (marked_block stand_ins means body at) at d p q around m tr b
+      → EndsWellAt f p.place m b x → HasInvoked f x (marked_block stuck_faults means body at) at d p q around m tr b
   unfolding instance
   invoked_one body at d p q r around m tr b deep holds runs =
       let s = instance at around in
@@ -218,17 +219,17 @@ module _ (f : Frame) (x : Left) (units : QuickUnits) (means : MarkedUnits) (stan
         ends = over.ends;
       }
 
-module _ (f : Frame) (x : Left) (stand_ins : StandIns) (library : SlotLibrary) where
+module _ (f : Frame) (x : Left) (stuck_faults : StuckFaults) (library : SlotLibrary) where
   calls_over : (units : QuickUnits) (means : MarkedUnits) → DoesCalls f x units means → DoesBlocks f x units means
-      → DoesCalls f x (quick_units_over f library units) (marked_units_over stand_ins library f.now means)
+      → DoesCalls f x (quick_units_over f library units) (marked_units_over stuck_faults library f.now means)
   calls_over units means does does_blocks i kinds words d t to p q r marks m b values deep noted given runs =
-      let done = called_one f x units means stand_ins does does_blocks r.0 kinds words d t to p q r.1.1 marks m b values
+      let done = called_one f x units means stuck_faults does does_blocks r.0 kinds words d t to p q r.1.1 marks m b values
       deep noted given runs in record {
         memory = done.memory;
         word = done.word;
         left = done.left;
-        gives = ap (λ o. follow (attempt stand_ins (or_failure ill_typed o) (b + p.ahead))
-            (λ g. marked_function stand_ins means g values)) r.1.0
+        gives = ap (λ o. follow (attempt stuck_faults (or_failure ill_typed o) (b + p.ahead))
+            (λ g. marked_function stuck_faults means g values)) r.1.0
             ∙ done.gives;
         fewer = done.fewer;
         keeps = done.keeps;
@@ -238,16 +239,16 @@ module _ (f : Frame) (x : Left) (stand_ins : StandIns) (library : SlotLibrary) w
       }
 
   blocks_over : (units : QuickUnits) (means : MarkedUnits) → DoesCalls f x units means → DoesBlocks f x units means
-      → DoesBlocks f x (quick_units_over f library units) (marked_units_over stand_ins library f.now means)
+      → DoesBlocks f x (quick_units_over f library units) (marked_units_over stuck_faults library f.now means)
   blocks_over units means does does_blocks (own_block i) at d p q r around m tr b deep held runs =
-      let done = invoked_one f x units means stand_ins does does_blocks r.0 at d p q r.1.1 around m tr b deep held
+      let done = invoked_one f x units means stuck_faults does does_blocks r.0 at d p q r.1.1 around m tr b deep held
       runs in
       record {
         memory = done.memory;
         tracked = done.tracked;
         left = done.left;
-        gives = ap (λ o. follow (attempt stand_ins (or_failure ill_typed o) (b + p.ahead))
-            (λ body. marked_block stand_ins means body at tr)) r.1.0
+        gives = ap (λ o. follow (attempt stuck_faults (or_failure ill_typed o) (b + p.ahead))
+            (λ body. marked_block stuck_faults means body at tr)) r.1.0
             ∙ done.gives;
         fewer = done.fewer;
         spares = done.spares;
@@ -255,17 +256,17 @@ module _ (f : Frame) (x : Left) (stand_ins : StandIns) (library : SlotLibrary) w
         ends = done.ends;
       }
   blocks_over units means does does_blocks (standard_block c) at d p q r around m tr b deep held runs =
-      steps f x stand_ins at d deep around c p q r m tr b held runs
+      steps f x stuck_faults at d deep around c p q r m tr b held runs
 
-  -- calls at most so deep
+  -- calls at most `calls` deep
   pub does_units : (calls depth : ℕ) → calls ≤ depth
-      → DoesCalls f x (quick_units f library calls) (marked_units_within stand_ins library f.now depth)
-      × DoesBlocks f x (quick_units f library calls) (marked_units_within stand_ins library f.now depth)
+      → DoesCalls f x (quick_units f library calls) (marked_units_within stuck_faults library f.now depth)
+      × DoesBlocks f x (quick_units f library calls) (marked_units_within stuck_faults library f.now depth)
   unfolding quick_units marked_units_within
   does_units zero depth le = (λ i kinds words d t to p q r. absurd r, λ c at d p q r. absurd r)
   does_units (suc calls) zero le = absurd (omega arith)
   does_units (suc calls) (suc depth) le =
       let below = does_units calls depth (omega arith) in
       let units = quick_units f library calls in
-      let means = marked_units_within stand_ins library f.now depth in
+      let means = marked_units_within stuck_faults library f.now depth in
       (calls_over units means below.0 below.1, blocks_over units means below.0 below.1)

@@ -1,4 +1,4 @@
--- Code that reads two expressions and assigns one of them does what an IF does that assigns one of them.
+-- Code that reads two expressions and assigns one of them does the same as an IF that assigns one of them.
 use Rattle.std.proofs.Common.{◌≡◌, ℕ, zero, suc, ◌+◌, ◌-◌, ◌<◌, ◌≤◌, ℤ, pos, Bool, true, false, List, Some, Ok, refl}
 use Rattle.std.proofs.Common.{sym, ap, subst, ◌∙◌, arith, inl, inr}
 use Rattle.std.specs.Prelude.{if◌then◌else◌, not, slice_get}
@@ -6,11 +6,11 @@ use Rattle.std.specs.Ordering.{int_eq}
 use Rattle.st_types.specs.declared.kind.Kind.{Kind}
 use Rattle.st_types.specs.declared.kind.Kind.TheVariants.{Bool as Boolean}
 use Rattle.st_types.specs.declared.operator.BinaryOperator.TheVariants.{NotEqual}
-use Rattle.st_types.specs.Values.{IsHeld, datum_of_truth}
+use Rattle.st_types.specs.Values.{IsHeld, bool_datum}
 use Rattle.st_types.specs.Words.{datum_at, shift_of}
-use Rattle.st_meaning.specs.Loops.{behind, goes_on}
+use Rattle.st_meaning.specs.Loops.{continue_with, goes_on}
 use Rattle.st_meaning.specs.Ticks.{Run, follow}
-use Rattle.machine_code.specs.Tracking.{Tracked, written}
+use Rattle.machine_code.specs.Tracking.{Tracked, assigned_slot}
 use Rattle.quick_code.specs.QuickSteps.{Memory, act, look, put, with_word}
 use Rattle.quick_code.specs.declared.quick_instr.QuickInstr.TheVariants.{Select}
 use Rattle.slot_trees.specs.SlotTrees.{Anchor, SlotArms, SlotExpr, SlotStmts, arm_then, assign, no_arms, no_stmts}
@@ -20,9 +20,9 @@ use Rattle.machine_code.specs.MarkedEvaluation.{MarkedScope, marked_truth, marke
 use Rattle.machine_code.specs.MarkedExecution.{MarkedEnd, marked_assigning, marked_exec_all, marked_exec_arms}
 use Rattle.quick_trees.specs.declared.noting.Noting.{Noting}
 use Rattle.quick_trees.specs.Points.{Point}
-use Rattle.quick_trees.specs.QuickMemory.{Ends}
-use Rattle.quick_trees.specs.Sites.{base_of}
-use Rattle.quick_trees.specs.Standing.{Exits, IsAsked, IsChosen}
+use Rattle.quick_trees.specs.QuickMemory.{EndsWellAt}
+use Rattle.quick_trees.specs.UnitValues.{base_of}
+use Rattle.quick_trees.specs.TreeCode.{Exits, IsAsked, IsChosen}
 use Rattle.quick_trees.specs.Straight.{AssignsAt, IsStraight}
 use Rattle.quick_trees.proofs.Stepping.{Follows, has_put, stepped}
 use Rattle.quick_trees.proofs.Memories.{Holds, IsSite, Keeps, deeper, holds_assigned, holds_temporary, keeps_all}
@@ -44,16 +44,16 @@ module _ (s : Setting) where
     memory : Memory
     keeps : Keeps d m memory
     is : Holds s.frame s.site s.around ns memory tr
-    ends : Ends s.frame q memory b s.finish
+    ends : EndsWellAt s.frame q memory b s.finish
 
   passed_by : (n d p q : ℕ) (ns : List Noting) (m : Memory) (tr : Tracked) (b : ℕ) → p + n ≡ q
       → ((r : ℕ) → p ≤ r → r < q → AssignsAt s.frame d r) → IsSite s.frame s.site d
-      → Holds s.frame s.site s.around ns m tr → Ends s.frame p m b s.finish → HasPassed d q ns m tr b
+      → Holds s.frame s.site s.around ns m tr → EndsWellAt s.frame p m b s.finish → HasPassed d q ns m tr b
   passed_by zero d p q ns m tr b many each site is runs = record {
     memory = m;
     keeps = keeps_all d m;
     is = is;
-    ends = subst (λ p. Ends s.frame p m b s.finish) (let same : p ≡ q = omega arith in same) runs;
+    ends = subst (λ p. EndsWellAt s.frame p m b s.finish) (let same : p ≡ q = omega arith in same) runs;
   }
   passed_by (suc n) d p q ns m tr b many each site is runs =
       let a = each p (omega arith) (omega arith) in
@@ -71,24 +71,24 @@ module _ (s : Setting) where
       }
 
   passed : (d p q : ℕ) (ns : List Noting) (m : Memory) (tr : Tracked) (b : ℕ) → IsStraight s.frame d p q
-      → IsSite s.frame s.site d → Holds s.frame s.site s.around ns m tr → Ends s.frame p m b s.finish
+      → IsSite s.frame s.site d → Holds s.frame s.site s.around ns m tr → EndsWellAt s.frame p m b s.finish
       → HasPassed d q ns m tr b
   passed d p q ns m tr b straight site is runs =
       let ordered = straight.ordered in
       passed_by (q - p) d p q ns m tr b (omega arith) straight.each site is runs
 
-  -- A condition was read: it holds where a word is not 0.
+  -- A condition was read: it holds if a word is not 0.
   record HasAsked (x : SlotExpr) (d k : ℕ) (p q : Point) (m : Memory) (tr : Tracked) (b : ℕ) : Type 0 where
     memory : Memory
     tracked : Tracked
     left : ℕ
     value : marked_value z tr x (b + p.ahead)
-        ≡ Ok ((datum_of_truth (not (int_eq (look memory k) (pos 0))), tracked), left + q.ahead)
+        ≡ Ok ((bool_datum (not (int_eq (look memory k) (pos 0))), tracked), left + q.ahead)
     fewer : left + q.ahead ≤ b + p.ahead
     keeps : Keeps d m memory
     is : AreHeld s q memory tracked
     low : k < suc d
-    ends : Ends s.frame q.place memory left s.finish
+    ends : EndsWellAt s.frame q.place memory left s.finish
 
   asked : (x : SlotExpr) (d k : ℕ) (p q : Point) → IsAsked s.frame s.site s.units x d k p q
       → From s d p (HasAsked x d k p q)
@@ -115,9 +115,9 @@ module _ (s : Setting) where
         tracked = read.tracked;
         left = read.left;
         value = applied_to s NotEqual is.left is.right is.kind w (pos 0) tr read.tracked read.tracked (b + p.ahead) rest
-            rest (datum_of_truth (not (int_eq w (pos 0)))) read.gives
+            rest (bool_datum (not (int_eq w (pos 0)))) read.gives
             (number_gives s is.right is.kind (pos 0) read.tracked rest is.nought)
-            (ap (λ u. Ok (datum_of_truth u)) (ap not (equal_shifted w (pos 0) (shift_of is.kind))));
+            (ap (λ u. Ok (bool_datum u)) (ap not (equal_shifted w (pos 0) (shift_of is.kind))));
         fewer = read.fewer;
         keeps = read.keeps;
         is = read.is;
@@ -134,17 +134,17 @@ module _ (s : Setting) where
     gave : (y : SlotExpr) (m n : Memory) (tr us : Tracked) (t b a : ℕ) (w : ℤ) → IsSite s.frame s.site d
         → marked_value z tr y t ≡ Ok ((datum_at r.kind w, us), b + a) → a ≡ r.last.ahead → b + a ≤ t
         → IsHeld (datum_at r.kind w) → Keeps d m n → Holds s.frame s.site s.around r.last.noted n us
-        → Ends s.frame (suc r.last.place) (with_word n r.word w) b s.finish
+        → EndsWellAt s.frame (suc r.last.place) (with_word n r.word w) b s.finish
         → HasRun s (assigned_alone y) d e q m tr (suc t)
     gave y m n tr us t b a w site value ahead fewer held keeps is runs =
         let k = slot_at (base_of s.site) r.variable in
         let old = own_value s.frame s.site s.around r.last.noted n us is d site k r.word r.kind r.target r.own in
-        let after = written us k (datum_at r.kind w) in
+        let after = assigned_slot us k (datum_at r.kind w) in
         let m' = with_word n r.word w in
         record {
           end = goes_on after;
           rest = b + a;
-          gives = ap (λ o. follow o (λ e. behind e (marked_exec_all z no_stmts)))
+          gives = ap (λ o. follow o (λ e. continue_with e (marked_exec_all z no_stmts)))
               (assigns s (place r.variable no_subscripts) y tr us us t (b + a) (b + a) k r.kind w (look n r.word) value
               refl old.is held);
           fewer = omega arith;
@@ -160,9 +160,9 @@ module _ (s : Setting) where
           });
         }
 
-    -- where the condition does not hold, what the first expression has assigned is kept by nobody
+    -- if the condition does not hold, nothing needs the word that the first expression has assigned
     by_word : (m : Memory) (tr : Tracked) (b : ℕ) → IsSite s.frame s.site d → AreHeld s r.asked m tr
-        → Ends s.frame r.asked.place m b s.finish → r.tested < suc d → (nought : Bool)
+        → EndsWellAt s.frame r.asked.place m b s.finish → r.tested < suc d → (nought : Bool)
         → int_eq (look m r.tested) (pos 0) ≡ nought
         → HasRun s (λ us. if not nought then assigned_alone r.yes us else assigned_alone r.no us) d e q m tr
         (b + r.asked.ahead)
@@ -182,8 +182,8 @@ module _ (s : Setting) where
         (gave r.yes m two.memory tr one.tracked (b + r.behind) one.left r.middle.ahead (look one.memory r.first) site
         one.gives r.as_many one.fewer one.held (keeps_both d (suc d) m m two.memory (omega arith) (keeps_all d m) keeps)
         (still_told s.frame s.site s.around r.middle.noted two.memory one.tracked two.is r.last.noted r.as_much)
-        (subst (λ w. Ends s.frame (suc r.last.place) (with_word two.memory r.word w) one.left s.finish) same
-        (subst (λ t. Ends s.frame (suc r.last.place) (with_word two.memory r.word
+        (subst (λ w. EndsWellAt s.frame (suc r.last.place) (with_word two.memory r.word w) one.left s.finish) same
+        (subst (λ t. EndsWellAt s.frame (suc r.last.place) (with_word two.memory r.word
         (if t then look two.memory r.second else look two.memory r.first)) one.left s.finish) still step)))
     by_word m tr b site is runs low true tells =
         let tick = r.tick in
@@ -200,11 +200,11 @@ module _ (s : Setting) where
         (gave r.no m two.memory tr two.tracked (b + r.behind) two.left r.last.ahead (look two.memory r.second) site
         two.gives refl two.fewer two.held (keeps_both d (suc d) m m two.memory (omega arith) (keeps_all d m) keeps)
         two.is
-        (subst (λ t. Ends s.frame (suc r.last.place) (with_word two.memory r.word
+        (subst (λ t. EndsWellAt s.frame (suc r.last.place) (with_word two.memory r.word
         (if t then look two.memory r.second else look two.memory r.first)) two.left s.finish) still step))
 
     chosen : (m : Memory) (tr : Tracked) (b : ℕ) → IsSite s.frame s.site d → AreHeld s p m tr
-        → Ends s.frame p.place m b s.finish
+        → EndsWellAt s.frame p.place m b s.finish
         → HasRun s (marked_exec_arms z
         (arm_then r.condition (stmt_then (assign (place r.variable no_subscripts) r.yes) no_stmts) no_arms)
         (assigned_alone r.no)) d e q m tr (b + p.ahead)

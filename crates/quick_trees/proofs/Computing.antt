@@ -1,4 +1,4 @@
--- What the code of a standard function makes of words is what the function makes of the values.
+-- The code of a standard function gives for words what the function gives for the values.
 use Rattle.std.proofs.Common.{◌≡◌, ◌&&◌, ℕ, suc, ◌+◌, ◌-◌, ◌<◌, ◌≤◌, ◌^◌, ◌/◌, ℤ, pos, negsuc, ◌-ℤ◌, Bool, true, false}
 use Rattle.std.proofs.Common.{List, [], ◌∷◌, Some, None, Ok, Err, refl, sym, ap, ap₂, subst, ◌∙◌, arith}
 use Rattle.std.proofs.Common.{inr}
@@ -10,7 +10,7 @@ use Rattle.st_types.specs.declared.kind.Kind.{Kind}
 use Rattle.st_types.specs.declared.kind.Kind.TheVariants.{Bool as Boolean}
 use Rattle.st_types.proofs.KindLemmas.{same_kind-refl}
 use Rattle.st_types.specs.Kinds.{greatest, holds, least, row_of}
-use Rattle.st_types.specs.Values.{Datum, IsHeld, datum_of_truth, in_range, is_true}
+use Rattle.st_types.specs.Values.{Datum, IsHeld, bool_datum, in_range, is_true}
 use Rattle.st_types.specs.Words.{datum_at, is_wide, number_at, shift_of}
 use Rattle.st_meaning.specs.Failures.{failing, ill_typed}
 use Rattle.st_meaning.specs.StandardFunctions.{ABS, CONVERT, LIMIT, MAX, MIN, ROL, ROR, SEL, SHL, SHR, Standard}
@@ -21,13 +21,13 @@ use Rattle.quick_code.specs.declared.operation.Signed.TheVariants as signed
 use Rattle.quick_code.specs.declared.quick_instr.QuickInstr.TheVariants.{ShiftRight}
 use Rattle.quick_code.specs.QuickRuns.{Left}
 use Rattle.quick_code.specs.QuickSteps.{Memory, act, look, with_word}
-use Rattle.quick_code.specs.Words.{between, made, shifted_down, word_of_truth}
+use Rattle.quick_code.specs.Words.{between, operator_result, shifted_down, bool_word}
 use Rattle.quick_trees.specs.declared.noting.Noting.{Noting}
-use Rattle.quick_trees.specs.Functions.{AreThree, AreTwo, IsChosen, IsConverted, IsFunctionOf, IsGreater, IsLesser}
+use Rattle.quick_trees.specs.Functions.{AreThree, AreTwo, IsPicked, IsConverted, IsFunctionOf, IsGreater, IsLesser}
 use Rattle.quick_trees.specs.Functions.{IsLimited, IsMovedWithin, IsOne, IsSelected, IsShifted, IsWithoutSign}
 use Rattle.quick_trees.specs.Pieces.{IsNumberAt}
 use Rattle.quick_trees.specs.Points.{Point, next}
-use Rattle.quick_trees.specs.QuickMemory.{Ends, Frame, first_temporary}
+use Rattle.quick_trees.specs.QuickMemory.{EndsWellAt, Frame, first_temporary}
 use Rattle.quick_trees.proofs.Bits.{bits_of, down_number, has_masked, number_word, shifted_by, turned_up, up_in_type}
 use Rattle.std.proofs.Math.Nat.{mod-eq_of_lt}
 use Rattle.std.proofs.Common.{w64, ◌*◌, ◌*ℤ◌, ◌+ℤ◌}
@@ -135,7 +135,7 @@ between_is : (low high w v : ℤ) (t : Bool) → (int_le low w && int_le w high)
 between_is low high w v true h e = (some_is e, h)
 between_is low high w v false h e = absurd cc
 
--- a number is one of another type, where words of both are numbers
+-- a number is one of another type, if words of both are numbers
 converted_is : (from to : Kind) (w : ℤ) → is_wide from ≡ false → is_wide to ≡ false → holds to w ≡ true
     → standard_value (CONVERT from to) (datum_at from w ∷ []) ≡ Ok (datum_at to w)
 converted_is from to w narrow_from narrow_to held =
@@ -144,8 +144,8 @@ converted_is from to w narrow_from narrow_to held =
     ∙ ap (λ b. failing (if b then Ok (record { kind = to; number = w }) else Err Conversion)) held
     ∙ ap (λ n. Ok (record { kind = to; number = n })) (sym (narrow_number to w narrow_to))
 
--- what is selected by the word of a comparison
-pub by_word : (go : Bool) (y z : ℤ) → (if int_eq (word_of_truth go) (pos 0) then z else y) ≡ (if go then y else z)
+-- the value selected by the word of a comparison
+pub by_word : (go : Bool) (y z : ℤ) → (if int_eq (bool_word go) (pos 0) then z else y) ≡ (if go then y else z)
 by_word true y z = refl
 by_word false y z = refl
 
@@ -172,7 +172,7 @@ greater_is t y z =
     ap (λ go. if go then datum_at t y else datum_at t z) (at_most_shifted z y (shift_of t))
     ∙ value_chosen t (int_le z y) y z
 
-truth_again : (go : Bool) → is_true (datum_of_truth go) ≡ go
+truth_again : (go : Bool) → is_true (bool_datum go) ≡ go
 truth_again true = refl
 truth_again false = refl
 
@@ -181,7 +181,7 @@ value_selected : (t : Kind) (none : Bool) (y z : ℤ)
 value_selected t true y z = refl
 value_selected t false y z = refl
 
--- the one of a number and what is left of 0 without it that is not below 0
+-- the one of a number and its negation that is not below 0
 without_sign : (w : ℤ) → chosen (int_le (pos 0) w) w (pos 0 -ℤ w) ≡ pos (unsigned_abs w)
 without_sign (pos n) =
     let above : int_le (pos 0) (pos n) ≡ true = grind (arith, ints) in
@@ -192,7 +192,7 @@ ranged : (t : Kind) (z : ℤ) → holds t z ≡ true → in_range t z ≡ Ok (re
 ranged t z held = ap (λ b. if b then Ok (record { kind = t; number = z }) else Err Range) held
 
 module _ (f : Frame) (x : Left) (ns : List Noting) (marks : List Mark) where
-  -- the word of a constant has its number, and is no temporary
+  -- the word of a constant has its number, and is not a temporary
   constant_there : (t : Kind) (n : ℤ) (k : ℕ) (m : Memory) → IsNumberAt f t n k → IsNoted f ns marks m
       → number_at t (look m k) ≡ n
   constant_there t n k m is noted =
@@ -221,10 +221,10 @@ module _ (f : Frame) (x : Left) (ns : List Noting) (marks : List Mark) where
   -- A word was assigned that is a number of a type.
   pub record HasMovedWithin (t : Kind) (p to : ℕ) (w : ℤ) (m : Memory) (b : ℕ) : Type 0 where
     pub held : holds t w ≡ true
-    pub ends : Ends f (suc p) (with_word m to w) b x
+    pub ends : EndsWellAt f (suc p) (with_word m to w) b x
 
   pub moved_within : (t : Kind) (from to p : ℕ) (m : Memory) (b : ℕ) → IsMovedWithin f t from to p
-      → IsNoted f ns marks m → Ends f p m b x → HasMovedWithin t p to (look m from) m b
+      → IsNoted f ns marks m → EndsWellAt f p m b x → HasMovedWithin t p to (look m from) m b
   moved_within t from to p m b is noted runs =
       let low = constant_word t (least t) is.low m is.narrow is.is_low noted in
       let high = constant_word t (greatest t) is.high m is.narrow is.is_high noted in
@@ -234,29 +234,29 @@ module _ (f : Frame) (x : Left) (ns : List Noting) (marks : List Mark) where
       let same = between_is (look m is.low) (look m is.high) w done.word
       (int_le (look m is.low) w && int_le w (look m is.high)) refl done.is in record {
         held = ap₂ (λ l h. int_le l w && int_le w h) (sym low) (sym high) ∙ same.1;
-        ends = subst (λ w. Ends f (suc p) (with_word m to w) b x) (sym same.0) done.ends;
+        ends = subst (λ w. EndsWellAt f (suc p) (with_word m to w) b x) (sym same.0) done.ends;
       }
 
-  -- The one of two words was assigned.
+  -- One of two words was assigned.
   record HasChosen (d to : ℕ) (w : ℤ) (p q : Point) (m : Memory) (b : ℕ) : Type 0 where
     memory : Memory
     keeps : Keeps d m memory
     noted : IsNoted f ns marks memory
     told : q.noted ≡ p.noted
     ahead : q.ahead ≡ p.ahead
-    ends : Ends f q.place (with_word memory to w) b x
+    ends : EndsWellAt f q.place (with_word memory to w) b x
 
   has_chosen : (l r y z d to : ℕ) (p q : Point) (m : Memory) (b : ℕ) → first_temporary f ≤ d → y < d → z < d
-      → IsChosen f l r y z d to p q → IsNoted f ns marks m → Ends f p.place m b x
+      → IsPicked f l r y z d to p q → IsNoted f ns marks m → EndsWellAt f p.place m b x
       → HasChosen d to (chosen (int_le (look m l) (look m r)) (look m y) (look m z)) p q m b
   has_chosen l r y z d to p q m b deep y_low z_low is noted runs =
       let go = int_le (look m l) (look m r) in
       let one = stepped f p.place x m b _ runs is.compared in
-      let m' = with_word m d (word_of_truth go) in
-      let keeps = keeps_below d m d (word_of_truth go) (omega arith) in
+      let m' = with_word m d (bool_word go) in
+      let keeps = keeps_below d m d (bool_word go) (omega arith) in
       let there = is.there in
       let long = noted.room.words in
-      let here = word_here m d (word_of_truth go) (omega arith) in
+      let here = word_here m d (bool_word go) (omega arith) in
       let two = stepped f (suc p.place) x m' b _ one is.chosen in
       let word : (if int_eq (look m' d) (pos 0) then look m' z else look m' y) ≡ chosen go (look m y) (look m z) =
       ap (λ w. if int_eq w (pos 0) then look m' z else look m' y) here
@@ -265,10 +265,10 @@ module _ (f : Frame) (x : Left) (ns : List Noting) (marks : List Mark) where
       subst (λ q. HasChosen d to (chosen go (look m y) (look m z)) p q m b) (sym is.is) (record {
         memory = m';
         keeps = keeps;
-        noted = noted_word f ns marks m noted d (word_of_truth go) (inr deep);
+        noted = noted_word f ns marks m noted d (bool_word go) (inr deep);
         told = refl;
         ahead = refl;
-        ends = subst (λ w. Ends f (suc (suc p.place)) (with_word m' to w) b x) word two;
+        ends = subst (λ w. EndsWellAt f (suc (suc p.place)) (with_word m' to w) b x) word two;
       })
 
   -- The value of a standard function was assigned to a word.
@@ -283,12 +283,12 @@ module _ (f : Frame) (x : Left) (ns : List Noting) (marks : List Mark) where
       pub noted : IsNoted f ns marks memory
       pub told : q.noted ≡ p.noted
       pub ahead : q.ahead ≡ p.ahead
-      pub ends : Ends f q.place (with_word memory to word) b x
+      pub ends : EndsWellAt f q.place (with_word memory to word) b x
 
   -- how the code of a function computes it
   module _ (kinds : List Kind) (words : List ℕ) (values : List Datum) (t : Kind) (d to : ℕ) (p q : Point) (m : Memory)
       (b : ℕ) (given : AreGiven m d kinds words values) (deep : first_temporary f ≤ d) (noted : IsNoted f ns marks m)
-      (runs : Ends f p.place m b x) where
+      (runs : EndsWellAt f p.place m b x) where
     has_converted : (from into : Kind) → IsConverted f from into kinds words t to p q
         → HasValue (CONVERT from into) values t d to p q m b
     has_converted from into is =
@@ -340,7 +340,7 @@ module _ (f : Frame) (x : Left) (ns : List Noting) (marks : List Mark) where
       is_noted : IsNoted f ns marks memory
       told : q'.noted ≡ p'.noted
       ahead : q'.ahead ≡ p'.ahead
-      ends : Ends f q'.place (with_word memory out
+      ends : EndsWellAt f q'.place (with_word memory out
           (pos ((natural (look m word) % 2 ^ ((row_of t).bits - places)) * 2 ^ places))) b x
 
     moved_up_to : (word places e out : ℕ) (q' : Point) → first_temporary f ≤ e → IsHeld (datum_at t (look m word))
@@ -355,7 +355,7 @@ module _ (f : Frame) (x : Left) (ns : List Noting) (marks : List Mark) where
         let low = natural w % 2 ^ ((row_of t).bits - places) in
         let is_v : v ≡ pos low = has_masked bits.bits t w (look m is.mask) ((row_of t).bits - places) bits.are held
         mask_held mask in
-        let one : Ends f (suc p.place) (with_word m e v) b x =
+        let one : EndsWellAt f (suc p.place) (with_word m e v) b x =
         subst (λ i. Follows f p.place x (act f.ways f.now i m b)) bits.instr
         (stepped f p.place x m b is.masked.instr runs is.masked.at) in
         let m' = with_word m e v in
@@ -365,7 +365,7 @@ module _ (f : Frame) (x : Left) (ns : List Noting) (marks : List Mark) where
         let keeps = keeps_below e m e v (omega arith) in
         let power_low = constant_low t (pos (2 ^ places)) is.power e is.is_power far in
         let factor : look m' is.power ≡ pos (2 ^ places) = keeps_word e m m' is.power keeps power_low ∙ power in
-        let done = has_put f (suc p.place) x out (made op.Multiply signed.Lint (look m' e) (look m' is.power)) m' b
+        let done = has_put f (suc p.place) x out (operator_result op.Multiply signed.Lint (look m' e) (look m' is.power)) m' b
         (stepped f (suc p.place) x m' b _ one is.moved) in
         let word_is : done.word ≡ pos (low * 2 ^ places) =
         sym (made_number (look m' e *ℤ look m' is.power) done.word done.is)
@@ -376,7 +376,7 @@ module _ (f : Frame) (x : Left) (ns : List Noting) (marks : List Mark) where
           is_noted = noted_word f ns marks m noted e v (inr far);
           told = refl;
           ahead = refl;
-          ends = subst (λ z. Ends f (suc (suc p.place)) (with_word m' out z) b x) word_is done.ends;
+          ends = subst (λ z. EndsWellAt f (suc (suc p.place)) (with_word m' out z) b x) word_is done.ends;
         })
 
     has_shifted_up : IsShiftedUp f kinds words t d to p q → HasValue SHL values t d to p q m b
@@ -404,7 +404,7 @@ module _ (f : Frame) (x : Left) (ns : List Noting) (marks : List Mark) where
           ends = done.ends;
         }
 
-    -- bits were turned
+    -- bits were rotated
     turned_by : (g : Standard) (move : ℕ → ℕ → ℕ → ℕ) (constant up : ℕ)
         → ((v u : Datum) → standard_value g (v ∷ u ∷ []) ≡ failing (shifted move v u.number)) → 0 < up
         → up < (row_of t).bits
@@ -439,14 +439,14 @@ module _ (f : Frame) (x : Left) (ns : List Noting) (marks : List Mark) where
         let second : look m2 (suc d) ≡ down.word = word_here m1 (suc d) down.word (omega arith) in
         let first : look m2 d ≡ pos high = keeps_word (suc d) m1 m2 d
         (keeps_below (suc d) m1 (suc d) down.word (omega arith)) (omega arith) ∙ here in
-        let sum = has_put f (suc is.last.place) x d (made op.Add signed.Lint (look m2 d) (look m2 (suc d))) m2 b
+        let sum = has_put f (suc is.last.place) x d (operator_result op.Add signed.Lint (look m2 d) (look m2 (suc d))) m2 b
         (stepped f (suc is.last.place) x m2 b _ down.ends is.sum) in
         let v = pos (high + low) in
         let is_v : sum.word ≡ v =
         sym (made_number (look m2 d +ℤ look m2 (suc d)) sum.word sum.is)
         ∙ ap₂ (λ y z. y +ℤ z) first (second ∙ sym is_low) in
         let m3 = with_word m2 d v in
-        let ends3 = subst (λ z. Ends f (suc (suc is.last.place)) (with_word m2 d z) b x) is_v sum.ends in
+        let ends3 = subst (λ z. EndsWellAt f (suc (suc is.last.place)) (with_word m2 d z) b x) is_v sum.ends in
         let noted3 = noted_word f ns marks m2 noted2 d v (inr deep) in
         let long2 = noted2.room.words in
         let third : look m3 d ≡ v = word_here m2 d v (omega arith) in
@@ -473,7 +473,7 @@ module _ (f : Frame) (x : Left) (ns : List Noting) (marks : List Mark) where
           noted = noted3;
           told = one.told;
           ahead = one.ahead;
-          ends = subst (λ z. Ends f (suc (suc (suc is.last.place))) (with_word m3 to z) b x) third moved.ends;
+          ends = subst (λ z. EndsWellAt f (suc (suc (suc is.last.place))) (with_word m3 to z) b x) third moved.ends;
         })
 
     has_lesser : IsLesser f kinds words t d to p q → HasValue MIN values t d to p q m b
@@ -569,7 +569,7 @@ module _ (f : Frame) (x : Left) (ns : List Noting) (marks : List Mark) where
           noted = two.noted;
           told = two.told ∙ one.told;
           ahead = two.ahead ∙ one.ahead;
-          ends = subst (λ w. Ends f q.place (with_word two.memory to w) b x) word two.ends;
+          ends = subst (λ w. EndsWellAt f q.place (with_word two.memory to w) b x) word two.ends;
         }
 
     has_no_sign : IsWithoutSign f kinds words t d to p q → HasValue ABS values t d to p q m b
@@ -579,7 +579,7 @@ module _ (f : Frame) (x : Left) (ns : List Noting) (marks : List Mark) where
         let narrow = is.moves.narrow in
         let none : look m is.nought ≡ pos 0 = constant_word t (pos 0) is.nought m narrow is.is_nought noted in
         let nought_low = constant_low t (pos 0) is.nought d is.is_nought deep in
-        let done = has_put f p.place x d (made op.Subtract signed.Lint (look m is.nought) w) m b
+        let done = has_put f p.place x d (operator_result op.Subtract signed.Lint (look m is.nought) w) m b
         (stepped f p.place x m b _ runs is.stands) in
         let turned : pos 0 -ℤ w ≡ done.word =
         ap (λ z. z -ℤ w) (sym none) ∙ made_number (look m is.nought -ℤ w) done.word done.is in
@@ -604,7 +604,7 @@ module _ (f : Frame) (x : Left) (ns : List Noting) (marks : List Mark) where
         let two_long = two.noted.room.words in
         let kept = keeps_below d two.memory d v (omega arith) in
         let is_v = word_here two.memory d v (omega arith) in
-        let ends = subst (λ w. Ends f is.last.place (with_word two.memory d w) b x) word two.ends in
+        let ends = subst (λ w. EndsWellAt f is.last.place (with_word two.memory d w) b x) word two.ends in
         let moved = moved_within t d to is.last.place n b is.moves
         (noted_word f ns marks two.memory two.noted d v (inr deep)) ends in
         let held : holds t v ≡ true = ap (holds t) (sym is_v) ∙ moved.held in
@@ -622,7 +622,7 @@ module _ (f : Frame) (x : Left) (ns : List Noting) (marks : List Mark) where
           noted = noted_word f ns marks two.memory two.noted d v (inr deep);
           told = two.told;
           ahead = two.ahead;
-          ends = subst (λ w. Ends f (suc is.last.place) (with_word n to w) b x) is_v moved.ends;
+          ends = subst (λ w. EndsWellAt f (suc is.last.place) (with_word n to w) b x) is_v moved.ends;
         })
 
     pub has_value : (g : Standard) → IsFunctionOf f g kinds words t d to p q → HasValue g values t d to p q m b

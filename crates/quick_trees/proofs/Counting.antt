@@ -12,11 +12,11 @@ use Rattle.st_types.specs.declared.operator.BinaryOperator.TheVariants.{Add}
 use Rattle.st_types.specs.Values.{IsHeld, in_range}
 use Rattle.st_types.specs.Kinds.{holds}
 use Rattle.st_types.specs.Words.{datum_at, is_wide, number_at, shift_of}
-use Rattle.st_meaning.specs.Failures.{StandIns, ill_typed, or_failure}
-use Rattle.st_meaning.specs.Loops.{TurnOf, again, goes_on, nonzero, stepped_on, unless_fault}
+use Rattle.st_meaning.specs.Failures.{StuckFaults, ill_typed, or_failure}
+use Rattle.st_meaning.specs.Loops.{IterationOf, again, goes_on, nonzero, stepped_on, unless_fault}
 use Rattle.st_meaning.specs.Ticks.{Run, attempt, follow, give}
 use Rattle.machine_code.specs.declared.mark.Mark.{Mark}
-use Rattle.machine_code.specs.Tracking.{Tracked, looked, written}
+use Rattle.machine_code.specs.Tracking.{Tracked, looked, assigned_slot}
 use Rattle.quick_trees.specs.declared.noting.Noting.{Noting}
 use Rattle.quick_code.specs.declared.operation.Operation.TheVariants as op
 use Rattle.quick_code.specs.declared.operation.Signed.{Signed}
@@ -26,7 +26,7 @@ use Rattle.quick_code.specs.declared.operation.Test.TheVariants as test
 use Rattle.quick_code.specs.declared.quick_code.Way.{Way}
 use Rattle.quick_code.specs.QuickRuns.{Left}
 use Rattle.quick_code.specs.QuickSteps.{Memory, counted, look, with_word}
-use Rattle.quick_code.specs.Words.{kind_of, made, passes, word_of_truth}
+use Rattle.quick_code.specs.Words.{kind_of, operator_result, passes, bool_word}
 use Rattle.slot_trees.specs.SlotTrees.{Anchor, SlotExpr, constant}
 use Rattle.slot_trees.specs.SlotEvaluation.{slot_at}
 use Rattle.machine_code.specs.MarkedEvaluation.{MarkedScope, marked_value}
@@ -35,13 +35,13 @@ use Rattle.machine_code.specs.MarkedExecution.{marked_put}
 use Rattle.machine_code.specs.MarkedExecution.{marked_runs_on, marked_step, marked_step_of, marked_step_on, marked_turns}
 use Rattle.quick_trees.specs.declared.pace.Pace.{Pace}
 use Rattle.quick_trees.specs.declared.pace.Pace.TheVariants.{Literal, Words}
-use Rattle.quick_trees.specs.Counting.{AddsStep, AreOrdered, Begins, BeginsToCount, Counts, CountsAsLint, CountsAtOnce}
-use Rattle.quick_trees.specs.Counting.{CountsBy, GoesOnCounting, IsLong, IsStep, inside}
+use Rattle.quick_trees.specs.Counting.{AddsStep, AreOrdered, LoopBegins, BeginsToCount, Counts, CountsAsLint, CountsAtOnce}
+use Rattle.quick_trees.specs.Counting.{CountsBy, IsRepeatTest, Is64Bit, IsStep, inside}
 use Rattle.quick_trees.specs.Functions.{IsMovedWithin}
-use Rattle.quick_trees.specs.Points.{Part, Point, along, past_branch}
-use Rattle.quick_trees.specs.QuickMemory.{Ends, Frame, first_temporary}
-use Rattle.quick_trees.specs.Sites.{HasOwnWord, Site, base_of, kinds_of}
-use Rattle.quick_trees.specs.Standing.{Exits, IsFor, IsKeptStep, IsPaced}
+use Rattle.quick_trees.specs.Points.{CodeRelation, Point, along, past_branch}
+use Rattle.quick_trees.specs.QuickMemory.{EndsWellAt, Frame, first_temporary}
+use Rattle.quick_trees.specs.UnitValues.{HasOwnWord, UnitValues, base_of, kinds_of}
+use Rattle.quick_trees.specs.TreeCode.{Exits, IsFor, IsKeptStep, IsPaced}
 use Rattle.quick_trees.proofs.Stepping.{Follows, HasBranched, has_branched, has_put, stepped}
 use Rattle.quick_trees.proofs.Memories.{IsSite, Keeps, Spares, assigned_again, assigned_look, assigned_then, deeper}
 use Rattle.quick_trees.proofs.Memories.{holds_assigned, holds_kept, holds_looked, holds_temporary, keeps_all}
@@ -61,9 +61,9 @@ use Rattle.quick_trees.proofs.Running.{Does, HasEnded, HasRun, ends_met, gives_s
 use Rattle.quick_trees.proofs.Running.{spares_words}
 use Rattle.quick_trees.proofs.Looping.{behind_body, behind_test, going_back, turn_is}
 use Rattle.quick_trees.proofs.Lists.{set_here, set_same, some_is, there_within, within_there}
-use Rattle.quick_trees.specs.Sites.{IsValueAt}
+use Rattle.quick_trees.specs.UnitValues.{IsValueAt}
 
--- a control variable has not passed the limit, where the step is above 0 or below
+-- a control variable has not passed the limit, if the step is above 0 or below
 abbrev pub goes_for : ℤ → ℤ → ℤ → Bool
 goes_for (pos n) w l = int_le w l
 goes_for (negsuc n) w l = int_le l w
@@ -77,7 +77,7 @@ pub record HasCounted (f : Frame) (p : ℕ) (e : Left) (t : Kind) (k : ℕ) (v n
 
 module _ (f : Frame) (p : ℕ) (e : Left) (k limit : ℕ) (n : ℤ) (w : Way) (past : ℕ) (m : Memory) (b : ℕ) (o : Test)
     (same : (v l : ℤ) → passes o v l ≡ goes_for n v l) where
-  of_value : (s : Signed) (v : Option ℤ) → made op.Add s (look m k) n ≡ v → IsHeld (datum_at (kind_of s) (look m k))
+  of_value : (s : Signed) (v : Option ℤ) → operator_result op.Add s (look m k) n ≡ v → IsHeld (datum_at (kind_of s) (look m k))
       → IsHeld (datum_at (kind_of s) n) → Follows f p e (counted v k o (look m limit) w past m b)
       → HasCounted f p e (kind_of s) k (look m k) n (look m limit) w past m b
   of_value s (Some v) is g h runs =
@@ -92,12 +92,12 @@ module _ (f : Frame) (p : ℕ) (e : Left) (k limit : ℕ) (n : ℤ) (w : Way) (p
   of_value s None is g h runs = absurd runs
 
   of_signed : (s : Signed) → IsHeld (datum_at (kind_of s) (look m k)) → IsHeld (datum_at (kind_of s) n)
-      → Follows f p e (counted (made op.Add s (look m k) n) k o (look m limit) w past m b)
+      → Follows f p e (counted (operator_result op.Add s (look m k) n) k o (look m limit) w past m b)
       → HasCounted f p e (kind_of s) k (look m k) n (look m limit) w past m b
-  of_signed s g h runs = of_value s (made op.Add s (look m k) n) refl g h runs
+  of_signed s g h runs = of_value s (operator_result op.Add s (look m k) n) refl g h runs
 
   of_type : (s : Signed) (t : Kind) → t ≡ kind_of s → IsHeld (datum_at t (look m k)) → IsHeld (datum_at t n)
-      → Follows f p e (counted (made op.Add s (look m k) n) k o (look m limit) w past m b)
+      → Follows f p e (counted (operator_result op.Add s (look m k) n) k o (look m limit) w past m b)
       → HasCounted f p e t k (look m k) n (look m limit) w past m b
   of_type s t is g h runs =
       subst (λ u. HasCounted f p e u k (look m k) n (look m limit) w past m b) (sym is)
@@ -105,7 +105,7 @@ module _ (f : Frame) (p : ℕ) (e : Left) (k limit : ℕ) (n : ℤ) (w : Way) (p
 
 counted_at_once : (f : Frame) (p : ℕ) (e : Left) (k limit : ℕ) (n : ℤ) (w : Way) (past : ℕ) (m : Memory) (b : ℕ)
     (t : Kind) → CountsAtOnce f t k n limit w past p → IsHeld (datum_at t (look m k)) → IsHeld (datum_at t n)
-    → Ends f p m b e → HasCounted f p e t k (look m k) n (look m limit) w past m b
+    → EndsWellAt f p m b e → HasCounted f p e t k (look m k) n (look m limit) w past m b
 counted_at_once f p e k limit (pos n) w past m b t (inl is) g h runs =
     of_type f p e k limit (pos n) w past m b test.AtMost (λ v l. refl) signed.Int t is.0 g h
     (stepped f p e m b _ runs is.1)
@@ -121,7 +121,7 @@ counted_at_once f p e k limit (negsuc n) w past m b t (inr is) g h runs =
 
 -- the test for a further turn
 goes_on_counting : (f : Frame) (q : ℕ) (e : Left) (k limit : ℕ) (n : ℤ) (w : Way) (past : ℕ) (m : Memory) (b : ℕ)
-    → GoesOnCounting f n k limit w past q → Ends f q m b e
+    → IsRepeatTest f n k limit w past q → EndsWellAt f q m b e
     → HasBranched f q e (goes_for n (look m k) (look m limit)) w past m b
 goes_on_counting f q e k limit (pos n) w past m b is runs =
     has_branched f q e (int_le (look m k) (look m limit)) w past m b (stepped f q e m b _ runs is)
@@ -138,11 +138,11 @@ sum_within t v n w narrow is held = record {
   held = ap (holds t) (narrow_number t w narrow) ∙ held;
 }
 
--- what is a LINT is the word of a ULINT
+-- a number that is a LINT is the word of a ULINT
 long_word : (w : ℤ) → holds kinds.Lint w ≡ true → holds kinds.Ulint (number_at kinds.Ulint w) ≡ true
 long_word w held = grind (arith, common_steps)
 
-sum_long : (t : Kind) (v n w : ℤ) → IsLong t → v +ℤ n ≡ w → holds kinds.Lint w ≡ true
+sum_long : (t : Kind) (v n w : ℤ) → Is64Bit t → v +ℤ n ≡ w → holds kinds.Lint w ≡ true
     → IsResult (in_range t (number_at t v +ℤ n)) t w
 sum_long t v n w (inl lint) is held =
     sum_within t v n w (ap is_wide lint) is (ap (λ t. holds t w) lint ∙ held)
@@ -153,7 +153,7 @@ sum_long t v n w (inr ulint) is held =
       held = long_word w held;
     })
 
--- what a sum is kept of is a LINT
+-- a sum that is kept is a LINT
 kept_held : (z w : ℤ) (h : Bool) → holds (kind_of signed.Lint) z ≡ h → (if h then Some z else None) ≡ Some w
     → holds (kind_of signed.Lint) w ≡ true
 kept_held z w true h is = ap (holds (kind_of signed.Lint)) (sym (some_is is)) ∙ h
@@ -163,10 +163,10 @@ module _ (f : Frame) (ns : List Noting) (marks : List Mark) (p q : ℕ) (e : Lef
     (past : ℕ) (m : Memory) (b : ℕ) (t : Kind) (inside : k < length m.words)
     (place : (k < length f.window) ⊎ (first_temporary f ≤ k)) (apart : limit ≡ k → ⊥) (noted : IsNoted f ns marks m)
   where
-    -- behind the sum and the test of its type
-    ends_counting : (word : ℤ) → GoesOnCounting f n k limit w past q
+    -- after the sum and the test of its type
+    ends_counting : (word : ℤ) → IsRepeatTest f n k limit w past q
         → IsResult (in_range t (number_at t (look m k) +ℤ n)) t word
-        → Ends f q (with_word m k word) b e → HasCounted f q e t k (look m k) n (look m limit) w past m b
+        → EndsWellAt f q (with_word m k word) b e → HasCounted f q e t k (look m k) n (look m limit) w past m b
     ends_counting word tested result runs = record {
       word = word;
       result = result;
@@ -179,12 +179,12 @@ module _ (f : Frame) (ns : List Noting) (marks : List Mark) (p q : ℕ) (e : Lef
 
     by_within : (is : CountsAsLint f t k n limit w past p q) (word : ℤ) → look m k +ℤ n ≡ word
         → holds (kind_of signed.Lint) word ≡ true
-        → (IsLong t × (q ≡ suc p)) ⊎ (IsMovedWithin f t k k (suc p) × (q ≡ suc (suc p)))
-        → Ends f (suc p) (with_word m k word) b e → HasCounted f q e t k (look m k) n (look m limit) w past m b
+        → (Is64Bit t × (q ≡ suc p)) ⊎ (IsMovedWithin f t k k (suc p) × (q ≡ suc (suc p)))
+        → EndsWellAt f (suc p) (with_word m k word) b e → HasCounted f q e t k (look m k) n (look m limit) w past m b
     by_within is word sum held (inl (long, at)) runs =
         ends_counting word is.tested
         (sum_long t (look m k) n word long sum held)
-        (subst (λ q. Ends f q (with_word m k word) b e) (sym at) runs)
+        (subst (λ q. EndsWellAt f q (with_word m k word) b e) (sym at) runs)
     by_within is word sum held (inr (moves, at)) runs =
         let m' = with_word m k word in
         let here : look m' k ≡ word = word_here m k word inside in
@@ -194,16 +194,16 @@ module _ (f : Frame) (ns : List Noting) (marks : List Mark) (p q : ℕ) (e : Lef
         in
         ends_counting word is.tested
         (sum_within t (look m k) n word moves.narrow sum (ap (holds t) (sym here) ∙ moved.held))
-        (subst (λ q. Ends f q m' b e) (sym at)
-        (subst (λ m. Ends f (suc (suc p)) m b e) itself moved.ends))
+        (subst (λ q. EndsWellAt f q m' b e) (sym at)
+        (subst (λ m. EndsWellAt f (suc (suc p)) m b e) itself moved.ends))
 
     has_counted : Counts f t k n limit w past p q → IsHeld (datum_at t (look m k)) → IsHeld (datum_at t n)
-        → Ends f p m b e → HasCounted f q e t k (look m k) n (look m limit) w past m b
+        → EndsWellAt f p m b e → HasCounted f q e t k (look m k) n (look m limit) w past m b
     has_counted (inl (at, is)) g h runs =
         subst (λ q. HasCounted f q e t k (look m k) n (look m limit) w past m b) (sym at)
         (counted_at_once f p e k limit n w past m b t is g h runs)
     has_counted (inr is) g h runs =
-        let done = has_put f p e k (made op.Add signed.Lint (look m k) n) m b (stepped f p e m b _ runs is.added) in
+        let done = has_put f p e k (operator_result op.Add signed.Lint (look m k) n) m b (stepped f p e m b _ runs is.added) in
         by_within is done.word (made_number (look m k +ℤ n) done.word done.is)
         (kept_held (look m k +ℤ n) done.word (holds (kind_of signed.Lint) (look m k +ℤ n)) refl done.is)
         is.within done.ends
@@ -213,7 +213,7 @@ passed_up w l = grind (arith, ints)
 
 -- the first test of the limit
 has_begun : (f : Frame) (p : ℕ) (e : Left) (k limit : ℕ) (n : ℤ) (w : Way) (past : ℕ) (m : Memory) (b : ℕ)
-    → BeginsToCount f n k limit w past p → Ends f p m b e
+    → BeginsToCount f n k limit w past p → EndsWellAt f p m b e
     → HasBranched f p e (not (goes_for n (look m k) (look m limit))) w past m b
 has_begun f p e k limit (pos n) w past m b is runs =
     subst (λ t. HasBranched f p e t w past m b) (passed_up (look m k) (look m limit))
@@ -237,13 +237,13 @@ tested_by (negsuc by) t w l =
     ap (λ u. if u then int_le (number_at t l) (number_at t w) else int_le (number_at t w) (number_at t l)) (below_0 by)
     ∙ at_most_shifted l w (shift_of t)
 
--- a step that is not 0 is no fault
+-- a step that is not 0 is not a fault
 no_fault : (by : ℤ) (n : ℕ) → (by ≡ pos 0 → ⊥) → nonzero by n ≡ Ok (tt, n)
 no_fault (pos zero) n apart = absurd (apart refl)
 no_fault (pos (suc by)) n apart = refl
 no_fault (negsuc by) n apart = refl
 
-runs_on_is : (s : StandIns) (k : ℕ) (t : Kind) (w l by : ℤ) (tr : Tracked) (n : ℕ)
+runs_on_is : (s : StuckFaults) (k : ℕ) (t : Kind) (w l by : ℤ) (tr : Tracked) (n : ℕ)
     → slice_get tr.values k ≡ Some (datum_at t w)
     → marked_runs_on s k (number_at t l) by tr n ≡ Ok ((goes_for by w l, with_look tr k), n)
 unfolding marked_runs_on
@@ -252,9 +252,9 @@ runs_on_is s k t w l by tr n at =
     ((if int_lt by (pos 0) then int_le (number_at t l) r.0.number else int_le r.0.number (number_at t l)), r.1))) at
     ∙ ap (λ u. Ok ((u, with_look tr k), n)) (tested_by by t w l)
 
-step_on_is : (s : StandIns) (k : ℕ) (t : Kind) (w v by : ℤ) (tr : Tracked) (n : ℕ)
+step_on_is : (s : StuckFaults) (k : ℕ) (t : Kind) (w v by : ℤ) (tr : Tracked) (n : ℕ)
     → slice_get tr.values k ≡ Some (datum_at t w) → IsResult (in_range t (number_at t w +ℤ by)) t v
-    → marked_step_on s k by tr n ≡ Ok (again (written (with_look tr k) k (datum_at t v)), n)
+    → marked_step_on s k by tr n ≡ Ok (again (assigned_slot (with_look tr k) k (datum_at t v)), n)
 unfolding marked_step_on
 step_on_is s k t w v by tr n at result =
     ap (λ o. follow (attempt s (or_failure ill_typed (looked tr k o)) n)
@@ -262,7 +262,7 @@ step_on_is s k t w v by tr n at result =
     ∙ ap (λ r. marked_step_of s k (unless_fault r) (with_look tr k) n) result.value
     ∙ ap (λ r. follow r (λ u. give (again u))) (puts s (with_look tr k) k t w v n at result.held)
 
--- What scratch work leaves: words below a depth and all notes are as they were.
+-- The state after scratch work: words below a depth and all notes are as they were.
 pub record HasScratched (f : Frame) (d : ℕ) (m m' : Memory) : Type 0 where
   pub keeps : Keeps d m m'
   pub noted : (ns : List Noting) (marks : List Mark) → IsNoted f ns marks m → IsNoted f ns marks m'
@@ -273,26 +273,26 @@ record HasOrdered (f : Frame) (p : ℕ) (e : Left) (x y : ℤ) (d : ℕ) (m : Me
   scratched : HasScratched f d m memory
   lower : look memory d ≡ x
   upper : look memory (suc d) ≡ y
-  ends : Ends f (suc (suc p)) memory b e
+  ends : EndsWellAt f (suc (suc p)) memory b e
 
 -- one word or another was assigned to a temporary
-selected : (go : Bool) (m : Memory) (c y z : ℕ) → look m c ≡ word_of_truth go
+selected : (go : Bool) (m : Memory) (c y z : ℕ) → look m c ≡ bool_word go
     → (if int_eq (look m c) (pos 0) then look m z else look m y) ≡ chosen go (look m y) (look m z)
 selected go m c y z is =
     ap (λ w. if int_eq w (pos 0) then look m z else look m y) is ∙ by_word go (look m y) (look m z)
 
 module _ (f : Frame) (p : ℕ) (e : Left) (below k limit d : ℕ) (turned : Bool) (m : Memory) (b : ℕ)
     (deep : first_temporary f ≤ d) (below_low : below < d) (k_low : k < d) (limit_low : limit < d)
-    (long : length m.words ≡ f.size) (tells : look m below ≡ word_of_truth turned)
+    (long : length m.words ≡ f.size) (tells : look m below ≡ bool_word turned)
   where
-    has_ordered : AreOrdered f below k limit d p → Ends f p m b e
+    has_ordered : AreOrdered f below k limit d p → EndsWellAt f p m b e
         → HasOrdered f p e (chosen turned (look m limit) (look m k)) (chosen turned (look m k) (look m limit)) d m b
     has_ordered is runs =
         let there = is.there in
         let x = chosen turned (look m limit) (look m k) in
         let y = chosen turned (look m k) (look m limit) in
         let m1 = with_word m d x in
-        let one = subst (λ w. Ends f (suc p) (with_word m d w) b e) (selected turned m below limit k tells)
+        let one = subst (λ w. EndsWellAt f (suc p) (with_word m d w) b e) (selected turned m below limit k tells)
         (stepped f p e m b _ runs is.first) in
         let keeps1 = keeps_below d m d x (omega arith) in
         let tells1 = keeps_word d m m1 below keeps1 below_low ∙ tells in
@@ -300,7 +300,7 @@ module _ (f : Frame) (p : ℕ) (e : Left) (below k limit d : ℕ) (turned : Bool
         selected turned m1 below k limit tells1
         ∙ ap₂ (chosen turned) (keeps_word d m m1 k keeps1 k_low) (keeps_word d m m1 limit keeps1 limit_low) in
         let m2 = with_word m1 (suc d) y in
-        let two = subst (λ w. Ends f (suc (suc p)) (with_word m1 (suc d) w) b e) second
+        let two = subst (λ w. EndsWellAt f (suc (suc p)) (with_word m1 (suc d) w) b e) second
         (stepped f (suc p) e m1 b _ one is.second) in
         let keeps2 = keeps_below (suc d) m1 (suc d) y (omega arith) in
         let long1 = keeps1.long in record {
@@ -315,29 +315,29 @@ module _ (f : Frame) (p : ℕ) (e : Left) (below k limit d : ℕ) (turned : Bool
           ends = two;
         }
 
--- the lesser one and the greater one where the loop goes on
+-- the lesser one and the greater one if the loop goes on
 ordered_for : (by v l : ℤ)
     → int_le (chosen (int_lt by (pos 0)) l v) (chosen (int_lt by (pos 0)) v l) ≡ goes_for by v l
 ordered_for (pos by) v l = ap (λ t. int_le (chosen t l v) (chosen t v l)) (above_0 by)
 ordered_for (negsuc by) v l = ap (λ t. int_le (chosen t l v) (chosen t v l)) (below_0 by)
 
--- what a FOR counts by, in a memory
+-- the step by which a FOR counts, in a memory
 abbrev pub Paces : Kind → Pace → ℤ → Memory → Type 0
 Paces t (Literal n) by m = (n ≡ by) × IsHeld (datum_at t n)
 Paces t (Words step below) by m =
     (number_at t (look m step) ≡ by)
-    × (IsHeld (datum_at t (look m step)) × (look m below ≡ word_of_truth (int_lt by (pos 0))))
+    × (IsHeld (datum_at t (look m step)) × (look m below ≡ bool_word (int_lt by (pos 0))))
 
 -- the words for that are below a depth, and no statement of the unit assigns them
-abbrev pub Stays : Frame → Site → ℕ → Type 0
+abbrev pub Stays : Frame → UnitValues → ℕ → Type 0
 Stays f s k = (j : ℕ) → j < length (kinds_of f s) → HasOwnWord f.window s j k → ⊥
 
-abbrev pub ArePacing : Frame → Site → Pace → ℕ → Type 0
+abbrev pub ArePacing : Frame → UnitValues → Pace → ℕ → Type 0
 ArePacing f s (Literal n) c = Unit {0}
 ArePacing f s (Words step below) c = ((step < c) × Stays f s step) × ((below < c) × Stays f s below)
 
 -- they are as they were
-paces_on : (f : Frame) (s : Site) (t : Kind) (pace : Pace) (by : ℤ) (c : ℕ) (m m' : Memory) → ArePacing f s pace c
+paces_on : (f : Frame) (s : UnitValues) (t : Kind) (pace : Pace) (by : ℤ) (c : ℕ) (m m' : Memory) → ArePacing f s pace c
     → Spares f s c m m' → Paces t pace by m → Paces t pace by m'
 paces_on f s t (Literal n) by c m m' are spares paces = paces
 paces_on f s t (Words step below) by c m m' are spares paces =
@@ -354,10 +354,10 @@ record HasBegun (f : Frame) (q : ℕ) (e : Left) (by v l : ℤ) (w : Way) (past 
 scratched_none : (f : Frame) (d : ℕ) (m : Memory) → HasScratched f d m m
 scratched_none f d m = record { keeps = keeps_all d m; noted = λ ns marks noted. noted }
 
-module _ (f : Frame) (s : Site) (e : Left) (t : Kind) (k limit d : ℕ) (by : ℤ) (w : Way) (past : ℕ) (m : Memory) (b : ℕ)
+module _ (f : Frame) (s : UnitValues) (e : Left) (t : Kind) (k limit d : ℕ) (by : ℤ) (w : Way) (past : ℕ) (m : Memory) (b : ℕ)
     (deep : first_temporary f ≤ d) (k_low : k < d) (limit_low : limit < d) (long : length m.words ≡ f.size) where
-  begun : (pace : Pace) (p q : ℕ) → ArePacing f s pace d → Paces t pace by m → Begins f pace k limit d w past p q
-      → Ends f p m b e → HasBegun f q e by (look m k) (look m limit) w past d m b
+  begun : (pace : Pace) (p q : ℕ) → ArePacing f s pace d → Paces t pace by m → LoopBegins f pace k limit d w past p q
+      → EndsWellAt f p m b e → HasBegun f q e by (look m k) (look m limit) w past d m b
   begun (Literal n) p q are paces is runs =
       subst (λ by. HasBegun f q e by (look m k) (look m limit) w past d m b) paces.0
       (subst (λ q. HasBegun f q e n (look m k) (look m limit) w past d m b) (sym is.0) (record {
@@ -373,7 +373,7 @@ module _ (f : Frame) (s : Site) (e : Left) (t : Kind) (k limit d : ℕ) (by : �
       let y = chosen turned v l in
       let o = has_ordered f p e below k limit d turned m b deep are.1.0 k_low limit_low long paces.1.1 is.0 runs in
       let went = has_branched f q e (int_lt (look o.memory (suc d)) (look o.memory d)) w past o.memory b
-      (stepped f q e o.memory b _ (subst (λ q. Ends f q o.memory b e) (sym is.1.0) o.ends) is.1.1) in
+      (stepped f q e o.memory b _ (subst (λ q. EndsWellAt f q o.memory b e) (sym is.1.0) o.ends) is.1.1) in
       let how : int_lt (look o.memory (suc d)) (look o.memory d) ≡ not (goes_for by v l) =
       ap₂ int_lt o.upper o.lower ∙ passed_up x y ∙ ap not (ordered_for by v l) in record {
         memory = o.memory;
@@ -394,16 +394,16 @@ pub record HasTurned (f : Frame) (q : ℕ) (e : Left) (t : Kind) (k : ℕ) (v by
 record HasAdded (f : Frame) (q : ℕ) (e : Left) (t : Kind) (k : ℕ) (v by : ℤ) (m : Memory) (b : ℕ) : Type 0 where
   word : ℤ
   result : IsResult (in_range t (number_at t v +ℤ by)) t word
-  ends : Ends f q (with_word m k word) b e
+  ends : EndsWellAt f q (with_word m k word) b e
 
-module _ (f : Frame) (s : Site) (ns : List Noting) (marks : List Mark) (e : Left) (t : Kind) (k limit d : ℕ) (by : ℤ)
+module _ (f : Frame) (s : UnitValues) (ns : List Noting) (marks : List Mark) (e : Left) (t : Kind) (k limit d : ℕ) (by : ℤ)
     (w : Way) (past : ℕ) (m : Memory) (b : ℕ) (deep : first_temporary f ≤ d) (k_low : k < d) (limit_low : limit < d)
     (inside : k < length m.words) (place : (k < length f.window) ⊎ (first_temporary f ≤ k))
     (other : (u : ℕ) → Stays f s u → u ≡ k → ⊥) (stays : Stays f s limit) (noted : IsNoted f ns marks m)
     (held : IsHeld (datum_at t (look m k)))
   where
     has_added : (step p q : ℕ) → number_at t (look m step) ≡ by → IsHeld (datum_at t (look m step))
-        → AddsStep f t k step p q → Ends f p m b e → HasAdded f q e t k (look m k) by m b
+        → AddsStep f t k step p q → EndsWellAt f p m b e → HasAdded f q e t k (look m k) by m b
     has_added step p q is_by small (inl is) runs =
         let done = has_computed f p e m b Add t k step k is.0.instr is.0.is held small
         (stepped f p e m b is.0.instr runs is.0.at) in
@@ -416,7 +416,7 @@ module _ (f : Frame) (s : Site) (ns : List Noting) (marks : List Mark) (e : Left
         let narrow = is.1.0.narrow in
         let v = look m k in
         let n = look m step in
-        let done = has_put f p e k (made op.Add signed.Lint v n) m b (stepped f p e m b _ runs is.0) in
+        let done = has_put f p e k (operator_result op.Add signed.Lint v n) m b (stepped f p e m b _ runs is.0) in
         let word = done.word in
         let sum : v +ℤ n ≡ word = made_number (v +ℤ n) word done.is in
         let m' = with_word m k word in
@@ -430,11 +430,11 @@ module _ (f : Frame) (s : Site) (ns : List Noting) (marks : List Mark) (e : Left
           result = subst (λ by. IsResult (in_range t (number_at t v +ℤ by)) t word)
               (sym (narrow_number t n narrow) ∙ is_by)
               (sum_within t v n word narrow sum (ap (holds t) (sym here) ∙ moved.held));
-          ends = subst (λ m. Ends f (suc (suc p)) m b e) itself moved.ends;
+          ends = subst (λ m. EndsWellAt f (suc (suc p)) m b e) itself moved.ends;
         })
 
     turned : (pace : Pace) (p q : ℕ) → ArePacing f s pace d → Paces t pace by m
-        → CountsBy f t pace k limit d w past p q → Ends f p m b e
+        → CountsBy f t pace k limit d w past p q → EndsWellAt f p m b e
         → HasTurned f q e t k (look m k) by (look m limit) w past d m b
     turned (Literal n) p q are paces is runs =
         let done = has_counted f ns marks p q e k limit n w past m b t inside place (other limit stays) noted is held
@@ -458,7 +458,7 @@ module _ (f : Frame) (s : Site) (ns : List Noting) (marks : List Mark) (e : Left
         let o = has_ordered f is.added e below k limit d go m1 b deep are.1.0 k_low limit_low long tells is.ordered
         done.ends in
         let went = has_branched f q e (int_le (look o.memory d) (look o.memory (suc d))) w past o.memory b
-        (stepped f q e o.memory b _ (subst (λ q. Ends f q o.memory b e) (sym is.behind) o.ends) is.tested) in
+        (stepped f q e o.memory b _ (subst (λ q. EndsWellAt f q o.memory b e) (sym is.behind) o.ends) is.tested) in
         let how : int_le (look o.memory d) (look o.memory (suc d)) ≡ goes_for by word (look m limit) =
         ap₂ int_le o.lower o.upper
         ∙ ordered_for by (look m1 k) (look m1 limit)
@@ -471,10 +471,10 @@ module _ (f : Frame) (s : Site) (ns : List Noting) (marks : List Mark) (e : Left
         }
 
 -- only a word that is not 0 is divided by itself
-not_nought : (x w : ℤ) → made op.Divide signed.Lint x x ≡ Some w → x ≡ pos 0 → ⊥
+not_nought : (x w : ℤ) → operator_result op.Divide signed.Lint x x ≡ Some w → x ≡ pos 0 → ⊥
 not_nought x w is nought =
     let none : None ≡ Some w =
-    subst (λ x. made op.Divide signed.Lint x x ≡ Some w) nought is in
+    subst (λ x. operator_result op.Divide signed.Lint x x ≡ Some w) nought is in
     absurd cc
 
 module _ (s : Setting) where
@@ -484,7 +484,7 @@ module _ (s : Setting) where
   step_is None by tr n is = ap (λ i. Ok ((i, tr), n)) (sym is)
   step_is (Some (constant l)) by tr n is =
       let value : marked_value (scope_of s) tr (constant l) n ≡ Ok ((is.value, tr), n) =
-      ap (λ r. follow (attempt s.stand_ins r n) (λ v. give (v, tr))) is.of_literal in
+      ap (λ r. follow (attempt s.stuck_faults r n) (λ v. give (v, tr))) is.of_literal in
       then_gives (marked_value (scope_of s) tr (constant l) n) (is.value, tr) n (λ r. give (r.0.number, r.1)) value
       ∙ ap (λ i. Ok ((i, tr), n)) is.number
   step_is (Some _) by tr n is = absurd is
@@ -503,9 +503,9 @@ module _ (s : Setting) where
     is : AreHeld s q memory tracked
     paces : Paces t pace by memory
     are : ArePacing s.frame s.site pace (inside pace d)
-    ends : Ends s.frame q.place memory left s.finish
+    ends : EndsWellAt s.frame q.place memory left s.finish
 
-  -- temporaries are no unit's
+  -- temporaries are not words of a unit
   temporary_stays : (d k : ℕ) → d ≤ k → IsSite s.frame s.site d → Stays s.frame s.site k
   temporary_stays d k le site j lt own =
       let there = within_there (kinds_of s.frame s.site) j lt in
@@ -524,7 +524,7 @@ module _ (s : Setting) where
       let there = r.temporary.there in
       let away : step ≡ below → ⊥ = λ same. omega arith in
       let v = look one.memory step in
-      let divided = has_put f r.last.place s.finish below (made op.Divide signed.Lint v v) one.memory one.left
+      let divided = has_put f r.last.place s.finish below (operator_result op.Divide signed.Lint v v) one.memory one.left
       (stepped f r.last.place s.finish one.memory one.left _ one.ends r.not_0) in
       let m1 = with_word one.memory below divided.word in
       let m2 = with_word m1 below (pos 0) in
@@ -538,15 +538,15 @@ module _ (s : Setting) where
       let step_there : look m2 step ≡ v =
       word_elsewhere m1 step below (pos 0) away ∙ word_elsewhere one.memory step below divided.word away in
       let nought : look m2 below ≡ pos 0 = word_here m1 below (pos 0) (omega arith) in
-      let w = word_of_truth (int_lt (look m2 step) (look m2 below)) in
+      let w = bool_word (int_lt (look m2 step) (look m2 below)) in
       let m3 = with_word m2 below w in
       let is3 = holds_temporary f s.site s.around r.last.noted m2 one.tracked is2 c site below w (omega arith) in
       let step_still : look m3 step ≡ v = word_elsewhere m2 step below w away ∙ step_there in
       let narrow = narrow_number t v r.narrow in
       let by = number_at t v in
-      let signs : look m3 below ≡ word_of_truth (int_lt by (pos 0)) =
+      let signs : look m3 below ≡ bool_word (int_lt by (pos 0)) =
       word_here m2 below w (omega arith)
-      ∙ ap₂ (λ x y. word_of_truth (int_lt x y)) (step_there ∙ sym narrow) nought in
+      ∙ ap₂ (λ x y. bool_word (int_lt x y)) (step_there ∙ sym narrow) nought in
       let not_0 = not_nought v divided.word divided.is in
       subst (λ q. HasPaced (Some x) t (Words step below) d p q m tr b) (sym r.is) (record {
         by = by;
@@ -600,7 +600,7 @@ module _ (s : Setting) where
   inside_deep (Words step below) d = omega arith
 
   module _ (a : Anchor) (start limit : SlotExpr) (step : Option SlotExpr) (d : ℕ) (e : Exits)
-      (body : Tracked → Run MarkedEnd) (Body : ℕ → Part) (p q : Point)
+      (body : Tracked → Run MarkedEnd) (Body : ℕ → CodeRelation) (p q : Point)
       (does_body : (c : ℕ) → Does s body c (record e { out = q }) (Body c))
       (r : IsFor s.frame s.site s.units Body a start limit step d p q) where
     abbrev z : MarkedScope
@@ -622,7 +622,7 @@ module _ (s : Setting) where
     deeper_site : IsSite s.frame s.site d → IsSite s.frame s.site c
     deeper_site site = let le = d_c in deeper s.frame s.site d c (omega arith) site
 
-    -- the control variable's word is none that stays
+    -- the control variable's word is not one that stays
     other : (u : ℕ) → Stays s.frame s.site u → u ≢ r.control
     other u stays is =
         stays k (there_within (kinds_of s.frame s.site) k t r.target)
@@ -630,10 +630,10 @@ module _ (s : Setting) where
 
     module _ (l by : ℤ) (are : ArePacing s.frame s.site r.pace c) where
       abbrev condition : Tracked → Run (Bool × Tracked)
-      condition = marked_runs_on s.stand_ins k (number_at t l) by
+      condition = marked_runs_on s.stuck_faults k (number_at t l) by
 
-      abbrev on_step : Tracked → Run (TurnOf Tracked)
-      on_step = marked_step_on s.stand_ins k by
+      abbrev on_step : Tracked → Run (IterationOf Tracked)
+      on_step = marked_step_on s.stuck_faults k by
 
       abbrev rounds : ℕ → Tracked → Run MarkedEnd
       rounds n = marked_turns n (marked_guarded condition body) on_step
@@ -641,7 +641,7 @@ module _ (s : Setting) where
       abbrev entered : ℕ → Bool → Tracked → Run MarkedEnd
       entered n = behind_test body on_step (rounds n)
 
-      -- what the words are that limit and step stand in
+      -- the words of limit and step have their values
       abbrev Governs : Memory → Type 0
       Governs m = (look m r.to ≡ l) × Paces t r.pace by m
 
@@ -651,13 +651,13 @@ module _ (s : Setting) where
         paces_on s.frame s.site t r.pace by c m m' are spares governs.1,
       )
 
-      -- the loop from the first statement of the body on, within so many further turns
+      -- the loop from the first statement of the body on, within n further turns
       abbrev Around : ℕ → Type 0
       Around n =
           From s d r.head (λ m tr b. Governs m → b + r.head.ahead ≤ n
           → HasRun s (entered n true) d e q m tr (b + r.head.ahead))
 
-      -- behind the body
+      -- after the body
       module _ (m : Memory) (us : Tracked) (rest : ℕ) (site : IsSite s.frame s.site d) (low : r.to < c)
           (governs : Governs m) (h : HasEnded s c (record e { out = q }) r.end m (goes_on us) rest)
         where
@@ -699,7 +699,7 @@ module _ (s : Setting) where
           after = count.memory
 
           abbrev stepped_to : Tracked
-          stepped_to = written (with_look us k) k (datum_at t count.word)
+          stepped_to = assigned_slot (with_look us k) k (datum_at t count.word)
 
           held_assigned : AreHeld s r.end assigned stepped_to
           held_assigned =
@@ -747,9 +747,9 @@ module _ (s : Setting) where
           onward n u at =
               ap (λ c. going_back on_step (rounds (suc n)) us c) at
               ∙ ap (λ o. follow o (marked_on (rounds (suc n))))
-              (step_on_is s.stand_ins k t here count.word by us u control_value.is count.result)
+              (step_on_is s.stuck_faults k t here count.word by us u control_value.is count.result)
               ∙ turn_is condition body on_step n stepped_to (with_look stepped_to k) u u (goes_for by count.word l)
-              (runs_on_is s.stand_ins k t count.word l by stepped_to u now_value)
+              (runs_on_is s.stuck_faults k t count.word l by stepped_to u now_value)
 
           -- the tick was paid
           paid : (go : Bool) → HasBranched s.frame r.foot s.finish go r.back r.after after h.left → 0 < rest
@@ -775,7 +775,7 @@ module _ (s : Setting) where
               (around after (with_look stepped_to k) left site
               (still_told s.frame s.site s.around r.end.noted after (with_look stepped_to k) held_looked r.head.noted
               r.again.noted)
-              (subst (λ i. Ends s.frame i after left s.finish) r.again.place b.1)
+              (subst (λ i. EndsWellAt s.frame i after left s.finish) r.again.place b.1)
               (governs_on h.memory after low spared_inside still) (omega arith))
           by_count n around le false goes b =
               let enough = b.0 in
@@ -791,7 +791,7 @@ module _ (s : Setting) where
               (nothing s (entered n false) d e q after (with_look stepped_to k) left (left + q.ahead) (left + q.ahead)
               (still_told s.frame s.site s.around r.end.noted after (with_look stepped_to k) held_looked q.noted
               r.behind.noted)
-              (subst (λ i. Ends s.frame i after left s.finish) r.behind.place b.1) refl refl (omega arith))
+              (subst (λ i. EndsWellAt s.frame i after left s.finish) r.behind.place b.1) refl refl (omega arith))
 
       around : r.to < c → (n : ℕ) → Around n
       around low zero m tr b site is runs governs le =
@@ -809,7 +809,7 @@ module _ (s : Setting) where
           count.ends))
           (does_body c r.head r.end r.body m tr b (deeper_site site) is runs)
 
-      -- the loop behind its first test
+      -- the loop after its first test
       begins : r.to < c → (n : ℕ) (go : Bool) (m : Memory) (tr : Tracked) (b : ℕ) → IsSite s.frame s.site d
           → AreHeld s r.test m tr → Governs m
           → HasBranched s.frame r.asked s.finish (not go) r.way r.past m b → b + r.test.ahead ≤ n
@@ -843,35 +843,35 @@ module _ (s : Setting) where
       unfolding marked_loop
       loop_is tr w n at =
           turn_is condition body on_step n tr (with_look tr k) n n (goes_for by w l)
-          (runs_on_is s.stand_ins k t w l by tr n at)
+          (runs_on_is s.stuck_faults k t w l by tr n at)
 
-    -- what is evaluated before the loop
+    -- the values that are evaluated before the loop
     counting : (tr tr1 tr2 tr3 : Tracked) (u u1 u2 u3 : ℕ) (v l by old : ℤ) → (by ≡ pos 0 → ⊥)
         → marked_value z tr start u ≡ Ok ((datum_at t v, tr1), u1)
         → marked_value z tr1 limit u1 ≡ Ok ((datum_at t l, tr2), u2)
         → marked_step z tr2 step u2 ≡ Ok ((by, tr3), u3)
         → slice_get tr3.values k ≡ Some (datum_at t old) → IsHeld (datum_at t v)
         → marked_counting z k start limit step body tr u
-        ≡ marked_loop (marked_guarded (marked_runs_on s.stand_ins k (number_at t l) by) body)
-        (marked_step_on s.stand_ins k by) (written tr3 k (datum_at t v)) u3
+        ≡ marked_loop (marked_guarded (marked_runs_on s.stuck_faults k (number_at t l) by) body)
+        (marked_step_on s.stuck_faults k by) (assigned_slot tr3 k (datum_at t v)) u3
     counting tr tr1 tr2 tr3 u u1 u2 u3 v l by old moves first second third at held =
         ap (λ o. follow o (λ i. λ b. follow (marked_value z i.1 limit b) (λ n. λ b. follow (marked_step z n.1 step b)
-        (λ e. λ b. follow (nonzero e.0 b) (λ _. λ b. follow (marked_put s.stand_ins e.1 k i.0 b)
-        (marked_loop (marked_guarded (marked_runs_on s.stand_ins k n.0.number e.0) body)
-        (marked_step_on s.stand_ins k e.0))))))) first
+        (λ e. λ b. follow (nonzero e.0 b) (λ _. λ b. follow (marked_put s.stuck_faults e.1 k i.0 b)
+        (marked_loop (marked_guarded (marked_runs_on s.stuck_faults k n.0.number e.0) body)
+        (marked_step_on s.stuck_faults k e.0))))))) first
         ∙ ap (λ o. follow o (λ n. λ b. follow (marked_step z n.1 step b)
-        (λ e. λ b. follow (nonzero e.0 b) (λ _. λ b. follow (marked_put s.stand_ins e.1 k (datum_at t v) b)
-        (marked_loop (marked_guarded (marked_runs_on s.stand_ins k n.0.number e.0) body)
-        (marked_step_on s.stand_ins k e.0)))))) second
+        (λ e. λ b. follow (nonzero e.0 b) (λ _. λ b. follow (marked_put s.stuck_faults e.1 k (datum_at t v) b)
+        (marked_loop (marked_guarded (marked_runs_on s.stuck_faults k n.0.number e.0) body)
+        (marked_step_on s.stuck_faults k e.0)))))) second
         ∙ ap (λ o. follow o (λ e. λ b. follow (nonzero e.0 b)
-        (λ _. λ b. follow (marked_put s.stand_ins e.1 k (datum_at t v) b)
-        (marked_loop (marked_guarded (marked_runs_on s.stand_ins k (number_at t l) e.0) body)
-        (marked_step_on s.stand_ins k e.0))))) third
-        ∙ ap (λ o. follow o (λ _. λ b. follow (marked_put s.stand_ins tr3 k (datum_at t v) b)
-        (marked_loop (marked_guarded (marked_runs_on s.stand_ins k (number_at t l) by) body)
-        (marked_step_on s.stand_ins k by)))) (no_fault by u3 moves)
-        ∙ ap (λ o. follow o (marked_loop (marked_guarded (marked_runs_on s.stand_ins k (number_at t l) by) body)
-        (marked_step_on s.stand_ins k by))) (puts s.stand_ins tr3 k t old v u3 at held)
+        (λ _. λ b. follow (marked_put s.stuck_faults e.1 k (datum_at t v) b)
+        (marked_loop (marked_guarded (marked_runs_on s.stuck_faults k (number_at t l) e.0) body)
+        (marked_step_on s.stuck_faults k e.0))))) third
+        ∙ ap (λ o. follow o (λ _. λ b. follow (marked_put s.stuck_faults tr3 k (datum_at t v) b)
+        (marked_loop (marked_guarded (marked_runs_on s.stuck_faults k (number_at t l) by) body)
+        (marked_step_on s.stuck_faults k by)))) (no_fault by u3 moves)
+        ∙ ap (λ o. follow o (marked_loop (marked_guarded (marked_runs_on s.stuck_faults k (number_at t l) by) body)
+        (marked_step_on s.stuck_faults k by))) (puts s.stuck_faults tr3 k t old v u3 at held)
 
     pub does_for : From s d p (λ m tr b. HasRun s (marked_counting z k start limit step body) d e q m tr (b + p.ahead))
     does_for m tr b site is runs =
@@ -897,7 +897,7 @@ module _ (s : Setting) where
         let second = two.gives ∙ ap (λ w. Ok ((datum_at t w, two.tracked), two.left + r.bounded.ahead)) (sym to_kept) in
         let old = own_value f s.site s.around r.move.noted three.memory three.tracked three.is d site k r.control t
         r.target r.own in
-        let us = written three.tracked k (datum_at t v) in
+        let us = assigned_slot three.tracked k (datum_at t v) in
         let m1 = with_word three.memory r.control v in
         let assigned = holds_assigned f s.site s.around r.move.noted three.memory three.tracked three.is d site k
         r.control t r.target r.own v held r.test.noted r.touches in
@@ -914,7 +914,7 @@ module _ (s : Setting) where
         let control_low = site_c.below k r.control t r.target (site.has k r.control r.own) in
         let begun = begun f s.site s.finish t r.control r.to c by r.way r.past m1 three.left site_c.deep control_low low
         assigned.noted.room.words r.pace r.test.place r.asked three.are governs1.1 r.tested
-        (subst (λ i. Ends f i m1 three.left s.finish) (sym place) moved) in
+        (subst (λ i. EndsWellAt f i m1 three.left s.finish) (sym place) moved) in
         let m2 = begun.memory in
         let spared2 = spares_kept f s.site c m1 m2 begun.scratched.keeps in
         let governs2 = governs_on l by three.are m1 m2 low spared2 governs1 in

@@ -6,10 +6,10 @@ use Rattle.st_types.specs.declared.kind.Kind.{Kind}
 use Rattle.std.specs.Prelude.{slice_get}
 use Rattle.st_types.specs.Values.{Datum, IsHeld}
 use Rattle.st_types.specs.Words.{datum_at}
-use Rattle.st_meaning.specs.Failures.{StandIns, ill_typed, or_failure}
+use Rattle.st_meaning.specs.Failures.{StuckFaults, ill_typed, or_failure}
 use Rattle.st_meaning.specs.Loops.{goes_on}
 use Rattle.st_meaning.specs.Ticks.{attempt, follow, give}
-use Rattle.machine_code.specs.Tracking.{Tracked, looked, written}
+use Rattle.machine_code.specs.Tracking.{Tracked, looked, assigned_slot}
 use Rattle.quick_code.specs.declared.quick_instr.QuickInstr.TheVariants.{Move}
 use Rattle.quick_code.specs.QuickSteps.{Memory, look, with_word}
 use Rattle.slot_trees.specs.SlotTrees.{Anchor, BlockCode, SlotArgument, copied, given, no_subscripts, place}
@@ -20,9 +20,9 @@ use Rattle.machine_code.specs.MarkedExecution.{marked_inputs, marked_invoking, m
 use Rattle.quick_trees.specs.declared.noting.Noting.{Noting}
 use Rattle.quick_trees.specs.Pieces.{AreElsewhere, Input}
 use Rattle.quick_trees.specs.Points.{Point}
-use Rattle.quick_trees.specs.QuickMemory.{Ends, Frame}
-use Rattle.quick_trees.specs.Sites.{IsWhole, Site, base_of, called, whole}
-use Rattle.quick_trees.specs.Standing.{Exits, InputsGiven, InputsRead, IsCopied, IsGiven, IsInvoked, OutputsCopied}
+use Rattle.quick_trees.specs.QuickMemory.{EndsWellAt, Frame}
+use Rattle.quick_trees.specs.UnitValues.{IsProgramOrBlock, UnitValues, base_of, called, whole}
+use Rattle.quick_trees.specs.TreeCode.{Exits, InputsGiven, InputsRead, IsCopied, IsGiven, IsInvoked, OutputsCopied}
 use Rattle.quick_trees.proofs.Stepping.{stepped}
 use Rattle.quick_trees.proofs.Memories.{Holds, IsSite, Keeps, Spares, deeper, holds_assigned, holds_looked, keeps_all}
 use Rattle.quick_trees.proofs.Memories.{keeps_both, keeps_word, own_value, spares_all, spares_both, spares_kept}
@@ -34,8 +34,8 @@ use Rattle.quick_trees.proofs.Testing.{kept_in}
 use Rattle.quick_trees.proofs.Running.{Does, has_noted, puts, spares_words}
 
 -- all slots of the layout, with their marks, are the values of a program and of each block
-pub whole_holds : (f : Frame) (s : Site) (at : ℕ) (around : Tracked) (ns : List Noting) (m : Memory) (tr : Tracked)
-    → IsWhole s → Holds f s around ns m tr → Holds f (whole at) around ns m tr
+pub whole_holds : (f : Frame) (s : UnitValues) (at : ℕ) (around : Tracked) (ns : List Noting) (m : Memory) (tr : Tracked)
+    → IsProgramOrBlock s → Holds f s around ns m tr → Holds f (whole at) around ns m tr
 whole_holds f (whole base) at around ns m tr is holds = record {
   noted = holds.noted;
   stays = holds.stays;
@@ -44,8 +44,8 @@ whole_holds f (whole base) at around ns m tr is holds = record {
 }
 whole_holds f (called kinds seats) at around ns m tr is holds = absurd is
 
-holds_whole : (f : Frame) (s : Site) (at : ℕ) (around : Tracked) (ns : List Noting) (m : Memory) (tr : Tracked)
-    → IsWhole s → Holds f (whole at) around ns m tr → Holds f s around ns m tr
+holds_whole : (f : Frame) (s : UnitValues) (at : ℕ) (around : Tracked) (ns : List Noting) (m : Memory) (tr : Tracked)
+    → IsProgramOrBlock s → Holds f (whole at) around ns m tr → Holds f s around ns m tr
 holds_whole f (whole base) at around ns m tr is holds = record {
   noted = holds.noted;
   stays = holds.stays;
@@ -54,7 +54,7 @@ holds_whole f (whole base) at around ns m tr is holds = record {
 }
 holds_whole f (called kinds seats) at around ns m tr is holds = absurd is
 
-spares_whole : (f : Frame) (s : Site) (at d : ℕ) (m n : Memory) → IsWhole s → Spares f (whole at) d m n
+spares_whole : (f : Frame) (s : UnitValues) (at d : ℕ) (m n : Memory) → IsProgramOrBlock s → Spares f (whole at) d m n
     → Spares f s d m n
 spares_whole f (whole base) at d m n is spares =
     record { long = spares.long; same = λ w lt not_own. spares.same w lt not_own }
@@ -101,7 +101,7 @@ module _ (s : Setting) where
     keeps : Keeps d m memory
     is : AreHeld s q memory tracked
     held : AreGivenIn memory inputs
-    ends : Ends s.frame q.place memory left s.finish
+    ends : EndsWellAt s.frame q.place memory left s.finish
 
   inputs_read : (arguments : List SlotArgument) (d : ℕ) (inputs : List Input) (p q : Point)
       → InputsRead s.frame s.site s.units arguments d inputs p q → From s d p (HaveInputs arguments d inputs p q)
@@ -170,25 +170,25 @@ module _ (s : Setting) where
     ahead : p.ahead ≡ q.ahead
     spares : Spares s.frame s.site d m memory
     is : AreHeld s q memory tracked
-    ends : Ends s.frame q.place memory b s.finish
+    ends : EndsWellAt s.frame q.place memory b s.finish
 
   -- a word was moved to a variable
   record HasGiven (k : ℕ) (t : Kind) (from to d : ℕ) (p q : Point) (m : Memory) (tr : Tracked) (b : ℕ) : Type 0 where
-    gives : (n : ℕ) → marked_put s.stand_ins tr k (datum_at t (look m from)) n
-        ≡ Ok (written tr k (datum_at t (look m from)), n)
+    gives : (n : ℕ) → marked_put s.stuck_faults tr k (datum_at t (look m from)) n
+        ≡ Ok (assigned_slot tr k (datum_at t (look m from)), n)
     ahead : p.ahead ≡ q.ahead
     spares : Spares s.frame s.site d m (with_word m to (look m from))
-    is : AreHeld s q (with_word m to (look m from)) (written tr k (datum_at t (look m from)))
-    ends : Ends s.frame q.place (with_word m to (look m from)) b s.finish
+    is : AreHeld s q (with_word m to (look m from)) (assigned_slot tr k (datum_at t (look m from)))
+    ends : EndsWellAt s.frame q.place (with_word m to (look m from)) b s.finish
 
   has_given : (k : ℕ) (t : Kind) (from to d : ℕ) (p q : Point) → IsGiven s.frame s.site s.units k t from to p q
       → (m : Memory) (tr : Tracked) (b : ℕ) → IsSite s.frame s.site d → AreHeld s p m tr
-      → IsHeld (datum_at t (look m from)) → Ends s.frame p.place m b s.finish → HasGiven k t from to d p q m tr b
+      → IsHeld (datum_at t (look m from)) → EndsWellAt s.frame p.place m b s.finish → HasGiven k t from to d p q m tr b
   has_given k t from to d p q r m tr b site of held runs =
       let w = look m from in
       let old = own_value s.frame s.site s.around p.noted m tr of d site k to t r.of_type r.own in
       subst (λ q. HasGiven k t from to d p q m tr b) (sym r.is) (record {
-        gives = λ n. puts s.stand_ins tr k t (look m to) w n old.is held;
+        gives = λ n. puts s.stuck_faults tr k t (look m to) w n old.is held;
         ahead = refl;
         spares = spares_own s.frame s.site d m (with_word m to w) k to t w r.of_type r.own refl;
         is = holds_assigned s.frame s.site s.around p.noted m tr of d site k to t r.of_type r.own w held q.noted
@@ -198,10 +198,10 @@ module _ (s : Setting) where
 
   inputs_given : (at : ℕ) (inputs : List Input) (d : ℕ) (p q : Point)
       → InputsGiven s.frame s.site s.units at inputs p q → (m : Memory) (tr : Tracked) (b : ℕ)
-      → IsSite s.frame s.site d → AreHeld s p m tr → AreGivenIn m inputs → Ends s.frame p.place m b s.finish
-      → HasDone (λ tr. marked_stored s.stand_ins at (given_in m inputs) tr) d p q m tr b
+      → IsSite s.frame s.site d → AreHeld s p m tr → AreGivenIn m inputs → EndsWellAt s.frame p.place m b s.finish
+      → HasDone (λ tr. marked_stored s.stuck_faults at (given_in m inputs) tr) d p q m tr b
   inputs_given at [] d p q is m tr b site of held runs =
-      subst (λ q. HasDone (λ tr. marked_stored s.stand_ins at [] tr) d p q m tr b) is (record {
+      subst (λ q. HasDone (λ tr. marked_stored s.stuck_faults at [] tr) d p q m tr b) is (record {
         memory = m;
         tracked = tr;
         gives = λ n. refl;
@@ -218,14 +218,14 @@ module _ (s : Setting) where
       let both = is.1.1 in
       let one = has_given k i.kind i.word to d p both.middle both.first m tr b site of held.0 runs in
       let m' = with_word m to w in
-      let more = inputs_given at inputs d both.middle q both.second m' (written tr k v) b site one.is
+      let more = inputs_given at inputs d both.middle q both.second m' (assigned_slot tr k v) b site one.is
       (held_still m to w inputs is.1.0 held.1) one.ends in
       record {
         memory = more.memory;
         tracked = more.tracked;
-        gives = λ n. then_gives (marked_put s.stand_ins tr k v n) (written tr k v) n
-            (λ us. marked_stored s.stand_ins at (given_in m inputs) us) (one.gives n)
-            ∙ ap (λ xs. marked_stored s.stand_ins at xs (written tr k v) n) (sym (given_still m to w inputs is.1.0))
+        gives = λ n. then_gives (marked_put s.stuck_faults tr k v n) (assigned_slot tr k v) n
+            (λ us. marked_stored s.stuck_faults at (given_in m inputs) us) (one.gives n)
+            ∙ ap (λ xs. marked_stored s.stuck_faults at xs (assigned_slot tr k v) n) (sym (given_still m to w inputs is.1.0))
             ∙ more.gives n;
         ahead = one.ahead ∙ more.ahead;
         spares = spares_both s.frame s.site d d m m' more.memory (omega arith) one.spares more.spares;
@@ -234,23 +234,23 @@ module _ (s : Setting) where
       }
 
   -- a slot is looked up
-  looks : (t : StandIns) (tr : Tracked) (k : ℕ) (v : Datum) (n : ℕ) → slice_get tr.values k ≡ Some v
+  looks : (t : StuckFaults) (tr : Tracked) (k : ℕ) (v : Datum) (n : ℕ) → slice_get tr.values k ≡ Some v
       → marked_look t ill_typed tr k n ≡ Ok ((v, with_look tr k), n)
   looks t tr k v n at = ap (λ o. attempt t (or_failure ill_typed (looked tr k o)) n) at
 
   -- A slot was looked up, and moved to a variable.
   record HasCopied (k j d : ℕ) (p q : Point) (m : Memory) (tr : Tracked) (b : ℕ) : Type 0 where
     value : Datum
-    seen : (n : ℕ) → marked_look s.stand_ins ill_typed tr k n ≡ Ok ((value, with_look tr k), n)
-    puts : (n : ℕ) → marked_put s.stand_ins (with_look tr k) j value n ≡ Ok (written (with_look tr k) j value, n)
+    seen : (n : ℕ) → marked_look s.stuck_faults ill_typed tr k n ≡ Ok ((value, with_look tr k), n)
+    puts : (n : ℕ) → marked_put s.stuck_faults (with_look tr k) j value n ≡ Ok (assigned_slot (with_look tr k) j value, n)
     memory : Memory
     ahead : p.ahead ≡ q.ahead
     spares : Spares s.frame s.site d m memory
-    is : AreHeld s q memory (written (with_look tr k) j value)
-    ends : Ends s.frame q.place memory b s.finish
+    is : AreHeld s q memory (assigned_slot (with_look tr k) j value)
+    ends : EndsWellAt s.frame q.place memory b s.finish
 
   has_copied : (k j d : ℕ) (p q : Point) → IsCopied s.frame s.site s.units k j p q → (m : Memory) (tr : Tracked) (b : ℕ)
-      → IsSite s.frame s.site d → AreHeld s p m tr → Ends s.frame p.place m b s.finish → HasCopied k j d p q m tr b
+      → IsSite s.frame s.site d → AreHeld s p m tr → EndsWellAt s.frame p.place m b s.finish → HasCopied k j d p q m tr b
   has_copied k j d p q r m tr b site of runs =
       let old = of.values k r.word r.kind r.looks.of_type r.looks.has in
       let us = with_look tr k in
@@ -259,10 +259,10 @@ module _ (s : Setting) where
       in
       let place = ap (λ (p : Point). p.place) r.looks.is in
       let one = has_given j r.kind r.word r.to d r.looked q r.gives m us b site held old.held
-      (subst (λ i. Ends s.frame i m b s.finish) (sym place) runs) in
+      (subst (λ i. EndsWellAt s.frame i m b s.finish) (sym place) runs) in
       record {
         value = datum_at r.kind (look m r.word);
-        seen = λ n. looks s.stand_ins tr k (datum_at r.kind (look m r.word)) n old.is;
+        seen = λ n. looks s.stuck_faults tr k (datum_at r.kind (look m r.word)) n old.is;
         puts = one.gives;
         memory = with_word m r.to (look m r.word);
         ahead = sym (ap (λ (p : Point). p.ahead) r.looks.is) ∙ one.ahead;
@@ -273,7 +273,7 @@ module _ (s : Setting) where
 
   outputs_copied : (at : ℕ) (arguments : List SlotArgument) (d : ℕ) (p q : Point)
       → OutputsCopied s.frame s.site s.units at arguments p q → (m : Memory) (tr : Tracked) (b : ℕ)
-      → IsSite s.frame s.site d → AreHeld s p m tr → Ends s.frame p.place m b s.finish
+      → IsSite s.frame s.site d → AreHeld s p m tr → EndsWellAt s.frame p.place m b s.finish
       → HasDone (marked_outputs z at arguments) d p q m tr b
   outputs_copied at [] d p q is m tr b site of runs =
       subst (λ q. HasDone (marked_outputs z at []) d p q m tr b) is (record {
@@ -301,15 +301,15 @@ module _ (s : Setting) where
       let j = slot_at (base_of s.site) a in
       let one = has_copied k j d is.middle is.second.middle is.second.first n.memory tr b site n.is n.ends in
       let us = with_look tr k in
-      let vs = written us j one.value in
+      let vs = assigned_slot us j one.value in
       let more = outputs_copied at rest d is.second.middle q is.second.second one.memory vs b site one.is one.ends in
       record {
         memory = more.memory;
         tracked = more.tracked;
-        gives = λ u. then_gives (marked_look s.stand_ins ill_typed tr k u) (one.value, us) u
+        gives = λ u. then_gives (marked_look s.stuck_faults ill_typed tr k u) (one.value, us) u
             (λ r. λ n. follow (marked_place z r.1 (place a no_subscripts) n)
-            (λ l. λ n. follow (marked_put s.stand_ins l.1 l.0 r.0 n) (marked_outputs z at rest))) (one.seen u)
-            ∙ then_gives (marked_put s.stand_ins us j one.value u) vs u (marked_outputs z at rest) (one.puts u)
+            (λ l. λ n. follow (marked_put s.stuck_faults l.1 l.0 r.0 n) (marked_outputs z at rest))) (one.seen u)
+            ∙ then_gives (marked_put s.stuck_faults us j one.value u) vs u (marked_outputs z at rest) (one.puts u)
             ∙ more.gives u;
         ahead = n.ahead ∙ one.ahead ∙ more.ahead;
         spares = spares_both s.frame s.site d d m n.memory more.memory (omega arith)
@@ -346,10 +346,10 @@ module _ (s : Setting) where
         rest = then_left;
         gives = then_gives (marked_inputs z tr arguments (b + p.ahead)) (given_in one.memory r.inputs, one.tracked)
             given
-            (λ r. λ n. follow (marked_stored s.stand_ins at r.0 r.1 n)
+            (λ r. λ n. follow (marked_stored s.stuck_faults at r.0 r.1 n)
             (λ us. λ n. follow (s.means.blocks c at us n)
             (λ vs. λ n. follow (marked_outputs z at arguments vs n) (λ us. give (goes_on us))))) one.gives
-            ∙ then_gives (marked_stored s.stand_ins at (given_in one.memory r.inputs) one.tracked given) two.tracked
+            ∙ then_gives (marked_stored s.stuck_faults at (given_in one.memory r.inputs) one.tracked given) two.tracked
             given
             (λ us. λ n. follow (s.means.blocks c at us n)
             (λ vs. λ n. follow (marked_outputs z at arguments vs n) (λ us. give (goes_on us)))) (two.gives given)

@@ -2,18 +2,18 @@
 use Rattle.std.proofs.Common.{◌≡◌, ℕ, zero, suc, ◌+◌, ◌-◌, ◌<◌, ◌≤◌, Bool, true, false, Ok, refl, sym, ap, subst, ◌∙◌}
 use Rattle.std.proofs.Common.{arith}
 use Rattle.std.specs.Prelude.{if◌then◌else◌, not}
-use Rattle.st_meaning.specs.Loops.{TurnOf, again, exits, goes_on, over, returns, turned}
+use Rattle.st_meaning.specs.Loops.{IterationOf, again, exits, goes_on, over, returns, turned}
 use Rattle.st_meaning.specs.Ticks.{Run, follow, give}
 use Rattle.machine_code.specs.Tracking.{Tracked}
 use Rattle.quick_code.specs.QuickSteps.{Memory}
 use Rattle.slot_trees.specs.SlotTrees.{SlotExpr}
 use Rattle.machine_code.specs.MarkedEvaluation.{marked_truth}
-use Rattle.machine_code.specs.MarkedExecution.{MarkedEnd, marked_asked, marked_back, marked_guarded, marked_loop}
+use Rattle.machine_code.specs.MarkedExecution.{MarkedEnd, marked_tested, marked_back, marked_guarded, marked_loop}
 use Rattle.machine_code.specs.MarkedExecution.{marked_no_step, marked_turns, marked_until}
 use Rattle.quick_trees.specs.Pieces.{IsLoop, IsUntil}
-use Rattle.quick_trees.specs.Points.{Part, Point, along, past_branch}
-use Rattle.quick_trees.specs.QuickMemory.{Ends}
-use Rattle.quick_trees.specs.Standing.{Exits, IsTestedFor}
+use Rattle.quick_trees.specs.Points.{CodeRelation, Point, along, past_branch}
+use Rattle.quick_trees.specs.QuickMemory.{EndsWellAt}
+use Rattle.quick_trees.specs.TreeCode.{Exits, IsTestedFor}
 use Rattle.quick_trees.proofs.Stepping.{HasBranched}
 use Rattle.quick_trees.proofs.Memories.{IsSite, spares_both, spares_kept, spares_less, still_told}
 use Rattle.quick_trees.proofs.Settings.{Setting, scope_of}
@@ -23,20 +23,20 @@ use Rattle.quick_trees.proofs.Running.{Does, HasEnded, HasRun, ends_met, gives_s
 use Rattle.quick_trees.proofs.Running.{spares_words}
 use Rattle.quick_trees.proofs.Memories.{keeps_all}
 
--- a turn behind its condition, what comes behind a turn, and the way back
-abbrev pub in_body : (Tracked → Run MarkedEnd) → Bool → Tracked → Run (TurnOf Tracked)
+-- a turn after its condition, the rest after a turn, and the way back
+abbrev pub in_body : (Tracked → Run MarkedEnd) → Bool → Tracked → Run (IterationOf Tracked)
 in_body body go us = if go then (λ b. follow (body us b) (λ e. give (turned e))) else give (over (goes_on us))
 
-abbrev pub behind_test : (Tracked → Run MarkedEnd) → (Tracked → Run (TurnOf Tracked)) → (Tracked → Run MarkedEnd) → Bool
+abbrev pub behind_test : (Tracked → Run MarkedEnd) → (Tracked → Run (IterationOf Tracked)) → (Tracked → Run MarkedEnd) → Bool
     → Tracked → Run MarkedEnd
 behind_test body step next go us = λ b. follow (in_body body go us b) (marked_back step next)
 
-abbrev pub going_back : (Tracked → Run (TurnOf Tracked)) → (Tracked → Run MarkedEnd) → Tracked → Run MarkedEnd
+abbrev pub going_back : (Tracked → Run (IterationOf Tracked)) → (Tracked → Run MarkedEnd) → Tracked → Run MarkedEnd
 going_back step next us = marked_back step next (again us)
 
 -- a turn whose condition holds or not
 pub turn_is : (condition : Tracked → Run (Bool × Tracked)) (body : Tracked → Run MarkedEnd)
-    (step : Tracked → Run (TurnOf Tracked)) (n : ℕ) (tr us : Tracked) (t u : ℕ) (go : Bool)
+    (step : Tracked → Run (IterationOf Tracked)) (n : ℕ) (tr us : Tracked) (t u : ℕ) (go : Bool)
     → condition tr t ≡ Ok ((go, us), u)
     → marked_turns (suc n) (marked_guarded condition body) step tr t
     ≡ behind_test body step (marked_turns n (marked_guarded condition body) step) go us u
@@ -46,8 +46,8 @@ turn_is condition body step n tr us t u go so =
     (marked_back step (marked_turns n (marked_guarded condition body) step))) so
 
 module _ (s : Setting) where
-  -- what a body did in a loop: EXIT leaves the loop alone
-  module _ (body : Tracked → Run MarkedEnd) (step : Tracked → Run (TurnOf Tracked)) (next : Tracked → Run MarkedEnd)
+  -- the effect of a body in a loop: EXIT leaves the loop alone
+  module _ (body : Tracked → Run MarkedEnd) (step : Tracked → Run (IterationOf Tracked)) (next : Tracked → Run MarkedEnd)
       (d c : ℕ) (le : d ≤ c) (e : Exits) (end q : Point) (m : Memory) (tr : Tracked) (n : ℕ)
       (back : (us : Tracked) (rest : ℕ) → (h : HasEnded s c (record e { out = q }) end m (goes_on us) rest) → rest ≤ n
       → HasRun s (going_back step next) d e q h.memory us rest) where
@@ -92,7 +92,7 @@ module _ (s : Setting) where
     pub behind_body : HasRun s body c (record e { out = q }) end m tr n → HasRun s turn_on d e q m tr n
     behind_body h = by_end h.end h.rest h.gives h.fewer h.ended
 
-  module _ (x : SlotExpr) (d : ℕ) (e : Exits) (body : Tracked → Run MarkedEnd) (Body : Part) (p q : Point)
+  module _ (x : SlotExpr) (d : ℕ) (e : Exits) (body : Tracked → Run MarkedEnd) (Body : CodeRelation) (p q : Point)
       (does_body : Does s body d (record e { out = q }) Body)
       (r : IsLoop s.frame (λ when. IsTestedFor s.frame s.site s.units x when d) Body p q) where
     abbrev condition : Tracked → Run (Bool × Tracked)
@@ -101,13 +101,13 @@ module _ (s : Setting) where
     abbrev rounds : ℕ → Tracked → Run MarkedEnd
     rounds n = marked_turns n (marked_guarded condition body) marked_no_step
 
-    -- the loop from the first statement of the body on, within so many further turns
+    -- the loop from the first statement of the body on, within n further turns
     abbrev Around : ℕ → Type 0
     Around n =
         From s d r.head (λ m tr b. b + r.head.ahead ≤ n
         → HasRun s (behind_test body marked_no_step (rounds n) true) d e q m tr (b + r.head.ahead))
 
-    -- behind the test at the foot
+    -- after the test at the foot
     at_foot : (n : ℕ) → Around n → (go : Bool) (m : Memory) (tr : Tracked) (b : ℕ) → IsSite s.frame s.site d
         → AreHeld s r.foot m tr → HasBranched s.frame r.foot.place s.finish go r.back r.after m b
         → b + r.foot.ahead ≤ n
@@ -127,7 +127,7 @@ module _ (s : Setting) where
         (b + r.foot.ahead) (held_met s (past_branch r.foot r.after) q m tr r.behind is)
         (ends_met s (past_branch r.foot r.after) q m (b - r.after) r.behind h.1) refl same (omega arith)
 
-    -- behind the body
+    -- after the body
     back_again : (n : ℕ) → Around n → (m : Memory) (us : Tracked) (t rest : ℕ) → IsSite s.frame s.site d → t ≤ suc n
         → (h : HasEnded s d (record e { out = q }) r.end m (goes_on us) rest) → rest ≤ t
         → HasRun s (going_back marked_no_step (rounds (suc n))) d e q h.memory us rest
@@ -156,7 +156,7 @@ module _ (s : Setting) where
         (λ us rest h fewer. back_again n (around n) m us (b + r.head.ahead) rest site le h fewer)
         (does_body r.head r.end r.body m tr b site is runs)
 
-    -- the loop behind its first test
+    -- the loop after its first test
     begins : (n : ℕ) (go : Bool) (m : Memory) (tr : Tracked) (b : ℕ) → IsSite s.frame s.site d → AreHeld s r.test m tr
         → HasBranched s.frame r.test.place s.finish (not go) r.way r.past m b → b + r.test.ahead ≤ n
         → HasRun s (behind_test body marked_no_step (rounds n) go) d e q m tr (b + r.test.ahead)
@@ -195,8 +195,8 @@ module _ (s : Setting) where
         t.fewer (spares_kept s.frame s.site d m t.memory t.keeps)
         (begins (b + p.ahead) t.go t.memory t.tracked t.left site t.is t.ends t.fewer)
 
-  -- a turn of a REPEAT: what its body did, and then the condition
-  module _ (x : SlotExpr) (d : ℕ) (e : Exits) (body : Tracked → Run MarkedEnd) (Body : Part) (p q : Point)
+  -- a turn of a REPEAT: the effect of its body, and then the condition
+  module _ (x : SlotExpr) (d : ℕ) (e : Exits) (body : Tracked → Run MarkedEnd) (Body : CodeRelation) (p q : Point)
       (does_body : Does s body d (record e { out = q }) Body)
       (r : IsUntil s.frame (λ when. IsTestedFor s.frame s.site s.units x when d) Body p q) where
     abbrev stop : Tracked → Run (Bool × Tracked)
@@ -205,9 +205,9 @@ module _ (s : Setting) where
     abbrev turns_of : ℕ → Tracked → Run MarkedEnd
     turns_of n = marked_turns n (marked_until body stop) marked_no_step
 
-    -- behind the body
+    -- after the body
     abbrev asking : ℕ → MarkedEnd → Run MarkedEnd
-    asking n o = λ b. follow (marked_asked stop o b) (marked_back marked_no_step (turns_of n))
+    asking n o = λ b. follow (marked_tested stop o b) (marked_back marked_no_step (turns_of n))
 
     abbrev Repeats : ℕ → Type 0
     Repeats n = From s d r.head (λ m tr b. b + r.head.ahead < n → HasRun s (turns_of n) d e q m tr (b + r.head.ahead))
@@ -216,9 +216,9 @@ module _ (s : Setting) where
         → turns_of (suc n) tr t ≡ asking n o rest
     unfolding marked_turns marked_until
     body_is n tr t rest o gives =
-        ap (λ o. follow (follow o (marked_asked stop)) (marked_back marked_no_step (turns_of n))) gives
+        ap (λ o. follow (follow o (marked_tested stop)) (marked_back marked_no_step (turns_of n))) gives
 
-    -- behind the condition
+    -- after the condition
     abbrev answered : ℕ → Bool → Tracked → Run MarkedEnd
     answered n go us =
         λ b. follow (give (if go then over (goes_on us) else again us) b) (marked_back marked_no_step (turns_of n))
@@ -242,7 +242,7 @@ module _ (s : Setting) where
         (ap (λ u. answered n false tr u) at) (omega arith)
         (spares_kept s.frame s.site d m m (keeps_all d m))
         (repeats m tr rest site (still_told s.frame s.site s.around r.foot.noted m tr is r.head.noted r.again.noted)
-        (subst (λ i. Ends s.frame i m rest s.finish) r.again.place h.1) (omega arith))
+        (subst (λ i. EndsWellAt s.frame i m rest s.finish) r.again.place h.1) (omega arith))
 
     by_body : (n : ℕ) → Repeats n → (m : Memory) (tr : Tracked) (t : ℕ) → IsSite s.frame s.site d → t < suc n
         → (o : MarkedEnd) (rest : ℕ) → body tr t ≡ Ok (o, rest) → rest ≤ t

@@ -7,17 +7,17 @@ use Rattle.st_types.specs.declared.kind.Kind.{Kind}
 use Rattle.st_types.specs.Values.{Datum, IsHeld}
 use Rattle.st_types.specs.Words.{datum_at}
 use Rattle.machine_code.specs.declared.mark.Mark.{Mark}
-use Rattle.machine_code.specs.Tracking.{Tracked, seen, with_mark, written}
+use Rattle.machine_code.specs.Tracking.{Tracked, seen, with_mark, assigned_slot}
 use Rattle.quick_code.specs.QuickSteps.{Memory, look, note, noted_read, noted_written, or_none, with_word}
 use Rattle.quick_code.specs.Words.{or_zero, word_at}
 use Rattle.quick_trees.specs.declared.noting.Noting.{Noting}
 use Rattle.quick_trees.specs.declared.noting.Noting.TheVariants.{Exact}
-use Rattle.quick_trees.specs.Notes.{AreTrueOf, Changes, Tells, at_assignment, at_look, with_assignment_ahead}
+use Rattle.quick_trees.specs.Notes.{AreTrueOf, NoteChanges, Implies, at_assignment, at_look, with_assignment_ahead}
 use Rattle.quick_trees.specs.Notes.{with_look_ahead}
 use Rattle.quick_trees.specs.QuickMemory.{Frame, IsRoom, first_temporary}
-use Rattle.quick_trees.specs.Sites.{HasOwnWord, HasWord, IsExact, IsValueAt, Site, Touches, called}
-use Rattle.quick_trees.specs.Sites.{kinds_of, whole}
-use Rattle.quick_trees.specs.Standing.{IsAssignedAt}
+use Rattle.quick_trees.specs.UnitValues.{HasOwnWord, HasWord, IsExact, IsValueAt, UnitValues, Touches, called}
+use Rattle.quick_trees.specs.UnitValues.{kinds_of, whole}
+use Rattle.quick_trees.specs.TreeCode.{IsAssignedAt}
 use Rattle.quick_trees.proofs.Lists.{set_elsewhere, set_here, set_long, some_is, there_within}
 use Rattle.quick_trees.proofs.Notings.{assigned_by, assigned_to, assignment_noted, changed_few, is_assigned_then}
 use Rattle.quick_trees.proofs.Notings.{look_noted, looked_by, looked_up, noted_beyond, stays_assigned, told_all}
@@ -60,7 +60,7 @@ word_here m k w lt = ap or_zero (set_here m.words k w lt)
 pub word_elsewhere : (m : Memory) (j k : ℕ) (w : ℤ) → (j ≡ k → ⊥) → look (with_word m k w) j ≡ look m j
 word_elsewhere m j k w apart = ap or_zero (set_elsewhere m.words j k w apart)
 
--- The words and the notes are as many as they should be, the constants are there, and what is known of notes is true of
+-- The words and the notes are as many as they should be, the constants are there, and the facts known of notes are true of
 -- marks.
 pub record IsNoted (f : Frame) (ns : List Noting) (marks : List Mark) (m : Memory) : Type 0 where
   pub room : IsRoom f m
@@ -102,15 +102,15 @@ module _ (f : Frame) (ns : List Noting) (marks : List Mark) (m : Memory) (is : I
       not_constant (inl h) j lt e = omega arith
       not_constant (inr h) j lt e = omega arith
 
-  pub noted_told : (ns' : List Noting) → Tells ns ns' → IsNoted f ns' marks m
+  pub noted_told : (ns' : List Noting) → Implies ns ns' → IsNoted f ns' marks m
   noted_told ns' tell = record {
     room = is.room;
     few = (let fewer = told_few ns ns' tell in let few = is.few in omega arith);
     are = told_all f.window ns ns' marks m.notes tell is.are;
   }
 
-  -- a place that is told has a note
-  note_there : (change : Noting → Option Noting) (k : ℕ) (ns' : List Noting) → Changes change k ns ns'
+  -- a place of which a fact is known has a note
+  note_there : (change : Noting → Option Noting) (k : ℕ) (ns' : List Noting) → NoteChanges change k ns ns'
       → k < length m.notes
   note_there change k ns' c =
       let lt = there_within ns k c.old c.there in
@@ -119,7 +119,7 @@ module _ (f : Frame) (ns : List Noting) (marks : List Mark) (m : Memory) (is : I
       let room = is.room.room in
       omega arith
 
-  pub noted_look : (k : ℕ) (ns' : List Noting) → Changes with_look_ahead k ns ns'
+  pub noted_look : (k : ℕ) (ns' : List Noting) → NoteChanges with_look_ahead k ns ns'
       → IsNoted f ns' marks (note noted_read k m)
   noted_look k ns' c = record {
     room = room_with (slice_set m.notes k (noted_read (or_none (slice_get m.notes k))))
@@ -128,7 +128,7 @@ module _ (f : Frame) (ns : List Noting) (marks : List Mark) (m : Memory) (is : I
     are = look_noted f.window ns marks m.notes is.are k ns' (note_there with_look_ahead k ns' c) c;
   }
 
-  pub noted_assignment : (k : ℕ) (ns' : List Noting) → Changes with_assignment_ahead k ns ns'
+  pub noted_assignment : (k : ℕ) (ns' : List Noting) → NoteChanges with_assignment_ahead k ns ns'
       → IsNoted f ns' marks (note noted_written k m)
   noted_assignment k ns' c = record {
     room = room_with (slice_set m.notes k (noted_written (or_none (slice_get m.notes k))))
@@ -175,13 +175,13 @@ module _ (f : Frame) (ns : List Noting) (marks : List Mark) (m : Memory) (is : I
   }
 
 -- where a unit's own words are
-abbrev pub IsOwnPlace : Frame → Site → ℕ → Type 0
+abbrev pub IsOwnPlace : Frame → UnitValues → ℕ → Type 0
 IsOwnPlace f (whole base) w = w < length f.window
 IsOwnPlace f (called kinds seats) w = (first_temporary f ≤ w) × (w < f.size)
 
--- The values of a unit stand below a depth, from which on temporaries are free. Its own words are no other value's, and
--- no constants.
-pub record IsSite (f : Frame) (s : Site) (d : ℕ) : Type 0 where
+-- The values of a unit are below a depth, from which on temporaries are free. Its own words are not words of other values,
+-- and not constants.
+pub record IsSite (f : Frame) (s : UnitValues) (d : ℕ) : Type 0 where
   pub deep : first_temporary f ≤ d
   pub below : (k w : ℕ) (t : Kind) → slice_get (kinds_of f s) k ≡ Some t → HasWord f.window s k w → w < d
   pub has : (k w : ℕ) → HasOwnWord f.window s k w → HasWord f.window s k w
@@ -189,7 +189,7 @@ pub record IsSite (f : Frame) (s : Site) (d : ℕ) : Type 0 where
   pub apart : (k j w : ℕ) → HasOwnWord f.window s k w → HasWord f.window s j w → j ≡ k
   pub own : (k w : ℕ) (t : Kind) → slice_get (kinds_of f s) k ≡ Some t → HasOwnWord f.window s k w → IsOwnPlace f s w
 
-pub deeper : (f : Frame) (s : Site) (d c : ℕ) → d ≤ c → IsSite f s d → IsSite f s c
+pub deeper : (f : Frame) (s : UnitValues) (d c : ℕ) → d ≤ c → IsSite f s d → IsSite f s c
 deeper f s d c le is = record {
   deep = (let deep = is.deep in omega arith);
   below = λ k w t at has. (let lt = is.below k w t at has in omega arith);
@@ -210,35 +210,35 @@ whole_site f base window = record {
   own = λ k w t at has. there_within f.window w k has;
 }
 
--- an own word is no constant
-pub own_no_constant : (f : Frame) (s : Site) (w : ℕ) → IsOwnPlace f s w → (w < length f.window) ⊎ (first_temporary f ≤ w)
+-- an own word isn't a constant
+pub own_no_constant : (f : Frame) (s : UnitValues) (w : ℕ) → IsOwnPlace f s w → (w < length f.window) ⊎ (first_temporary f ≤ w)
 own_no_constant f (whole base) w h = inl h
 own_no_constant f (called kinds seats) w h = inr h.0
 
--- the marks that the notes tell of: those of a program's slots, or of the slots of what called a function
-abbrev pub marks_of : Site → Tracked → Tracked → List Mark
+-- the marks that the notes describe: those of a program's slots, or of the slots of a function's caller
+abbrev pub marks_of : UnitValues → Tracked → Tracked → List Mark
 marks_of (whole base) around t = t.marks
 marks_of (called kinds seats) around t = around.marks
 
 -- slots of a program that have no word are as they were when the run began
-abbrev pub Stays : Frame → Site → Tracked → Tracked → Type 0
+abbrev pub Stays : Frame → UnitValues → Tracked → Tracked → Type 0
 Stays f (whole base) around t = StaysOutside f.window around t
 Stays f (called kinds seats) around t = Unit {0}
 
--- The words of a run are the values of a unit, and what is known of the notes is true of the marks. Around a function
--- are the slots of what called it; around a program are all slots as they were when the run began.
-pub record Holds (f : Frame) (s : Site) (around : Tracked) (ns : List Noting) (m : Memory) (t : Tracked) : Type 0 where
+-- The words of a run are the values of a unit, and the facts known of the notes are true of the marks. Around a function are
+-- the slots of its caller; around a program are all slots as they were when the run began.
+pub record Holds (f : Frame) (s : UnitValues) (around : Tracked) (ns : List Noting) (m : Memory) (t : Tracked) : Type 0 where
   pub noted : IsNoted f ns (marks_of s around t) m
   pub stays : Stays f s around t
   pub long : length t.values ≡ length (kinds_of f s)
   pub values : (k w : ℕ) (kind : Kind) → slice_get (kinds_of f s) k ≡ Some kind → HasWord f.window s k w
       → IsValueAt m t.values kind k w
 
--- the slot is marked where the program looks it up
+-- the slot is marked when the program looks it up
 abbrev pub with_look : Tracked → ℕ → Tracked
 with_look t k = record { values = t.values; marks = with_mark seen t.marks k }
 
-looked_in : (f : Frame) (s : Site) (around : Tracked) (ns ns' : List Noting) (m : Memory) (t : Tracked) (k w : ℕ)
+looked_in : (f : Frame) (s : UnitValues) (around : Tracked) (ns ns' : List Noting) (m : Memory) (t : Tracked) (k w : ℕ)
     → IsNoted f ns (marks_of s around t) m → HasWord f.window s k w → Touches at_look s w ns ns'
     → IsNoted f ns' (marks_of s around (with_look t k)) m
 looked_in f (whole base) around ns ns' m t k w is has c = record {
@@ -248,9 +248,9 @@ looked_in f (whole base) around ns ns' m t k w is has c = record {
 }
 looked_in f (called kinds seats) around ns ns' m t k w is has c = subst (λ ns. IsNoted f ns around.marks m) c is
 
-assigned_in : (f : Frame) (s : Site) (around : Tracked) (ns ns' : List Noting) (m : Memory) (t : Tracked) (k w : ℕ)
+assigned_in : (f : Frame) (s : UnitValues) (around : Tracked) (ns ns' : List Noting) (m : Memory) (t : Tracked) (k w : ℕ)
     (v : Datum) → IsNoted f ns (marks_of s around t) m → HasOwnWord f.window s k w → Touches at_assignment s w ns ns'
-    → IsNoted f ns' (marks_of s around (written t k v)) m
+    → IsNoted f ns' (marks_of s around (assigned_slot t k v)) m
 assigned_in f (whole base) around ns ns' m t k w v is own c = record {
   room = is.room;
   few = (let same = changed_few at_assignment w ns ns' c in let few = is.few in omega arith);
@@ -258,48 +258,48 @@ assigned_in f (whole base) around ns ns' m t k w v is own c = record {
 }
 assigned_in f (called kinds seats) around ns ns' m t k w v is own c = subst (λ ns. IsNoted f ns around.marks m) c is
 
-loaded_in : (f : Frame) (s : Site) (around : Tracked) (ns : List Noting) (m : Memory) (t : Tracked) (k w : ℕ)
+loaded_in : (f : Frame) (s : UnitValues) (around : Tracked) (ns : List Noting) (m : Memory) (t : Tracked) (k w : ℕ)
     → IsNoted f ns (marks_of s around t) m → HasOwnWord f.window s k w → IsOwnPlace f s w → IsExact s ns w
     → IsNoted f ns (marks_of s around (with_look t k)) (note noted_read w m)
 loaded_in f (whole base) around ns m t k w is own place exact = noted_loaded f ns t.marks m is w k own exact
 loaded_in f (called kinds seats) around ns m t k w is own place exact =
     noted_past f ns around.marks m is noted_read w (let far = place.0 in omega arith)
 
-stored_in : (f : Frame) (s : Site) (around : Tracked) (ns : List Noting) (m : Memory) (t : Tracked) (k w : ℕ)
+stored_in : (f : Frame) (s : UnitValues) (around : Tracked) (ns : List Noting) (m : Memory) (t : Tracked) (k w : ℕ)
     (v : Datum) → IsNoted f ns (marks_of s around t) m → HasOwnWord f.window s k w → IsOwnPlace f s w → IsExact s ns w
-    → IsNoted f ns (marks_of s around (written t k v)) (note noted_written w m)
+    → IsNoted f ns (marks_of s around (assigned_slot t k v)) (note noted_written w m)
 stored_in f (whole base) around ns m t k w v is own place exact = noted_stored f ns t.marks m is w k own exact
 stored_in f (called kinds seats) around ns m t k w v is own place exact =
     noted_past f ns around.marks m is noted_written w (let far = place.0 in omega arith)
 
 -- only slots that have words are looked up and assigned
-looked_outside : (f : Frame) (s : Site) (around t : Tracked) (k w : ℕ) → HasWord f.window s k w → Stays f s around t
+looked_outside : (f : Frame) (s : UnitValues) (around t : Tracked) (k w : ℕ) → HasWord f.window s k w → Stays f s around t
     → Stays f s around (with_look t k)
 looked_outside f (whole base) around t k w has stays = stays_looked f.window around t stays w k has
 looked_outside f (called kinds seats) around t k w has stays = tt
 
-written_outside : (f : Frame) (s : Site) (around t : Tracked) (k w : ℕ) (v : Datum) → HasOwnWord f.window s k w
-    → Stays f s around t → Stays f s around (written t k v)
+written_outside : (f : Frame) (s : UnitValues) (around t : Tracked) (k w : ℕ) (v : Datum) → HasOwnWord f.window s k w
+    → Stays f s around t → Stays f s around (assigned_slot t k v)
 written_outside f (whole base) around t k w v own stays = stays_written f.window around t stays w k own v
 written_outside f (called kinds seats) around t k w v own stays = tt
 
--- what is known to have been assigned may be looked up and assigned
-pub assigned_look : (s : Site) (k : ℕ) (ns : List Noting) → IsAssignedAt s k ns → Touches at_look s k ns ns
+-- a variable that is known to have been assigned may be looked up and assigned
+pub assigned_look : (s : UnitValues) (k : ℕ) (ns : List Noting) → IsAssignedAt s k ns → Touches at_look s k ns ns
 assigned_look (whole base) k ns is = stays_assigned at_look k ns refl is
 assigned_look (called kinds seats) k ns is = refl
 
-pub assigned_again : (s : Site) (k : ℕ) (ns : List Noting) → IsAssignedAt s k ns → Touches at_assignment s k ns ns
+pub assigned_again : (s : UnitValues) (k : ℕ) (ns : List Noting) → IsAssignedAt s k ns → Touches at_assignment s k ns ns
 assigned_again (whole base) k ns is = stays_assigned at_assignment k ns refl is
 assigned_again (called kinds seats) k ns is = refl
 
-pub assigned_then : (s : Site) (k : ℕ) (ns ns' : List Noting) → Touches at_assignment s k ns ns' → IsAssignedAt s k ns'
+pub assigned_then : (s : UnitValues) (k : ℕ) (ns ns' : List Noting) → Touches at_assignment s k ns ns' → IsAssignedAt s k ns'
 assigned_then (whole base) k ns ns' c = is_assigned_then k ns ns' c
 assigned_then (called kinds seats) k ns ns' c = tt
 
-module _ (f : Frame) (s : Site) (around : Tracked) (ns : List Noting) (m : Memory) (t : Tracked)
+module _ (f : Frame) (s : UnitValues) (around : Tracked) (ns : List Noting) (m : Memory) (t : Tracked)
     (is : Holds f s around ns m t) where
   -- less is known
-  pub still_told : (ns' : List Noting) → Tells ns ns' → Holds f s around ns' m t
+  pub still_told : (ns' : List Noting) → Implies ns ns' → Holds f s around ns' m t
   still_told ns' tell = record {
     noted = noted_told f ns (marks_of s around t) m is.noted ns' tell;
     stays = is.stays;
@@ -318,7 +318,7 @@ module _ (f : Frame) (s : Site) (around : Tracked) (ns : List Noting) (m : Memor
   }
 
   module _ (d : ℕ) (at_site : IsSite f s d) where
-    -- other words and notes, where words below the depth are kept
+    -- other words and notes, if words below the depth are kept
     pub holds_kept : (ns' : List Noting) (m' : Memory) → Keeps d m m' → IsNoted f ns' (marks_of s around t) m'
         → Holds f s around ns' m' t
     holds_kept ns' m' keeps noted = record {
@@ -346,7 +346,7 @@ module _ (f : Frame) (s : Site) (around : Tracked) (ns : List Noting) (m : Memor
       pub own_value : IsValueAt m t.values kind k w
       own_value = is.values k w kind target (at_site.has k w own)
 
-      inside : (s : Site) → IsOwnPlace f s w → w < length m.words
+      inside : (s : UnitValues) → IsOwnPlace f s w → w < length m.words
       inside (whole base) place =
           let words = is.noted.room.words in let room = is.noted.room.room in omega arith
       inside (called kinds seats) place = (let words = is.noted.room.words in let lt = place.1 in omega arith)
@@ -391,8 +391,8 @@ module _ (f : Frame) (s : Site) (around : Tracked) (ns : List Noting) (m : Memor
               held = subst (λ x. IsHeld (datum_at other x)) (sym word) old.held;
             }
 
-        pub holds_written : (ns' : List Noting) → IsNoted f ns' (marks_of s around (written t k (datum_at kind v))) m'
-            → Holds f s around ns' m' (written t k (datum_at kind v))
+        pub holds_written : (ns' : List Noting) → IsNoted f ns' (marks_of s around (assigned_slot t k (datum_at kind v))) m'
+            → Holds f s around ns' m' (assigned_slot t k (datum_at kind v))
         holds_written ns' noted = record {
           noted = noted;
           stays = written_outside f s around t k w (datum_at kind v) own is.stays;
@@ -402,19 +402,19 @@ module _ (f : Frame) (s : Site) (around : Tracked) (ns : List Noting) (m : Memor
 
       -- a variable is assigned
       pub holds_assigned : (v : ℤ) → IsHeld (datum_at kind v) → (ns' : List Noting) → Touches at_assignment s w ns ns'
-          → Holds f s around ns' (with_word m w v) (written t k (datum_at kind v))
+          → Holds f s around ns' (with_word m w v) (assigned_slot t k (datum_at kind v))
       holds_assigned v holds ns' c =
           holds_written v (with_word m w v) refl holds ns'
-          (noted_word f ns' (marks_of s around (written t k (datum_at kind v))) m
+          (noted_word f ns' (marks_of s around (assigned_slot t k (datum_at kind v))) m
           (assigned_in f s around ns ns' m t k w (datum_at kind v) is.noted own c) w v (own_no_constant f s w
           own_place))
 
       -- an element is assigned, and noted
       pub holds_stored : (v : ℤ) → IsHeld (datum_at kind v) → IsExact s ns w
-          → Holds f s around ns (with_word (note noted_written w m) w v) (written t k (datum_at kind v))
+          → Holds f s around ns (with_word (note noted_written w m) w v) (assigned_slot t k (datum_at kind v))
       holds_stored v holds exact =
           holds_written v (with_word (note noted_written w m) w v) refl holds ns
-          (noted_word f ns (marks_of s around (written t k (datum_at kind v))) (note noted_written w m)
+          (noted_word f ns (marks_of s around (assigned_slot t k (datum_at kind v))) (note noted_written w m)
           (stored_in f s around ns m t k w (datum_at kind v) is.noted own own_place exact) w v
           (own_no_constant f s w own_place))
 
@@ -428,12 +428,12 @@ module _ (f : Frame) (s : Site) (around : Tracked) (ns : List Noting) (m : Memor
       }
 
 -- The words of constants and of a unit's callers, and temporaries below a depth, were not changed: none but own words.
-pub record Spares (f : Frame) (s : Site) (d : ℕ) (m m' : Memory) : Type 0 where
+pub record Spares (f : Frame) (s : UnitValues) (d : ℕ) (m m' : Memory) : Type 0 where
   pub long : length m'.words ≡ length m.words
   pub same : (w : ℕ) → w < d → ((k : ℕ) → k < length (kinds_of f s) → HasOwnWord f.window s k w → ⊥)
       → slice_get m'.words w ≡ slice_get m.words w
 
-module _ (f : Frame) (s : Site) (d : ℕ) where
+module _ (f : Frame) (s : UnitValues) (d : ℕ) where
   pub spares_all : (m : Memory) → Spares f s d m m
   spares_all m = record { long = refl; same = λ w lt not_own. refl }
 

@@ -1,4 +1,4 @@
--- What is known of a slot's note stays true where a look or an assignment is noted, or done.
+-- A fact known of a slot's note stays true when a look or an assignment is noted, or done.
 use Rattle.std.proofs.Common.{◌≡◌, ◌≢◌, ℕ, zero, suc, ◌<◌, ◌≤◌, ◌==◌, Bool, true, false, List, length}
 use Rattle.std.proofs.Common.{Some, None, Option, refl, sym, ap, ◌∙◌, subst, arith}
 use Rattle.std.specs.Prelude.{slice_get, slice_set}
@@ -9,8 +9,8 @@ use Rattle.quick_code.specs.QuickSteps.{noted_read, noted_written, or_none}
 use Rattle.quick_trees.specs.declared.noting.Noting.{Noting}
 use Rattle.quick_trees.specs.declared.noting.Noting.TheVariants.{Exact, LookAhead, AssignmentAhead, BothAhead}
 use Rattle.quick_trees.specs.declared.noting.Noting.TheVariants.{Looked, LookedAssignmentAhead, Assigned}
-use Rattle.quick_trees.specs.Notes.{AreTrueOf, Changes, IsTouched, IsTrueOf, Tells, at_assignment, at_look, note_of}
-use Rattle.quick_trees.specs.Notes.{tells, with_assignment_ahead, with_look_ahead}
+use Rattle.quick_trees.specs.Notes.{AreTrueOf, NoteChanges, IsTouched, IsTrueOf, Implies, at_assignment, at_look, note_of}
+use Rattle.quick_trees.specs.Notes.{implies, with_assignment_ahead, with_look_ahead}
 use Rattle.quick_trees.proofs.Lists.{beyond, set_elsewhere, set_here, set_long, set_same, some_is}
 use Rattle.quick_trees.proofs.Lists.{there_within, within_there}
 use Rattle.quick_trees.proofs.Slots.{one_word}
@@ -117,8 +117,8 @@ true_with_assignment Looked n' x i e h =
 true_with_assignment LookedAssignmentAhead n' x i e h = absurd cc
 true_with_assignment Assigned n' x i e h = absurd cc
 
--- what is known tells the rest
-told : (n n' : Noting) (x : Mark) (i : ℕ) → tells n n' ≡ true → IsTrueOf n x i → IsTrueOf n' x i
+-- a known fact implies the rest
+told : (n n' : Noting) (x : Mark) (i : ℕ) → implies n n' ≡ true → IsTrueOf n x i → IsTrueOf n' x i
 told Exact Exact x i e h = h
 told LookAhead LookAhead x i e h = h
 told AssignmentAhead AssignmentAhead x i e h = h
@@ -165,7 +165,7 @@ module _ (g : Mark → Mark) (marks : List Mark) (k : ℕ) where
   pub other_mark : (j : ℕ) → (j ≡ k → ⊥) → slice_get (with_mark g marks k) j ≡ slice_get marks j
   other_mark j apart = by_other (slice_get marks k) j apart
 
--- What was known, and of one word's note and its slot's mark too, is known after changes at this word alone.
+-- Known facts stay true after changes at one word alone, if they are true of its note and its slot's mark.
 changed : (window : List ℕ) (w : ℕ) (ns ns' : List Noting) (marks marks' : List Mark) (notes notes' : List ℕ)
     → ((u : ℕ) → (u ≡ w → ⊥) → slice_get ns' u ≡ slice_get ns u)
     → ((u j : ℕ) → (u ≡ w → ⊥) → slice_get window u ≡ Some j → slice_get marks' j ≡ slice_get marks j)
@@ -189,8 +189,8 @@ changed window w ns ns' marks marks' notes notes' same_ns same_marks same_notes 
 
 module _ (window : List ℕ) (ns : List Noting) (marks : List Mark) (notes : List ℕ)
     (are : AreTrueOf window ns marks notes) (w : ℕ) where
-  -- what is known of a word that changes so
-  new_at : (change : Noting → Option Noting) (ns' : List Noting) (c : Changes change w ns ns') (n : Noting)
+  -- the fact known of a word that changes so
+  new_at : (change : Noting → Option Noting) (ns' : List Noting) (c : NoteChanges change w ns ns') (n : Noting)
       → slice_get ns' w ≡ Some n → change c.old ≡ Some n
   new_at change ns' c n at =
       c.is
@@ -198,7 +198,7 @@ module _ (window : List ℕ) (ns : List Noting) (marks : List Mark) (notes : Lis
       ∙ ap (λ l. slice_get l w) (sym c.rest)
       ∙ at
 
-  others : (change : Noting → Option Noting) (ns' : List Noting) (c : Changes change w ns ns') (u : ℕ) → (u ≡ w → ⊥)
+  others : (change : Noting → Option Noting) (ns' : List Noting) (c : NoteChanges change w ns ns') (u : ℕ) → (u ≡ w → ⊥)
       → slice_get ns' u ≡ slice_get ns u
   others change ns' c u apart = ap (λ l. slice_get l u) c.rest ∙ set_elsewhere ns u w c.new apart
 
@@ -212,7 +212,7 @@ module _ (window : List ℕ) (ns : List Noting) (marks : List Mark) (notes : Lis
 
     touched : (change : Noting → Option Noting) (g : Mark → Mark) (ns' : List Noting)
         → ((n n' : Noting) (x : Mark) (i : ℕ) → change n ≡ Some n' → IsTrueOf n x i → IsTrueOf n' (g x) i)
-        → Changes change w ns ns' → AreTrueOf window ns' (with_mark g marks k) notes
+        → NoteChanges change w ns ns' → AreTrueOf window ns' (with_mark g marks k) notes
     touched change g ns' keeps c =
         changed window w ns ns' marks (with_mark g marks k) notes notes (others change ns' c) (other_marks g)
         (λ u apart. refl) here are
@@ -226,11 +226,11 @@ module _ (window : List ℕ) (ns : List Noting) (marks : List Mark) (notes : Lis
             (keeps c.old n was.mark (or_none (slice_get notes w)) (new_at change ns' c n at)
             (are.each w k c.old was.mark slot c.there was.there))
 
-    pub looked_up : (ns' : List Noting) → Changes at_look w ns ns'
+    pub looked_up : (ns' : List Noting) → NoteChanges at_look w ns ns'
         → AreTrueOf window ns' (with_mark seen marks k) notes
     looked_up ns' c = touched at_look seen ns' true_at_look c
 
-    pub assigned_to : (ns' : List Noting) → Changes at_assignment w ns ns'
+    pub assigned_to : (ns' : List Noting) → NoteChanges at_assignment w ns ns'
         → AreTrueOf window ns' (with_mark assigned marks k) notes
     assigned_to ns' c = touched at_assignment assigned ns' true_at_assignment c
 
@@ -244,7 +244,7 @@ module _ (window : List ℕ) (ns : List Noting) (marks : List Mark) (notes : Lis
   -- an instruction notes something of the word
   noted_ahead : (change : Noting → Option Noting) (g : ℕ → ℕ) (ns' : List Noting)
       → ((n n' : Noting) (x : Mark) (i : ℕ) → change n ≡ Some n' → IsTrueOf n x i → IsTrueOf n' x (g i))
-      → w < length notes → Changes change w ns ns' → AreTrueOf window ns' marks (noted_by g)
+      → w < length notes → NoteChanges change w ns ns' → AreTrueOf window ns' marks (noted_by g)
   noted_ahead change g ns' keeps lt c =
       changed window w ns ns' marks marks notes (noted_by g) (others change ns' c) (λ u j apart at. refl)
       (λ u apart. set_elsewhere notes u w (g (or_none (slice_get notes w))) apart) here are
@@ -256,11 +256,11 @@ module _ (window : List ℕ) (ns : List Noting) (marks : List Mark) (notes : Lis
           (keeps c.old n x (or_none (slice_get notes w)) (new_at change ns' c n at)
           (are.each w k c.old x slot c.there mark))
 
-  pub look_noted : (ns' : List Noting) → w < length notes → Changes with_look_ahead w ns ns'
+  pub look_noted : (ns' : List Noting) → w < length notes → NoteChanges with_look_ahead w ns ns'
       → AreTrueOf window ns' marks (noted_by noted_read)
   look_noted ns' lt c = noted_ahead with_look_ahead noted_read ns' true_with_look lt c
 
-  pub assignment_noted : (ns' : List Noting) → w < length notes → Changes with_assignment_ahead w ns ns'
+  pub assignment_noted : (ns' : List Noting) → w < length notes → NoteChanges with_assignment_ahead w ns ns'
       → AreTrueOf window ns' marks (noted_by noted_written)
   assignment_noted ns' lt c = noted_ahead with_assignment_ahead noted_written ns' true_with_assignment lt c
 
@@ -290,7 +290,7 @@ module _ (window : List ℕ) (ns : List Noting) (marks : List Mark) (notes : Lis
         → AreTrueOf window ns (with_mark assigned marks k) (noted_by noted_written)
     assigned_by lt exact = noted_and_done noted_written assigned (λ x. written_note x.is_read x.is_assigned) lt exact
 
-  -- of words that are no slots nothing is known
+  -- nothing is known of words that aren't slots
   pub noted_beyond : (g : ℕ → ℕ) → length ns ≤ w → AreTrueOf window ns marks (noted_by g)
   noted_beyond g le =
       changed window w ns ns marks marks notes (noted_by g) (λ u apart. refl) (λ u j apart at. refl)
@@ -300,7 +300,7 @@ module _ (window : List ℕ) (ns : List Noting) (marks : List Mark) (notes : Lis
       none : {n : Noting} → None ≡ Some n → ⊥
       none e = cc
 
-pub told_all : (window : List ℕ) (ns ns' : List Noting) (marks : List Mark) (notes : List ℕ) → Tells ns ns'
+pub told_all : (window : List ℕ) (ns ns' : List Noting) (marks : List Mark) (notes : List ℕ) → Implies ns ns'
     → AreTrueOf window ns marks notes → AreTrueOf window ns' marks notes
 told_all window ns ns' marks notes tell are = record {
   each = λ w k n x slot at mark. (let m = tell.each w n at in
@@ -308,7 +308,7 @@ told_all window ns ns' marks notes tell are = record {
 }
 
 -- no more is known of the notes than before
-shorter : (n : ℕ) (ns ns' : List Noting) → length ns' ≡ n → Tells ns ns' → length ns' ≤ length ns
+shorter : (n : ℕ) (ns ns' : List Noting) → length ns' ≡ n → Implies ns ns' → length ns' ≤ length ns
 shorter zero ns ns' e tell = omega arith
 shorter (suc n) ns ns' e tell =
     let last = within_there ns' n (omega arith) in
@@ -316,16 +316,16 @@ shorter (suc n) ns ns' e tell =
     let lt = there_within ns n there.0 there.1.0 in
     omega arith
 
-pub told_few : (ns ns' : List Noting) → Tells ns ns' → length ns' ≤ length ns
+pub told_few : (ns ns' : List Noting) → Implies ns ns' → length ns' ≤ length ns
 told_few ns ns' tell = shorter (length ns') ns ns' refl tell
 
-pub changed_few : (change : Noting → Option Noting) (k : ℕ) (ns ns' : List Noting) → Changes change k ns ns'
+pub changed_few : (change : Noting → Option Noting) (k : ℕ) (ns ns' : List Noting) → NoteChanges change k ns ns'
     → length ns' ≡ length ns
 changed_few change k ns ns' c = ap length c.rest ∙ set_long ns k c.new
 
 -- a variable that was assigned may be looked up and assigned, and no more is known
 pub stays_assigned : (change : Noting → Option Noting) (k : ℕ) (ns : List Noting) → change Assigned ≡ Some Assigned
-    → slice_get ns k ≡ Some Assigned → Changes change k ns ns
+    → slice_get ns k ≡ Some Assigned → NoteChanges change k ns ns
 stays_assigned change k ns e at =
     record { old = Assigned; there = at; new = Assigned; is = e; rest = set_same ns k Assigned at }
 
@@ -339,14 +339,14 @@ result_assigned Looked n' e = absurd cc
 result_assigned LookedAssignmentAhead n' e = sym (some_is e)
 result_assigned Assigned n' e = sym (some_is e)
 
-pub is_assigned_then : (k : ℕ) (ns ns' : List Noting) → Changes at_assignment k ns ns' → slice_get ns' k ≡ Some Assigned
+pub is_assigned_then : (k : ℕ) (ns ns' : List Noting) → NoteChanges at_assignment k ns ns' → slice_get ns' k ≡ Some Assigned
 is_assigned_then k ns ns' c =
     ap (λ l. slice_get l k) c.rest
     ∙ set_here ns k c.new (there_within ns k c.old c.there)
     ∙ ap (λ n. Some n) (result_assigned c.old c.new c.is)
 
--- what tells that a variable was assigned is the same
-assigned_told : (n : Noting) → tells n Assigned ≡ true → n ≡ Assigned
+-- only `Assigned` implies `Assigned`
+assigned_told : (n : Noting) → implies n Assigned ≡ true → n ≡ Assigned
 assigned_told Exact e = absurd cc
 assigned_told LookAhead e = absurd cc
 assigned_told AssignmentAhead e = absurd cc

@@ -1,4 +1,4 @@
--- What instructions make of words is what operators make of the values.
+-- Instructions give for words what operators give for the values.
 use Rattle.std.proofs.Common.{◌≡◌, ℕ, suc, ◌-◌, ◌≤◌, ◌^◌, ◌*◌, ℤ, pos, negsuc, ◌+ℤ◌, ◌-ℤ◌, ◌*ℤ◌, ◌≤ℤ◌, Bool, true}
 use Rattle.std.proofs.Common.{false, Option, Some, None, Result, Ok, Err, refl, sym, ap, subst, ◌∙◌, arith, w64, w16}
 use Rattle.std.proofs.Common.{w32, ◌<ℤ◌, FitsSigned, mul-le-mul, zero, ◌<◌, ◌≢◌}
@@ -20,7 +20,7 @@ use Rattle.st_types.specs.declared.operator.BinaryOperator.TheVariants.{Or, Xor,
 use Rattle.st_types.specs.declared.operator.BinaryOperator.TheVariants.{LessOrEqual, GreaterOrEqual, Add, Subtract}
 use Rattle.st_types.specs.declared.operator.BinaryOperator.TheVariants.{Multiply, Divide, Modulo}
 use Rattle.st_types.specs.Kinds.{holds, greatest}
-use Rattle.st_types.specs.Values.{Datum, IsHeld, datum_of_truth, in_range}
+use Rattle.st_types.specs.Values.{Datum, IsHeld, bool_datum, in_range}
 use Rattle.st_types.specs.Words.{datum_at, number_at, shift_of}
 use Rattle.st_meaning.specs.Operators.{applied, quotient, remainder, apply_unary}
 use Rattle.quick_code.specs.declared.operation.Operation.{Operation}
@@ -35,15 +35,15 @@ use Rattle.quick_code.specs.declared.quick_instr.QuickInstr.TheVariants.{Multipl
 use Rattle.quick_code.specs.declared.quick_instr.QuickInstr.TheVariants.{SubtractInt, SubtractLint}
 use Rattle.std.specs.Int.RustNames.{int_rem}
 use Rattle.quick_code.specs.declared.quick_instr.QuickInstr.TheVariants as quick
-use Rattle.quick_code.specs.Words.{word_of_truth, difference, divided, kept, kind_of, made, product, sum}
+use Rattle.quick_code.specs.Words.{bool_word, difference, divided, kept, kind_of, operator_result, product, sum}
 use Rattle.quick_trees.specs.Instructions.{branch_for, branch_for_by, branch_unless_by, branch_when, branch_when_by}
-use Rattle.quick_trees.specs.Instructions.{instr_by, truth_for, branch_unless, by_dint, by_kind, instr_for}
+use Rattle.quick_trees.specs.Instructions.{instr_by, comparison_instr, branch_unless, by_dint, by_kind, instr_for}
 use Rattle.quick_trees.proofs.Bits.{and_is, bits_of, greatest_held, greatest_is, or_is, xor_is, xor_turns}
 use Rattle.st_types.specs.declared.operator.UnaryOperator.{UnaryOperator}
 use Rattle.st_types.specs.declared.operator.UnaryOperator.TheVariants.{Negate, Not}
 use Rattle.quick_code.specs.QuickRuns.{Left}
 use Rattle.quick_code.specs.QuickSteps.{Memory, act, look, put, with_word}
-use Rattle.quick_trees.specs.QuickMemory.{Ends, Frame}
+use Rattle.quick_trees.specs.QuickMemory.{EndsWellAt, Frame}
 use Rattle.quick_trees.proofs.Stepping.{Follows, HasBranched, has_branched, has_put}
 
 -- the words of a type with a sign are its numbers
@@ -126,7 +126,7 @@ pub record IsResult (r : Result Datum Fault) (t : Kind) (w : ℤ) : Type 0 where
   pub value : r ≡ Ok (datum_at t w)
   pub held : IsHeld (datum_at t w)
 
--- what is kept is the number, which the type has
+-- a word that is kept is the number, which the type has
 kept_is : (s : Signed) (z w : ℤ) → kept s z ≡ Some w → IsResult (in_range (kind_of s) z) (kind_of s) w
 kept_is s z w e = by_test (holds (kind_of s) z) refl e
   where
@@ -188,13 +188,13 @@ kept_same : (s : Signed) (z w : ℤ) (t : Bool) → (if t then Some z else None)
 kept_same s z w true e = cc
 kept_same s z w false e = absurd cc
 
--- what is kept is that number
+-- a word that is kept is that number
 pub made_number : (z w : ℤ) → kept signed.Lint z ≡ Some w → z ≡ w
 made_number z w e = kept_same signed.Lint z w (holds (kind_of signed.Lint) z) e
 
 -- a remainder in 64 bits is one in its type
-remainder_typed : (s : Signed) (x y w : ℤ) → IsWord s y → made op.Modulo signed.Lint x y ≡ Some w
-    → made op.Modulo s x y ≡ Some w
+remainder_typed : (s : Signed) (x y w : ℤ) → IsWord s y → operator_result op.Modulo signed.Lint x y ≡ Some w
+    → operator_result op.Modulo s x y ≡ Some w
 remainder_typed s x y w h e = by_test (int_eq y (pos 0)) refl e
   where
     by_test : (t : Bool) → int_eq y (pos 0) ≡ t → (if t then None else kept signed.Lint (int_rem x y)) ≡ Some w
@@ -230,7 +230,7 @@ some_is : {A : Type 0} {x y : A} → Some x ≡ Some y → y ≡ x
 some_is e = cc
 
 pub made_is : (o : BinaryOperator) (n : Operation) (s : Signed) (x y w : ℤ) → operation_of o ≡ Some n → IsWord s x
-    → IsWord s y → made n s x y ≡ Some w → IsResult (applied o (kind_of s) x y) (kind_of s) w
+    → IsWord s y → operator_result n s x y ≡ Some w → IsResult (applied o (kind_of s) x y) (kind_of s) w
 made_is Or n s x y w of f g e = absurd cc
 made_is Xor n s x y w of f g e = absurd cc
 made_is And n s x y w of f g e = absurd cc
@@ -241,19 +241,19 @@ made_is Greater n s x y w of f g e = absurd cc
 made_is LessOrEqual n s x y w of f g e = absurd cc
 made_is GreaterOrEqual n s x y w of f g e = absurd cc
 made_is Add n s x y w of f g e =
-    kept_is s (x +ℤ y) w (ap (kept s) (sym (sum_is s x y f g)) ∙ subst (λ n. made n s x y ≡ Some w) (some_is of) e)
+    kept_is s (x +ℤ y) w (ap (kept s) (sym (sum_is s x y f g)) ∙ subst (λ n. operator_result n s x y ≡ Some w) (some_is of) e)
 made_is Subtract n s x y w of f g e =
     kept_is s (x -ℤ y) w
-    (ap (kept s) (sym (difference_is s x y f g)) ∙ subst (λ n. made n s x y ≡ Some w) (some_is of) e)
+    (ap (kept s) (sym (difference_is s x y f g)) ∙ subst (λ n. operator_result n s x y ≡ Some w) (some_is of) e)
 made_is Multiply n s x y w of f g e =
     kept_is s (x *ℤ y) w
-    (ap (kept s) (sym (product_is s x y f g)) ∙ subst (λ n. made n s x y ≡ Some w) (some_is of) e)
+    (ap (kept s) (sym (product_is s x y f g)) ∙ subst (λ n. operator_result n s x y ≡ Some w) (some_is of) e)
 made_is Divide n s x y w of f g e =
-    divided_is s x y w (subst (λ n. made n s x y ≡ Some w) (some_is of) e)
+    divided_is s x y w (subst (λ n. operator_result n s x y ≡ Some w) (some_is of) e)
 made_is Modulo n s x y w of f g e =
-    remainder_of s x y w (subst (λ n. made n s x y ≡ Some w) (some_is of) e)
+    remainder_of s x y w (subst (λ n. operator_result n s x y ≡ Some w) (some_is of) e)
 
--- a word is what an operator makes of two numbers, for each type that has it
+-- a word is the result of an operator on two numbers, for each type that has it
 abbrev pub IsMadeOf : BinaryOperator → ℤ → ℤ → ℤ → Type 0
 IsMadeOf o x y w = (k : Kind) → holds k w ≡ true → applied o k x y ≡ Ok (record { kind = k; number = w })
 
@@ -286,7 +286,7 @@ chosen signed.Int a b c = a
 chosen signed.Dint a b c = b
 chosen signed.Lint a b c = c
 
--- a difference is the sum with the sign of the second number turned
+-- a difference is the sum with the second number negated
 negated_narrow : (x : ℤ) → IsNarrow x → IsNarrow (neg_ℤ x)
 negated_narrow x f = (let a = f.0 in let b = f.1 in (omega (arith, ints), omega (arith, ints)))
 
@@ -300,7 +300,7 @@ sum_turned signed.Dint x y f g =
     whole_sum x (neg_ℤ y) (dint_narrow x f) (negated_narrow y (dint_narrow y g)) ∙ with_sign_turned x y
 sum_turned signed.Lint x y f g = with_sign_turned x y
 
--- the words of a type are the numbers of so many bits
+-- the words of a type are the numbers of its bits
 int_fits : (x : ℤ) → IsWord signed.Int x → FitsSigned w16 x
 int_fits x h = grind (arith, ints)
 
@@ -329,8 +329,8 @@ above_none : (n : ℕ) → pos n ≢ pos 0 → pos 0 <ℤ pos n
 above_none n h = grind (arith, ints)
 
 -- a quotient in 64 bits is one in its type
-quotient_typed : (s : Signed) (x : ℤ) (n : ℕ) (w : ℤ) → IsWord s x → made op.Divide signed.Lint x (pos n) ≡ Some w
-    → made op.Divide s x (pos n) ≡ Some w
+quotient_typed : (s : Signed) (x : ℤ) (n : ℕ) (w : ℤ) → IsWord s x → operator_result op.Divide signed.Lint x (pos n) ≡ Some w
+    → operator_result op.Divide s x (pos n) ≡ Some w
 quotient_typed s x n w h e = by_test (int_eq (pos n) (pos 0)) refl e
   where
     by_test : (t : Bool) → int_eq (pos n) (pos 0) ≡ t
@@ -390,7 +390,7 @@ number_or_none (Err e) = pos 0
 same_number : (k : Kind) (x y : ℤ) → number_in k x ≡ number_in k y → x ≡ y
 same_number k x y e = ap number_or_none e
 
--- what is a LINT is a TIME
+-- a number that is a LINT is a TIME
 in_time : (z w : ℤ) (t : Bool) → (if t then number_in Lint z else Err Range) ≡ number_in Lint w
     → (if t then number_in Time z else Err Range) ≡ number_in Time w
 in_time z w true e = ap (number_in Time) (same_number Lint z w e)
@@ -402,7 +402,7 @@ quotient_in_time : (x y w : ℤ) (t : Bool)
 quotient_in_time x y w true e = absurd cc
 quotient_in_time x y w false e = in_time (int_div x y) (number_at Lint w) (holds Lint (int_div x y)) e
 
--- a number makes of TIME what it makes of LINT
+-- an operator on TIME gives the same number as on LINT
 time_as : (o : BinaryOperator) (n : Operation) (x y w : ℤ) → operation_of o ≡ Some n
     → IsResult (applied o Lint (number_at Lint x) (number_at Lint y)) Lint w
     → IsResult (applied o Time (number_at Time x) (number_at Time y)) Time w
@@ -457,19 +457,19 @@ module _ (f : Frame) (p : ℕ) (e : Left) (m : Memory) (b : ℕ) where
   pub record HasComputed (o : BinaryOperator) (t : Kind) (x y : ℤ) (to : ℕ) : Type 0 where
     pub word : ℤ
     pub result : IsResult (applied o t (number_at t x) (number_at t y)) t word
-    pub ends : Ends f (suc p) (with_word m to word) b e
+    pub ends : EndsWellAt f (suc p) (with_word m to word) b e
 
   -- The result of an operator on one word was assigned.
   pub record HasApplied (o : UnaryOperator) (t : Kind) (x : ℤ) (to : ℕ) : Type 0 where
     pub word : ℤ
     pub result : IsResult (apply_unary o (datum_at t x)) t word
-    pub ends : Ends f (suc p) (with_word m to word) b e
+    pub ends : EndsWellAt f (suc p) (with_word m to word) b e
 
   of_signed : (o : BinaryOperator) (n : Operation) (s : Signed) (x y : ℤ) (to : ℕ) → operation_of o ≡ Some n
       → IsHeld (datum_at (kind_of s) x) → IsHeld (datum_at (kind_of s) y)
-      → Follows f p e (put to (made n s x y) m b) → HasComputed o (kind_of s) x y to
+      → Follows f p e (put to (operator_result n s x y) m b) → HasComputed o (kind_of s) x y to
   of_signed o n s x y to of g h runs =
-      let done = has_put f p e to (made n s x y) m b runs in
+      let done = has_put f p e to (operator_result n s x y) m b runs in
       let k = kind_of s in
       let result = made_is o n s x y done.word of (word_held s x g) (word_held s y h) done.is in record {
         word = done.word;
@@ -478,7 +478,7 @@ module _ (f : Frame) (p : ℕ) (e : Left) (m : Memory) (b : ℕ) where
         ends = done.ends;
       }
 
-  -- what was computed as another type
+  -- a result that was computed as another type
   back : (o : BinaryOperator) (n : Operation) (s : Signed) (t : Kind) (x y : ℤ) (to : ℕ) → operation_of o ≡ Some n
       → IsAs t s → HasComputed o (kind_of s) x y to → HasComputed o t x y to
   back o n s t x y to of (inl is) done = subst (λ k. HasComputed o k x y to) (sym is) done
@@ -492,7 +492,7 @@ module _ (f : Frame) (p : ℕ) (e : Left) (m : Memory) (b : ℕ) where
 
   of_type : (o : BinaryOperator) (n : Operation) (t : Kind) (x y : ℤ) (to : ℕ) (a d c i : QuickInstr)
       → operation_of o ≡ Some n → by_kind t a d c ≡ Some i
-      → ((s : Signed) → act f.ways f.now (chosen s a d c) m b ≡ put to (made n s x y) m b)
+      → ((s : Signed) → act f.ways f.now (chosen s a d c) m b ≡ put to (operator_result n s x y) m b)
       → IsHeld (datum_at t x) → IsHeld (datum_at t y) → Follows f p e (act f.ways f.now i m b)
       → HasComputed o t x y to
   of_type o n t x y to a d c i of is does g h runs =
@@ -505,7 +505,7 @@ module _ (f : Frame) (p : ℕ) (e : Left) (m : Memory) (b : ℕ) where
   -- the words of a type are its numbers
   of_words : (o : BinaryOperator) (n : Operation) (s : Signed) (t : Kind) (x y w : ℤ) (to : ℕ)
       → operation_of o ≡ Some n → IsAs t s → IsResult (applied o (kind_of s) x y) (kind_of s) w
-      → Ends f (suc p) (with_word m to w) b e → HasComputed o t x y to
+      → EndsWellAt f (suc p) (with_word m to w) b e → HasComputed o t x y to
   of_words o n s t x y w to of kind result ends =
       let k = kind_of s in
       back o n s t x y to of kind (record {
@@ -517,7 +517,7 @@ module _ (f : Frame) (p : ℕ) (e : Left) (m : Memory) (b : ℕ) where
 
   -- a difference, which is computed as a sum
   of_difference : (t : Kind) (x y : ℤ) (to : ℕ) (a d c i : QuickInstr) → by_kind t a d c ≡ Some i
-      → ((s : Signed) → act f.ways f.now (chosen s a d c) m b ≡ put to (made op.Add s x (neg_ℤ y)) m b)
+      → ((s : Signed) → act f.ways f.now (chosen s a d c) m b ≡ put to (operator_result op.Add s x (neg_ℤ y)) m b)
       → IsHeld (datum_at t x) → IsHeld (datum_at t y) → Follows f p e (act f.ways f.now i m b)
       → HasComputed Subtract t x y to
   of_difference t x y to a d c i is does g h runs =
@@ -525,20 +525,20 @@ module _ (f : Frame) (p : ℕ) (e : Left) (m : Memory) (b : ℕ) where
       let s = which.type in
       let hx = word_held s x (held_as t s x which.kind g) in
       let hy = word_held s y (held_as t s y which.kind h) in
-      let done = has_put f p e to (made op.Add s x (neg_ℤ y)) m b
+      let done = has_put f p e to (operator_result op.Add s x (neg_ℤ y)) m b
       (subst (Follows f p e) (does s) (subst (λ i. Follows f p e (act f.ways f.now i m b)) which.instr runs)) in
       of_words Subtract op.Subtract s t x y done.word to refl which.kind
       (kept_is s (x -ℤ y) done.word (ap (kept s) (sym (sum_turned s x y hx hy)) ∙ done.is)) done.ends
 
   -- a quotient, which is computed in 64 bits
   of_quotient : (t : Kind) (x : ℤ) (n to : ℕ) (a i : QuickInstr) → by_kind t a a a ≡ Some i
-      → act f.ways f.now a m b ≡ put to (made op.Divide signed.Lint x (pos n)) m b → IsHeld (datum_at t x)
+      → act f.ways f.now a m b ≡ put to (operator_result op.Divide signed.Lint x (pos n)) m b → IsHeld (datum_at t x)
       → Follows f p e (act f.ways f.now i m b) → HasComputed Divide t x (pos n) to
   of_quotient t x n to a i is does g runs =
       let which = signed_of t a a a i is in
       let s = which.type in
       let hx = word_held s x (held_as t s x which.kind g) in
-      let done = has_put f p e to (made op.Divide signed.Lint x (pos n)) m b
+      let done = has_put f p e to (operator_result op.Divide signed.Lint x (pos n)) m b
       (subst (Follows f p e) does
       (subst (λ i. Follows f p e (act f.ways f.now i m b)) (which.instr ∙ chosen_same s a) runs)) in
       of_words Divide op.Divide s t x (pos n) done.word to refl which.kind
@@ -546,7 +546,7 @@ module _ (f : Frame) (p : ℕ) (e : Left) (m : Memory) (b : ℕ) where
 
   -- a remainder, which is computed in 64 bits
   of_remainder : (t : Kind) (x y : ℤ) (to : ℕ) (a i : QuickInstr) → by_kind t a a a ≡ Some i
-      → act f.ways f.now a m b ≡ put to (made op.Modulo signed.Lint x y) m b → IsHeld (datum_at t x)
+      → act f.ways f.now a m b ≡ put to (operator_result op.Modulo signed.Lint x y) m b → IsHeld (datum_at t x)
       → IsHeld (datum_at t y) → Follows f p e (act f.ways f.now i m b) → HasComputed Modulo t x y to
   of_remainder t x y to a i is does g h runs =
       let which = signed_of t a a a i is in
@@ -554,7 +554,7 @@ module _ (f : Frame) (p : ℕ) (e : Left) (m : Memory) (b : ℕ) where
       let k = kind_of s in
       let hx = word_held s x (held_as t s x which.kind g) in
       let hy = word_held s y (held_as t s y which.kind h) in
-      let done = has_put f p e to (made op.Modulo signed.Lint x y) m b
+      let done = has_put f p e to (operator_result op.Modulo signed.Lint x y) m b
       (subst (Follows f p e) does
       (subst (λ i. Follows f p e (act f.ways f.now i m b)) (which.instr ∙ chosen_same s a) runs)) in
       let result = made_is Modulo op.Modulo s x y done.word refl hx hy (remainder_typed s x y done.word hy done.is) in
@@ -597,7 +597,7 @@ module _ (f : Frame) (p : ℕ) (e : Left) (m : Memory) (b : ℕ) where
   has_computed Add t l r to i is g h runs =
       of_type Add op.Add t (look m l) (look m r) to (AddInt l r to) (AddDint l r to) (AddLint l r to) i refl is
       (λ s. elim s as (λ s. act f.ways f.now (chosen s (AddInt l r to) (AddDint l r to) (AddLint l r to)) m b
-      ≡ put to (made op.Add s (look m l) (look m r)) m b) [
+      ≡ put to (operator_result op.Add s (look m l) (look m r)) m b) [
         | signed.Int ↦ refl
         | signed.Dint ↦ refl
         | signed.Lint ↦ refl
@@ -608,7 +608,7 @@ module _ (f : Frame) (p : ℕ) (e : Left) (m : Memory) (b : ℕ) where
       l r to) i refl is
       (λ s. elim s as (λ s. act f.ways f.now (chosen s (SubtractInt l r to) (SubtractDint l r to) (SubtractLint l r
       to)) m b
-      ≡ put to (made op.Subtract s (look m l) (look m r)) m b) [
+      ≡ put to (operator_result op.Subtract s (look m l) (look m r)) m b) [
         | signed.Int ↦ refl
         | signed.Dint ↦ refl
         | signed.Lint ↦
@@ -620,7 +620,7 @@ module _ (f : Frame) (p : ℕ) (e : Left) (m : Memory) (b : ℕ) where
       l r to) i refl is
       (λ s. elim s as (λ s. act f.ways f.now (chosen s (MultiplyInt l r to) (MultiplyDint l r to) (MultiplyLint l r
       to)) m b
-      ≡ put to (made op.Multiply s (look m l) (look m r)) m b) [
+      ≡ put to (operator_result op.Multiply s (look m l) (look m r)) m b) [
         | signed.Int ↦ refl
         | signed.Dint ↦ refl
         | signed.Lint ↦
@@ -631,7 +631,7 @@ module _ (f : Frame) (p : ℕ) (e : Left) (m : Memory) (b : ℕ) where
       of_type Divide op.Divide t (look m l) (look m r) to (DivideInt l r to) (DivideDint l r to) (DivideLint l r to) i
       refl is
       (λ s. elim s as (λ s. act f.ways f.now (chosen s (DivideInt l r to) (DivideDint l r to) (DivideLint l r to)) m b
-      ≡ put to (made op.Divide s (look m l) (look m r)) m b) [
+      ≡ put to (operator_result op.Divide s (look m l) (look m r)) m b) [
         | signed.Int ↦ refl
         | signed.Dint ↦ refl
         | signed.Lint ↦
@@ -666,14 +666,14 @@ module _ (f : Frame) (p : ℕ) (e : Left) (m : Memory) (b : ℕ) where
       refl is
       (λ s. elim s as (λ s. act f.ways f.now
       (chosen s (quick.AddIntBy l n to) (quick.AddDintBy l n to) (quick.AddLintBy l n to)) m b
-      ≡ put to (made op.Add s (look m l) n) m b) [ signed.Int ↦ refl | signed.Dint ↦ refl | signed.Lint ↦ refl ])
+      ≡ put to (operator_result op.Add s (look m l) n) m b) [ signed.Int ↦ refl | signed.Dint ↦ refl | signed.Lint ↦ refl ])
       g h runs
   has_computed_by Subtract t l n to i is g h runs =
       of_difference t (look m l) n to (quick.AddIntBy l (neg_ℤ n) to) (quick.AddDintBy l (neg_ℤ n) to)
       (quick.AddLintBy l (neg_ℤ n) to) i is
       (λ s. elim s as (λ s. act f.ways f.now
       (chosen s (quick.AddIntBy l (neg_ℤ n) to) (quick.AddDintBy l (neg_ℤ n) to) (quick.AddLintBy l (neg_ℤ n) to)) m b
-      ≡ put to (made op.Add s (look m l) (neg_ℤ n)) m b) [
+      ≡ put to (operator_result op.Add s (look m l) (neg_ℤ n)) m b) [
         | signed.Int ↦ refl
         | signed.Dint ↦ refl
         | signed.Lint ↦ refl
@@ -691,11 +691,11 @@ module _ (f : Frame) (p : ℕ) (e : Left) (m : Memory) (b : ℕ) where
   has_computed_by Modulo t l n to i is g h runs =
       of_remainder t (look m l) n to (quick.ModuloBy l n to) i is refl g h runs
 
-  -- What an operator makes of two numbers was assigned, as of two of LINT.
+  -- The result of an operator on two numbers was assigned, as of two of LINT.
   pub record HasMadeOf (o : BinaryOperator) (x y : ℤ) (to : ℕ) : Type 0 where
     pub word : ℤ
     pub is : IsMadeOf o x y word
-    pub ends : Ends f (suc p) (with_word m to word) b e
+    pub ends : EndsWellAt f (suc p) (with_word m to word) b e
 
   sum_put : (o : BinaryOperator) (z x y : ℤ) (to : ℕ)
       → ((w : ℤ) → z ≡ w → IsMadeOf o x y w) → Follows f p e (put to (kept signed.Lint z) m b) → HasMadeOf o x y to
@@ -703,20 +703,20 @@ module _ (f : Frame) (p : ℕ) (e : Left) (m : Memory) (b : ℕ) where
       let done = has_put f p e to (kept signed.Lint z) m b runs in
       record { word = done.word; is = means done.word (made_number z done.word done.is); ends = done.ends }
 
-  quotient_put : (x y : ℤ) (to : ℕ) → Follows f p e (put to (made op.Divide signed.Lint x y) m b)
+  quotient_put : (x y : ℤ) (to : ℕ) → Follows f p e (put to (operator_result op.Divide signed.Lint x y) m b)
       → HasMadeOf Divide x y to
   quotient_put x y to runs =
-      let done = has_put f p e to (made op.Divide signed.Lint x y) m b runs in
+      let done = has_put f p e to (operator_result op.Divide signed.Lint x y) m b runs in
       record {
         word = done.word;
         is = quotient_made x y done.word (int_eq y (pos 0)) refl done.is;
         ends = done.ends;
       }
 
-  remainder_put : (x y : ℤ) (to : ℕ) → Follows f p e (put to (made op.Modulo signed.Lint x y) m b)
+  remainder_put : (x y : ℤ) (to : ℕ) → Follows f p e (put to (operator_result op.Modulo signed.Lint x y) m b)
       → HasMadeOf Modulo x y to
   remainder_put x y to runs =
-      let done = has_put f p e to (made op.Modulo signed.Lint x y) m b runs in
+      let done = has_put f p e to (operator_result op.Modulo signed.Lint x y) m b runs in
       record {
         word = done.word;
         is = remainder_made x y done.word (int_eq y (pos 0)) refl done.is;
@@ -784,7 +784,7 @@ module _ (f : Frame) (p : ℕ) (e : Left) (m : Memory) (b : ℕ) where
   has_made_of_by Modulo l n to i is runs =
       remainder_put (look m l) n to (as_instr (quick.ModuloBy l n to) i is runs)
 
-  -- each bit of a word was turned
+  -- each bit of a word was flipped
   pub has_turned : (t : Kind) (l r to : ℕ) (i : QuickInstr) → instr_for Xor t l r to ≡ Some i
       → IsHeld (datum_at t (look m l)) → IsHeld (datum_at t (look m r)) → number_at t (look m r) ≡ greatest t
       → Follows f p e (act f.ways f.now i m b) → HasApplied Not t (look m l) to
@@ -813,7 +813,7 @@ module _ (f : Frame) (p : ℕ) (e : Left) (m : Memory) (b : ℕ) where
         ends = done.ends;
       }
 
-  -- a word was taken from 0
+  -- a word was subtracted from 0
   pub has_negated : (t : Kind) (l r to : ℕ) (i : QuickInstr) → instr_for Subtract t l r to ≡ Some i
       → IsHeld (datum_at t (look m l)) → IsHeld (datum_at t (look m r)) → number_at t (look m l) ≡ pos 0
       → Follows f p e (act f.ways f.now i m b) → HasApplied Negate t (look m r) to
@@ -841,7 +841,7 @@ equal_shifted x y s =
     (Decides-like (int_eq x y) (ap (λ z. z +ℤ s))
     (λ e. sym (+ℤ-neg_ℤ_cancel x s) ∙ ap (λ z. z -ℤ s) e ∙ +ℤ-neg_ℤ_cancel y s) (Decides-int_eq x y))
 
--- whether a branch is taken that is taken when a condition holds, or unless it does
+-- whether a branch is taken, by whether it is to be taken when a condition holds or unless it does
 abbrev pub turn_for : Bool → Bool → Bool
 turn_for true go = go
 turn_for false go = not go
@@ -852,7 +852,7 @@ not_less x y = grind (arith, ints)
 not_at_most : (x y : ℤ) → not (int_le x y) ≡ int_lt y x
 not_at_most x y = grind (arith, ints)
 
-not_not : (t : Bool) → not (not t) ≡ t
+pub not_not : (t : Bool) → not (not t) ≡ t
 not_not true = refl
 not_not false = refl
 
@@ -860,11 +860,11 @@ module _ (f : Frame) (q : ℕ) (e : Left) (m : Memory) (b : ℕ) where
   -- A comparison was tested, and the run went by the way when it holds, or unless it does.
   pub record HasCompared (o : BinaryOperator) (t : Kind) (x y : ℤ) (when : Bool) (w : Way) (past : ℕ) : Type 0 where
     pub go : Bool
-    pub is : applied o t (number_at t x) (number_at t y) ≡ Ok (datum_of_truth go)
+    pub is : applied o t (number_at t x) (number_at t y) ≡ Ok (bool_datum go)
     pub ends : HasBranched f q e (turn_for when go) w past m b
 
   by_branch : (o : BinaryOperator) (t : Kind) (x y : ℤ) (w : Way) (past : ℕ) (go : Bool)
-      → applied o t (number_at t x) (number_at t y) ≡ Ok (datum_of_truth go) → (turn : Bool) → not go ≡ turn
+      → applied o t (number_at t x) (number_at t y) ≡ Ok (bool_datum go) → (turn : Bool) → not go ≡ turn
       → HasBranched f q e turn w past m b → HasCompared o t x y false w past
   by_branch o t x y w past go is turn same h =
       record { go = go; is = is; ends = subst (λ u. HasBranched f q e u w past m b) (sym same) h }
@@ -877,37 +877,37 @@ module _ (f : Frame) (q : ℕ) (e : Left) (m : Memory) (b : ℕ) where
   compared_unless And t l r w past i is runs = absurd cc
   compared_unless Equal t l r w past i is runs =
       by_branch Equal t (look m l) (look m r) w past (int_eq (look m l) (look m r))
-      (ap (λ u. Ok (datum_of_truth u)) (equal_shifted (look m l) (look m r) (shift_of t))) (not (int_eq (look m l)
+      (ap (λ u. Ok (bool_datum u)) (equal_shifted (look m l) (look m r) (shift_of t))) (not (int_eq (look m l)
       (look m r))) (refl)
       (has_branched f q e (not (int_eq (look m l) (look m r))) w past m b
       (subst (λ i. Follows f q e (act f.ways f.now i m b)) (some_is is) runs))
   compared_unless NotEqual t l r w past i is runs =
       by_branch NotEqual t (look m l) (look m r) w past (not (int_eq (look m l) (look m r)))
-      (ap (λ u. Ok (datum_of_truth u)) (ap not (equal_shifted (look m l) (look m r) (shift_of t)))) (int_eq (look m l)
+      (ap (λ u. Ok (bool_datum u)) (ap not (equal_shifted (look m l) (look m r) (shift_of t)))) (int_eq (look m l)
       (look m r)) (not_not (int_eq (look m l) (look m r)))
       (has_branched f q e (int_eq (look m l) (look m r)) w past m b
       (subst (λ i. Follows f q e (act f.ways f.now i m b)) (some_is is) runs))
   compared_unless Less t l r w past i is runs =
       by_branch Less t (look m l) (look m r) w past (int_lt (look m l) (look m r))
-      (ap (λ u. Ok (datum_of_truth u)) (less_shifted (look m l) (look m r) (shift_of t))) (int_le (look m r) (look m
+      (ap (λ u. Ok (bool_datum u)) (less_shifted (look m l) (look m r) (shift_of t))) (int_le (look m r) (look m
       l)) (not_less (look m l) (look m r))
       (has_branched f q e (int_le (look m r) (look m l)) w past m b
       (subst (λ i. Follows f q e (act f.ways f.now i m b)) (some_is is) runs))
   compared_unless Greater t l r w past i is runs =
       by_branch Greater t (look m l) (look m r) w past (int_lt (look m r) (look m l))
-      (ap (λ u. Ok (datum_of_truth u)) (less_shifted (look m r) (look m l) (shift_of t))) (int_le (look m l) (look m
+      (ap (λ u. Ok (bool_datum u)) (less_shifted (look m r) (look m l) (shift_of t))) (int_le (look m l) (look m
       r)) (not_less (look m r) (look m l))
       (has_branched f q e (int_le (look m l) (look m r)) w past m b
       (subst (λ i. Follows f q e (act f.ways f.now i m b)) (some_is is) runs))
   compared_unless LessOrEqual t l r w past i is runs =
       by_branch LessOrEqual t (look m l) (look m r) w past (int_le (look m l) (look m r))
-      (ap (λ u. Ok (datum_of_truth u)) (at_most_shifted (look m l) (look m r) (shift_of t))) (int_lt (look m r) (look m
+      (ap (λ u. Ok (bool_datum u)) (at_most_shifted (look m l) (look m r) (shift_of t))) (int_lt (look m r) (look m
       l)) (not_at_most (look m l) (look m r))
       (has_branched f q e (int_lt (look m r) (look m l)) w past m b
       (subst (λ i. Follows f q e (act f.ways f.now i m b)) (some_is is) runs))
   compared_unless GreaterOrEqual t l r w past i is runs =
       by_branch GreaterOrEqual t (look m l) (look m r) w past (int_le (look m r) (look m l))
-      (ap (λ u. Ok (datum_of_truth u)) (at_most_shifted (look m r) (look m l) (shift_of t))) (int_lt (look m l) (look m
+      (ap (λ u. Ok (bool_datum u)) (at_most_shifted (look m r) (look m l) (shift_of t))) (int_lt (look m l) (look m
       r)) (not_at_most (look m r) (look m l))
       (has_branched f q e (int_lt (look m l) (look m r)) w past m b
       (subst (λ i. Follows f q e (act f.ways f.now i m b)) (some_is is) runs))
@@ -925,36 +925,36 @@ module _ (f : Frame) (q : ℕ) (e : Left) (m : Memory) (b : ℕ) where
   compared_unless_to And t l n w past i is runs = absurd cc
   compared_unless_to Equal t l n w past i is runs =
       by_branch Equal t (look m l) n w past (int_eq (look m l) n)
-      (ap (λ u. Ok (datum_of_truth u)) (equal_shifted (look m l) n (shift_of t))) (not (int_eq (look m l) n)) (refl)
+      (ap (λ u. Ok (bool_datum u)) (equal_shifted (look m l) n (shift_of t))) (not (int_eq (look m l) n)) (refl)
       (has_branched f q e (not (int_eq (look m l) n)) w past m b
       (subst (λ i. Follows f q e (act f.ways f.now i m b)) (some_is is) runs))
   compared_unless_to NotEqual t l n w past i is runs =
       by_branch NotEqual t (look m l) n w past (not (int_eq (look m l) n))
-      (ap (λ u. Ok (datum_of_truth u)) (ap not (equal_shifted (look m l) n (shift_of t)))) (int_eq (look m l) n)
+      (ap (λ u. Ok (bool_datum u)) (ap not (equal_shifted (look m l) n (shift_of t)))) (int_eq (look m l) n)
       (not_not (int_eq (look m l) n))
       (has_branched f q e (int_eq (look m l) n) w past m b
       (subst (λ i. Follows f q e (act f.ways f.now i m b)) (some_is is) runs))
   compared_unless_to Less t l n w past i is runs =
       by_branch Less t (look m l) n w past (int_lt (look m l) n)
-      (ap (λ u. Ok (datum_of_truth u)) (less_shifted (look m l) n (shift_of t))) (int_le n (look m l)) (not_less (look
+      (ap (λ u. Ok (bool_datum u)) (less_shifted (look m l) n (shift_of t))) (int_le n (look m l)) (not_less (look
       m l) n)
       (has_branched f q e (int_le n (look m l)) w past m b
       (subst (λ i. Follows f q e (act f.ways f.now i m b)) (some_is is) runs))
   compared_unless_to Greater t l n w past i is runs =
       by_branch Greater t (look m l) n w past (int_lt n (look m l))
-      (ap (λ u. Ok (datum_of_truth u)) (less_shifted n (look m l) (shift_of t))) (int_le (look m l) n) (not_less n
+      (ap (λ u. Ok (bool_datum u)) (less_shifted n (look m l) (shift_of t))) (int_le (look m l) n) (not_less n
       (look m l))
       (has_branched f q e (int_le (look m l) n) w past m b
       (subst (λ i. Follows f q e (act f.ways f.now i m b)) (some_is is) runs))
   compared_unless_to LessOrEqual t l n w past i is runs =
       by_branch LessOrEqual t (look m l) n w past (int_le (look m l) n)
-      (ap (λ u. Ok (datum_of_truth u)) (at_most_shifted (look m l) n (shift_of t))) (int_lt n (look m l)) (not_at_most
+      (ap (λ u. Ok (bool_datum u)) (at_most_shifted (look m l) n (shift_of t))) (int_lt n (look m l)) (not_at_most
       (look m l) n)
       (has_branched f q e (int_lt n (look m l)) w past m b
       (subst (λ i. Follows f q e (act f.ways f.now i m b)) (some_is is) runs))
   compared_unless_to GreaterOrEqual t l n w past i is runs =
       by_branch GreaterOrEqual t (look m l) n w past (int_le n (look m l))
-      (ap (λ u. Ok (datum_of_truth u)) (at_most_shifted n (look m l) (shift_of t))) (int_lt (look m l) n) (not_at_most
+      (ap (λ u. Ok (bool_datum u)) (at_most_shifted n (look m l) (shift_of t))) (int_lt (look m l) n) (not_at_most
       n (look m l))
       (has_branched f q e (int_lt (look m l) n) w past m b
       (subst (λ i. Follows f q e (act f.ways f.now i m b)) (some_is is) runs))
@@ -972,37 +972,37 @@ module _ (f : Frame) (q : ℕ) (e : Left) (m : Memory) (b : ℕ) where
   compared_when And t l r w past i is runs = absurd cc
   compared_when Equal t l r w past i is runs = record {
     go = int_eq (look m l) (look m r);
-    is = ap (λ u. Ok (datum_of_truth u)) (equal_shifted (look m l) (look m r) (shift_of t));
+    is = ap (λ u. Ok (bool_datum u)) (equal_shifted (look m l) (look m r) (shift_of t));
     ends = has_branched f q e (int_eq (look m l) (look m r)) w past m b
         (subst (λ i. Follows f q e (act f.ways f.now i m b)) (some_is is) runs);
   }
   compared_when NotEqual t l r w past i is runs = record {
     go = not (int_eq (look m l) (look m r));
-    is = ap (λ u. Ok (datum_of_truth u)) (ap not (equal_shifted (look m l) (look m r) (shift_of t)));
+    is = ap (λ u. Ok (bool_datum u)) (ap not (equal_shifted (look m l) (look m r) (shift_of t)));
     ends = has_branched f q e (not (int_eq (look m l) (look m r))) w past m b
         (subst (λ i. Follows f q e (act f.ways f.now i m b)) (some_is is) runs);
   }
   compared_when Less t l r w past i is runs = record {
     go = int_lt (look m l) (look m r);
-    is = ap (λ u. Ok (datum_of_truth u)) (less_shifted (look m l) (look m r) (shift_of t));
+    is = ap (λ u. Ok (bool_datum u)) (less_shifted (look m l) (look m r) (shift_of t));
     ends = has_branched f q e (int_lt (look m l) (look m r)) w past m b
         (subst (λ i. Follows f q e (act f.ways f.now i m b)) (some_is is) runs);
   }
   compared_when Greater t l r w past i is runs = record {
     go = int_lt (look m r) (look m l);
-    is = ap (λ u. Ok (datum_of_truth u)) (less_shifted (look m r) (look m l) (shift_of t));
+    is = ap (λ u. Ok (bool_datum u)) (less_shifted (look m r) (look m l) (shift_of t));
     ends = has_branched f q e (int_lt (look m r) (look m l)) w past m b
         (subst (λ i. Follows f q e (act f.ways f.now i m b)) (some_is is) runs);
   }
   compared_when LessOrEqual t l r w past i is runs = record {
     go = int_le (look m l) (look m r);
-    is = ap (λ u. Ok (datum_of_truth u)) (at_most_shifted (look m l) (look m r) (shift_of t));
+    is = ap (λ u. Ok (bool_datum u)) (at_most_shifted (look m l) (look m r) (shift_of t));
     ends = has_branched f q e (int_le (look m l) (look m r)) w past m b
         (subst (λ i. Follows f q e (act f.ways f.now i m b)) (some_is is) runs);
   }
   compared_when GreaterOrEqual t l r w past i is runs = record {
     go = int_le (look m r) (look m l);
-    is = ap (λ u. Ok (datum_of_truth u)) (at_most_shifted (look m r) (look m l) (shift_of t));
+    is = ap (λ u. Ok (bool_datum u)) (at_most_shifted (look m r) (look m l) (shift_of t));
     ends = has_branched f q e (int_le (look m r) (look m l)) w past m b
         (subst (λ i. Follows f q e (act f.ways f.now i m b)) (some_is is) runs);
   }
@@ -1020,37 +1020,37 @@ module _ (f : Frame) (q : ℕ) (e : Left) (m : Memory) (b : ℕ) where
   compared_when_to And t l n w past i is runs = absurd cc
   compared_when_to Equal t l n w past i is runs = record {
     go = int_eq (look m l) n;
-    is = ap (λ u. Ok (datum_of_truth u)) (equal_shifted (look m l) n (shift_of t));
+    is = ap (λ u. Ok (bool_datum u)) (equal_shifted (look m l) n (shift_of t));
     ends = has_branched f q e (int_eq (look m l) n) w past m b
         (subst (λ i. Follows f q e (act f.ways f.now i m b)) (some_is is) runs);
   }
   compared_when_to NotEqual t l n w past i is runs = record {
     go = not (int_eq (look m l) n);
-    is = ap (λ u. Ok (datum_of_truth u)) (ap not (equal_shifted (look m l) n (shift_of t)));
+    is = ap (λ u. Ok (bool_datum u)) (ap not (equal_shifted (look m l) n (shift_of t)));
     ends = has_branched f q e (not (int_eq (look m l) n)) w past m b
         (subst (λ i. Follows f q e (act f.ways f.now i m b)) (some_is is) runs);
   }
   compared_when_to Less t l n w past i is runs = record {
     go = int_lt (look m l) n;
-    is = ap (λ u. Ok (datum_of_truth u)) (less_shifted (look m l) n (shift_of t));
+    is = ap (λ u. Ok (bool_datum u)) (less_shifted (look m l) n (shift_of t));
     ends = has_branched f q e (int_lt (look m l) n) w past m b
         (subst (λ i. Follows f q e (act f.ways f.now i m b)) (some_is is) runs);
   }
   compared_when_to Greater t l n w past i is runs = record {
     go = int_lt n (look m l);
-    is = ap (λ u. Ok (datum_of_truth u)) (less_shifted n (look m l) (shift_of t));
+    is = ap (λ u. Ok (bool_datum u)) (less_shifted n (look m l) (shift_of t));
     ends = has_branched f q e (int_lt n (look m l)) w past m b
         (subst (λ i. Follows f q e (act f.ways f.now i m b)) (some_is is) runs);
   }
   compared_when_to LessOrEqual t l n w past i is runs = record {
     go = int_le (look m l) n;
-    is = ap (λ u. Ok (datum_of_truth u)) (at_most_shifted (look m l) n (shift_of t));
+    is = ap (λ u. Ok (bool_datum u)) (at_most_shifted (look m l) n (shift_of t));
     ends = has_branched f q e (int_le (look m l) n) w past m b
         (subst (λ i. Follows f q e (act f.ways f.now i m b)) (some_is is) runs);
   }
   compared_when_to GreaterOrEqual t l n w past i is runs = record {
     go = int_le n (look m l);
-    is = ap (λ u. Ok (datum_of_truth u)) (at_most_shifted n (look m l) (shift_of t));
+    is = ap (λ u. Ok (bool_datum u)) (at_most_shifted n (look m l) (shift_of t));
     ends = has_branched f q e (int_le n (look m l)) w past m b
         (subst (λ i. Follows f q e (act f.ways f.now i m b)) (some_is is) runs);
   }
@@ -1075,42 +1075,42 @@ module _ (f : Frame) (q : ℕ) (e : Left) (m : Memory) (b : ℕ) where
   -- The truth of a comparison was assigned.
   pub record HasTruth (o : BinaryOperator) (t : Kind) (x y : ℤ) (to : ℕ) : Type 0 where
     pub go : Bool
-    pub is : applied o t (number_at t x) (number_at t y) ≡ Ok (datum_of_truth go)
-    pub ends : Ends f (suc q) (with_word m to (word_of_truth go)) b e
+    pub is : applied o t (number_at t x) (number_at t y) ≡ Ok (bool_datum go)
+    pub ends : EndsWellAt f (suc q) (with_word m to (bool_word go)) b e
 
-  pub has_truth : (o : BinaryOperator) (t : Kind) (l r to : ℕ) (i : QuickInstr) → truth_for o l r to ≡ Some i
+  pub has_truth : (o : BinaryOperator) (t : Kind) (l r to : ℕ) (i : QuickInstr) → comparison_instr o l r to ≡ Some i
       → Follows f q e (act f.ways f.now i m b) → HasTruth o t (look m l) (look m r) to
   has_truth Or t l r to i is runs = absurd cc
   has_truth Xor t l r to i is runs = absurd cc
   has_truth And t l r to i is runs = absurd cc
   has_truth Equal t l r to i is runs = record {
     go = int_eq (look m l) (look m r);
-    is = ap (λ u. Ok (datum_of_truth u)) (equal_shifted (look m l) (look m r) (shift_of t));
+    is = ap (λ u. Ok (bool_datum u)) (equal_shifted (look m l) (look m r) (shift_of t));
     ends = subst (λ i. Follows f q e (act f.ways f.now i m b)) (some_is is) runs;
   }
   has_truth NotEqual t l r to i is runs = record {
     go = not (int_eq (look m l) (look m r));
-    is = ap (λ u. Ok (datum_of_truth u)) (ap not (equal_shifted (look m l) (look m r) (shift_of t)));
+    is = ap (λ u. Ok (bool_datum u)) (ap not (equal_shifted (look m l) (look m r) (shift_of t)));
     ends = subst (λ i. Follows f q e (act f.ways f.now i m b)) (some_is is) runs;
   }
   has_truth Less t l r to i is runs = record {
     go = int_lt (look m l) (look m r);
-    is = ap (λ u. Ok (datum_of_truth u)) (less_shifted (look m l) (look m r) (shift_of t));
+    is = ap (λ u. Ok (bool_datum u)) (less_shifted (look m l) (look m r) (shift_of t));
     ends = subst (λ i. Follows f q e (act f.ways f.now i m b)) (some_is is) runs;
   }
   has_truth Greater t l r to i is runs = record {
     go = int_lt (look m r) (look m l);
-    is = ap (λ u. Ok (datum_of_truth u)) (less_shifted (look m r) (look m l) (shift_of t));
+    is = ap (λ u. Ok (bool_datum u)) (less_shifted (look m r) (look m l) (shift_of t));
     ends = subst (λ i. Follows f q e (act f.ways f.now i m b)) (some_is is) runs;
   }
   has_truth LessOrEqual t l r to i is runs = record {
     go = int_le (look m l) (look m r);
-    is = ap (λ u. Ok (datum_of_truth u)) (at_most_shifted (look m l) (look m r) (shift_of t));
+    is = ap (λ u. Ok (bool_datum u)) (at_most_shifted (look m l) (look m r) (shift_of t));
     ends = subst (λ i. Follows f q e (act f.ways f.now i m b)) (some_is is) runs;
   }
   has_truth GreaterOrEqual t l r to i is runs = record {
     go = int_le (look m r) (look m l);
-    is = ap (λ u. Ok (datum_of_truth u)) (at_most_shifted (look m r) (look m l) (shift_of t));
+    is = ap (λ u. Ok (bool_datum u)) (at_most_shifted (look m r) (look m l) (shift_of t));
     ends = subst (λ i. Follows f q e (act f.ways f.now i m b)) (some_is is) runs;
   }
   has_truth Add t l r to i is runs = absurd cc

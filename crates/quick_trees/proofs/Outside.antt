@@ -2,7 +2,7 @@
 use Rattle.std.proofs.Common.{◌≡◌, ℕ, List, Some, refl, ap, subst, ◌∙◌}
 use Rattle.std.specs.Prelude.{slice_get, slice_set}
 use Rattle.st_types.specs.Values.{Datum}
-use Rattle.machine_code.specs.Tracking.{Tracked, assigned, seen, with_mark, written}
+use Rattle.machine_code.specs.Tracking.{Tracked, assigned, seen, with_mark, assigned_slot}
 use Rattle.quick_trees.specs.Windows.{IsOutside, StaysOutside}
 use Rattle.quick_trees.proofs.Lists.{set_elsewhere}
 use Rattle.quick_trees.proofs.Notings.{other_mark}
@@ -23,7 +23,7 @@ module _ (window : List ℕ) (before t : Tracked) (stays : StaysOutside window b
   }
 
   -- or it is assigned
-  pub stays_written : (v : Datum) → StaysOutside window before (written t k v)
+  pub stays_written : (v : Datum) → StaysOutside window before (assigned_slot t k v)
   stays_written v = record {
     values = λ j out. set_elsewhere t.values j k v (apart j out) ∙ stays.values j out;
     marks = λ j out. other_mark assigned t.marks k j (apart j out) ∙ stays.marks j out;

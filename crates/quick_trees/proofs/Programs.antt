@@ -1,6 +1,6 @@
 -- Code of a program does what its body says.
 use Rattle.std.proofs.Common.{◌≡◌, ℕ, ◌+◌, ◌-◌, ◌≤◌, Ok, ap, subst, ◌∙◌, arith, length, []}
-use Rattle.st_meaning.specs.Failures.{StandIns}
+use Rattle.st_meaning.specs.Failures.{StuckFaults}
 use Rattle.machine_code.specs.Tracking.{Tracked}
 use Rattle.quick_code.specs.declared.quick_instr.QuickInstr.TheVariants.{End, Jump}
 use Rattle.quick_code.specs.QuickRuns.{Left, left}
@@ -12,8 +12,8 @@ use Rattle.quick_trees.specs.declared.noting.Noting.TheVariants.{Exact}
 use Rattle.quick_trees.specs.Calls.{quick_units}
 use Rattle.quick_trees.specs.Points.{Point, along}
 use Rattle.quick_trees.specs.Programs.{EndsAs, IsProgram, beginning}
-use Rattle.quick_trees.specs.QuickMemory.{Ends, Frame, first_temporary}
-use Rattle.quick_trees.specs.Sites.{IsMemory, whole}
+use Rattle.quick_trees.specs.QuickMemory.{EndsWellAt, Frame, first_temporary}
+use Rattle.quick_trees.specs.UnitValues.{IsMemory, whole}
 use Rattle.quick_trees.proofs.Lists.{replicate_long}
 use Rattle.quick_trees.proofs.Outside.{stays_all}
 use Rattle.quick_trees.proofs.Stepping.{has_taken, stepped}
@@ -23,19 +23,19 @@ use Rattle.quick_trees.proofs.Running.{joined}
 use Rattle.quick_trees.proofs.Statements.{does_stmts}
 use Rattle.quick_trees.proofs.Calling.{at_last, does_units, is_over}
 
-pub program_runs : (stand_ins : StandIns) (library : SlotLibrary) (base calls depth budget : ℕ) (body : SlotStmts)
+pub program_runs : (stuck_faults : StuckFaults) (library : SlotLibrary) (base calls depth budget : ℕ) (body : SlotStmts)
     (f : Frame) (m : Memory) (t : Tracked) (e : Left) → IsProgram f library base calls body → calls ≤ depth
-    → IsMemory f (whole base) (beginning f) m t → Ends f 0 m budget e
-    → EndsAs f base t (marked_ran stand_ins library base body f.now depth t budget) e
+    → IsMemory f (whole base) (beginning f) m t → EndsWellAt f 0 m budget e
+    → EndsAs f base t (marked_ran stuck_faults library base body f.now depth t budget) e
 unfolding marked_ran
-program_runs stand_ins library base calls depth budget body f m t e program le is runs =
-    let units = does_units f e stand_ins library calls depth le in
+program_runs stuck_faults library base calls depth budget body f m t e program le is runs =
+    let units = does_units f e stuck_faults library calls depth le in
     let s : Setting = record {
       frame = f;
       site = whole base;
       units = quick_units f library calls;
-      means = marked_units_within stand_ins library f.now depth;
-      stand_ins = stand_ins;
+      means = marked_units_within stuck_faults library f.now depth;
+      stuck_faults = stuck_faults;
       around = t;
       finish = e;
       does = units.0;
@@ -66,7 +66,7 @@ program_runs stand_ins library base calls depth budget body f m t e program le i
     let rest : ran.rest ≡ over.left = omega arith in
     record {
       end = ran.end;
-      gives = ap (λ n. marked_ran stand_ins library base body f.now depth t n) whole_budget
+      gives = ap (λ n. marked_ran stuck_faults library base body f.now depth t n) whole_budget
           ∙ ran.gives
           ∙ ap (λ n. Ok (ran.end, n)) (rest ∙ ap (λ (e : Left). e.ticks) left_is);
       at = program.last;

@@ -11,9 +11,9 @@ use Rattle.st_types.specs.declared.operator.BinaryOperator.TheVariants.{GreaterO
 use Rattle.st_types.specs.declared.operator.BinaryOperator.TheVariants.{Multiply, NotEqual, Or, Subtract, Xor}
 use Rattle.st_types.proofs.KindLemmas.{same_kind-refl}
 use Rattle.st_types.specs.Kinds.{holds, greatest}
-use Rattle.st_types.specs.Values.{Datum, IsHeld, datum_of_truth}
+use Rattle.st_types.specs.Values.{Datum, IsHeld, bool_datum}
 use Rattle.st_types.specs.Words.{datum_at, number_at, is_wide}
-use Rattle.st_meaning.specs.Failures.{StandIns, failing, ill_typed, or_failure, valueless}
+use Rattle.st_meaning.specs.Failures.{StuckFaults, failing, ill_typed, or_failure, valueless}
 use Rattle.st_meaning.specs.Evaluation.{known}
 use Rattle.st_meaning.specs.Operators.{applied, apply, apply_unary}
 use Rattle.st_meaning.specs.StandardFunctions.{ABS, CONVERT, LIMIT, MAX, MIN, ROL, ROR, SEL, SHL, SHR, conversion}
@@ -21,10 +21,10 @@ use Rattle.st_meaning.specs.StandardFunctions.{standard_value}
 use Rattle.st_meaning.specs.Ticks.{attempt, fault, follow, give}
 use Rattle.layout.specs.Shapes.{distance, in_bounds}
 use Rattle.machine_code.specs.Tracking.{Tracked, looked}
-use Rattle.quick_code.specs.QuickSteps.{Memory, behind, look, note, noted_read, place_behind, with_word}
+use Rattle.quick_code.specs.QuickSteps.{Memory, offset_by, look, note, noted_read, nested_place, with_word}
 use Rattle.quick_code.specs.declared.quick_instr.QuickInstr.{QuickInstr}
-use Rattle.quick_code.specs.declared.quick_instr.QuickInstr.TheVariants.{LoadBehind, Locate, LocateBehind}
-use Rattle.quick_code.specs.Words.{element_place, word_of_truth}
+use Rattle.quick_code.specs.declared.quick_instr.QuickInstr.TheVariants.{LoadNested, Locate, LocateNested}
+use Rattle.quick_code.specs.Words.{element_place, bool_word}
 use Rattle.std.proofs.Math.IntN.{+ℤ_idr}
 use Rattle.std.proofs.Math.Nat.{add_assoc}
 use Rattle.std.proofs.lemmas.Int.{ints}
@@ -32,14 +32,14 @@ use Rattle.slot_trees.specs.SlotTrees.{Anchor, SlotExpr, SlotExprs, binary, call
 use Rattle.slot_trees.specs.SlotTrees.{Subscripts, no_exprs, no_subscripts, place, subscript_then, unary}
 use Rattle.slot_trees.specs.SlotEvaluation.{slot_at}
 use Rattle.machine_code.specs.MarkedEvaluation.{MarkedScope, marked_led, marked_load, marked_value, marked_values}
-use Rattle.quick_trees.specs.Points.{Part, Point, next}
-use Rattle.quick_trees.specs.QuickMemory.{Ends, Frame}
-use Rattle.quick_trees.specs.Sites.{HasOwnWord, base_of}
-use Rattle.quick_trees.specs.Sites.{IsExact}
-use Rattle.quick_trees.specs.Pieces.{AreRead, IsComputed, IsComputedBy, IsFetched, IsNumber, IsTemporary, AreBoth}
-use Rattle.quick_trees.specs.Pieces.{IsIndexed, IsLed, IsTruth, IsWider, IsWithin, LeadsBehind, IsNegated, IsNumberAt}
+use Rattle.quick_trees.specs.Points.{CodeRelation, Point, next}
+use Rattle.quick_trees.specs.QuickMemory.{EndsWellAt, Frame}
+use Rattle.quick_trees.specs.UnitValues.{HasOwnWord, base_of}
+use Rattle.quick_trees.specs.UnitValues.{IsExact}
+use Rattle.quick_trees.specs.Pieces.{AreRead, IsComputed, IsComputedBy, IsFetched, IsNumber, IsTemporary, InSequence}
+use Rattle.quick_trees.specs.Pieces.{IsIndexed, IsLed, IsComparisonValue, IsWider, IsWithin, IsOffset, IsNegated, IsNumberAt}
 use Rattle.quick_trees.specs.Pieces.{HasNumbers, IsSubscript, IsTurned, TurnsBits}
-use Rattle.quick_trees.specs.Standing.{AreArguments, IsCall, IsLedOn, IsRead, IsReadApart, IsReadWithout}
+use Rattle.quick_trees.specs.TreeCode.{AreArguments, IsCall, IsLedOn, IsRead, IsReadApart, IsReadWithout}
 use Rattle.quick_trees.proofs.Lists.{some_is, there_within}
 use Rattle.quick_trees.proofs.Stepping.{stepped}
 use Rattle.quick_trees.proofs.Memories.{Holds, IsSite, Keeps, deeper, holds_kept, holds_loaded, holds_looked}
@@ -61,7 +61,7 @@ use Rattle.st_meaning.specs.StandardFunctions.{Standard}
 use Rattle.st_types.specs.declared.kind.Kind.TheVariants.{Bool as Boolean}
 
 -- the value of a slot is loaded, which is marked
-load_gives : (t : StandIns) (tr : Tracked) (k : ℕ) (v : Datum) (n : ℕ) → slice_get tr.values k ≡ Some v → IsHeld v
+load_gives : (t : StuckFaults) (tr : Tracked) (k : ℕ) (v : Datum) (n : ℕ) → slice_get tr.values k ≡ Some v → IsHeld v
     → marked_load t tr k n ≡ Ok ((v, with_look tr k), n)
 load_gives t tr k v n at held =
     ap (λ o. follow (attempt t (or_failure valueless (looked tr k o)) n)
@@ -79,7 +79,7 @@ module _ (s : Setting) where
   abbrev pub AreHeld : Point → Memory → Tracked → Type 0
   AreHeld p m t = Holds s.frame s.site s.around p.noted m t
 
-  abbrev pub Is : SlotExpr → Kind → ℕ → ℕ → Part
+  abbrev pub Is : SlotExpr → Kind → ℕ → ℕ → CodeRelation
   Is e t d k = IsRead s.frame s.site s.units e t d k
 
   -- An expression was read: a word has its value now.
@@ -94,12 +94,12 @@ module _ (s : Setting) where
       pub is : AreHeld q memory tracked
       pub held : IsHeld (datum_at t (look memory k))
       pub low : k < suc d
-      pub ends : Ends f q.place memory left s.finish
+      pub ends : EndsWellAt f q.place memory left s.finish
 
   -- how code does something that begins at a point
   abbrev pub From : ℕ → Point → (Memory → Tracked → ℕ → Type 0) → Type 0
   From d p Then =
-      (m : Memory) (tr : Tracked) (b : ℕ) → IsSite s.frame s.site d → AreHeld p m tr → Ends f p.place m b s.finish
+      (m : Memory) (tr : Tracked) (b : ℕ) → IsSite s.frame s.site d → AreHeld p m tr → EndsWellAt f p.place m b s.finish
       → Then m tr b
 
   -- how code reads an expression
@@ -122,7 +122,7 @@ module _ (s : Setting) where
       pub is : AreHeld q memory tracked
       pub held_first : IsHeld (datum_at t (look memory i))
       pub held_second : IsHeld (datum_at u (look memory j))
-      pub ends : Ends f q.place memory left s.finish
+      pub ends : EndsWellAt f q.place memory left s.finish
 
   pub read_both : (l r : SlotExpr) (t : Kind) (d i j : ℕ) (p q : Point) → Reads l t d → Reads r t (suc d)
       → AreRead (Is l t d) (Is r t (suc d)) i j p q → From d p (HaveRead l r t t d i j p q)
@@ -148,7 +148,7 @@ module _ (s : Setting) where
         ends = two.ends;
       }
 
-  -- what an operator gives of two values of a type
+  -- the result of an operator on two values of a type
   pub applied_to : (op : BinaryOperator) (l r : SlotExpr) (t : Kind) (v w : ℤ) (tr tr' tr'' : Tracked) (a b c : ℕ)
       (y : Datum) → marked_value z tr l a ≡ Ok ((datum_at t v, tr'), b)
       → marked_value z tr' r b ≡ Ok ((datum_at t w, tr''), c) → applied op t (number_at t v) (number_at t w) ≡ Ok y
@@ -156,13 +156,13 @@ module _ (s : Setting) where
   applied_to op l r t v w tr tr' tr'' a b c y first second gives =
       then_gives (marked_value z tr l a) (datum_at t v, tr') b
       (λ u. λ n. follow (marked_value z u.1 r n)
-      (λ i. λ n. follow (attempt s.stand_ins (apply op u.0 i.0) n) (λ v. give (v, i.1)))) first
+      (λ i. λ n. follow (attempt s.stuck_faults (apply op u.0 i.0) n) (λ v. give (v, i.1)))) first
       ∙ then_gives (marked_value z tr' r b) (datum_at t w, tr'') c
-      (λ i. λ n. follow (attempt s.stand_ins (apply op (datum_at t v) i.0) n) (λ v. give (v, i.1))) second
-      ∙ ap (λ h. follow (attempt s.stand_ins
+      (λ i. λ n. follow (attempt s.stuck_faults (apply op (datum_at t v) i.0) n) (λ v. give (v, i.1))) second
+      ∙ ap (λ h. follow (attempt s.stuck_faults
       (if h then failing (applied op t (number_at t v) (number_at t w)) else Err ill_typed) c) (λ v. give (v, tr'')))
       (same_kind-refl t)
-      ∙ ap (λ o. follow (attempt s.stand_ins (failing o) c) (λ v. give (v, tr''))) gives
+      ∙ ap (λ o. follow (attempt s.stuck_faults (failing o) c) (λ v. give (v, tr''))) gives
 
   -- The value of an expression was assigned to a word.
   pub record HasMade (e : SlotExpr) (t : Kind) (d to : ℕ) (p q : Point) (m : Memory) (tr : Tracked) (b : ℕ) : Type 0
@@ -176,7 +176,7 @@ module _ (s : Setting) where
       pub keeps : Keeps d m memory
       pub is : AreHeld q memory tracked
       pub held : IsHeld (datum_at t word)
-      pub ends : Ends f q.place (with_word memory to word) left s.finish
+      pub ends : EndsWellAt f q.place (with_word memory to word) left s.finish
 
   made_by : (op : BinaryOperator) (l r : SlotExpr) (t : Kind) (d to : ℕ) (p q : Point) → Reads l t d
       → Reads r t (suc d) → IsComputed f (Is l t d) (Is r t (suc d)) op t to p q
@@ -202,7 +202,7 @@ module _ (s : Setting) where
       })
 
   truth_by : (op : BinaryOperator) (l r : SlotExpr) (t : Kind) (d to : ℕ) (p q : Point) → ((u : Kind) → Reads l u d)
-      → ((u : Kind) → Reads r u (suc d)) → IsTruth f (λ u. Is l u d) (λ u. Is r u (suc d)) op t to p q
+      → ((u : Kind) → Reads r u (suc d)) → IsComparisonValue f (λ u. Is l u d) (λ u. Is r u (suc d)) op t to p q
       → From d p (HasMade (binary op l r) t d to p q)
   truth_by op l r t d to p q reads_l reads_r is m tr b site of runs =
       let u = is.kind in
@@ -216,9 +216,9 @@ module _ (s : Setting) where
         memory = both.memory;
         tracked = both.tracked;
         left = both.left;
-        word = word_of_truth done.go;
+        word = bool_word done.go;
         gives = applied_to op l r u (look both.memory is.left) (look both.memory is.right) tr both.between both.tracked
-            (b + p.ahead) both.then_left (both.left + is.last.ahead) (datum_of_truth done.go) both.first both.second
+            (b + p.ahead) both.then_left (both.left + is.last.ahead) (bool_datum done.go) both.first both.second
             done.is
             ∙ ap (λ v. Ok ((v, both.tracked), both.left + is.last.ahead)) (sym (truth_word done.go));
         fewer = both.fewer;
@@ -231,7 +231,7 @@ module _ (s : Setting) where
   -- a constant has its value
   pub number_gives : (r : SlotExpr) (t : Kind) (w : ℤ) (tr : Tracked) (n : ℕ) → IsNumber r t w
       → marked_value z tr r n ≡ Ok ((datum_at t w, tr), n)
-  number_gives (constant l) t w tr n is = ap (λ r. follow (attempt s.stand_ins r n) (λ v. give (v, tr))) is.0
+  number_gives (constant l) t w tr n is = ap (λ r. follow (attempt s.stuck_faults r n) (λ v. give (v, tr))) is.0
   number_gives (load l) t w tr n is = absurd is
   number_gives (compute g es) t w tr n is = absurd is
   number_gives (call g es) t w tr n is = absurd is
@@ -292,8 +292,8 @@ module _ (s : Setting) where
         left = one.left;
         word = done.word;
         gives = then_gives (marked_value z tr e (b + p.ahead)) (datum_at t w, one.tracked) (one.left + r.ahead)
-            (λ v. λ n. follow (attempt s.stand_ins (failing (apply_unary op v.0)) n) (λ x. give (x, v.1))) one.gives
-            ∙ ap (λ o. follow (attempt s.stand_ins (failing o) (one.left + r.ahead)) (λ x. give (x, one.tracked)))
+            (λ v. λ n. follow (attempt s.stuck_faults (failing (apply_unary op v.0)) n) (λ x. give (x, v.1))) one.gives
+            ∙ ap (λ o. follow (attempt s.stuck_faults (failing o) (one.left + r.ahead)) (λ x. give (x, one.tracked)))
             done.result.value;
         fewer = one.fewer;
         keeps = one.keeps;
@@ -330,7 +330,7 @@ module _ (s : Setting) where
       applied_once Not e t d is.from to p is.last q m tr b is.next one
       (turned_to t d is.from to e p is.last m tr b one is.turns)
 
-  -- what an operator makes of two words that are numbers
+  -- the result of an operator on two words that are numbers
   made_within : (op : BinaryOperator) (t : Kind) (x y w : ℤ) → is_wide t ≡ false → IsMadeOf op x y w
       → holds t w ≡ true → applied op t (number_at t x) (number_at t y) ≡ Ok (datum_at t w)
   made_within op t x y w narrow is held =
@@ -370,7 +370,7 @@ module _ (s : Setting) where
             (keeps_below d both.memory d one.word (omega arith));
         is = held;
         held = ap (holds t) (narrow_number t one.word narrow) ∙ kept;
-        ends = subst (λ w. Ends f (suc (suc is.last.place)) (with_word n to w) both.left s.finish) here moved.ends;
+        ends = subst (λ w. EndsWellAt f (suc (suc is.last.place)) (with_word n to w) both.left s.finish) here moved.ends;
       })
 
   within_made_by : (op : BinaryOperator) (l r : SlotExpr) (t : Kind) (d to : ℕ) (p q : Point) → Reads l t d
@@ -405,15 +405,15 @@ module _ (s : Setting) where
             (keeps_below d both.memory d one.word (omega arith));
         is = held;
         held = ap (holds t) (narrow_number t one.word narrow) ∙ kept;
-        ends = subst (λ w. Ends f (suc (suc is.last.place)) (with_word n to w) both.left s.finish) here moved.ends;
+        ends = subst (λ w. EndsWellAt f (suc (suc is.last.place)) (with_word n to w) both.left s.finish) here moved.ends;
       })
 
-  -- what an operator makes, computed or compared
+  -- the result of an operator, computed or compared
   pub binary_by : (op : BinaryOperator) (l r : SlotExpr) (t : Kind) (d to : ℕ) (p q : Point) → ((u : Kind)
       → Reads l u d)
       → ((u : Kind) → Reads r u (suc d))
       → IsComputed f (Is l t d) (Is r t (suc d)) op t to p q
-      ⊎ (IsTruth f (λ u. Is l u d) (λ u. Is r u (suc d)) op t to p q
+      ⊎ (IsComparisonValue f (λ u. Is l u d) (λ u. Is r u (suc d)) op t to p q
       ⊎ (IsComputedBy f (Is l t d) op t r to p q
       ⊎ (IsComputedWithin f (Is l t d) (Is r t (suc d)) op t d to p q
       ⊎ IsComputedByWithin f (Is l t d) op t r d to p q)))
@@ -441,7 +441,7 @@ module _ (s : Setting) where
         memory = m;
         tracked = tr;
         left = b;
-        gives = ap (λ r. follow (attempt s.stand_ins r (b + p.ahead)) (λ v. give (v, tr))) c.of_literal
+        gives = ap (λ r. follow (attempt s.stuck_faults r (b + p.ahead)) (λ v. give (v, tr))) c.of_literal
             ∙ ap (λ v. Ok ((v, tr), b + p.ahead)) (sym at);
         fewer = omega arith;
         keeps = keeps_all d m;
@@ -460,7 +460,7 @@ module _ (s : Setting) where
         memory = m;
         tracked = with_look tr slot;
         left = b;
-        gives = load_gives s.stand_ins tr slot (datum_at t (look m k)) (b + p.ahead) value.is value.held;
+        gives = load_gives s.stuck_faults tr slot (datum_at t (look m k)) (b + p.ahead) value.is value.held;
         fewer = omega arith;
         keeps = keeps_all d m;
         is = holds_looked s.frame s.site s.around p.noted m tr of slot k q.noted is.has is.touches;
@@ -469,7 +469,7 @@ module _ (s : Setting) where
         ends = runs;
       })
 
-  -- A value was read but for a number, which is not added: with it a word has the value now, where its type has that.
+  -- A value was read but for a number, which is not added: with it a word has the value now, if its type has that.
   pub record HasReadApart (e : SlotExpr) (t : Kind) (n : ℤ) (d k : ℕ) (p q : Point) (m : Memory) (tr : Tracked)
       (b : ℕ) : Type 0
     where
@@ -481,7 +481,7 @@ module _ (s : Setting) where
       pub fewer : left + q.ahead ≤ b + p.ahead
       pub keeps : Keeps d m memory
       pub is : AreHeld q memory tracked
-      pub ends : Ends f q.place memory left s.finish
+      pub ends : EndsWellAt f q.place memory left s.finish
 
   abbrev pub ReadsApart : SlotExpr → ℕ → Type 0
   ReadsApart e d = (t : Kind) (n : ℤ) (k : ℕ) (p q : Point) → IsReadApart s.frame s.site s.units e t n d k p q
@@ -508,7 +508,7 @@ module _ (s : Setting) where
       }
   apart_by e d reads_e without t n k p q (inr is) = without t n k p q is
 
-  -- where the number is 0, the type has the word with it
+  -- if the number is 0, the type has the word with it
   with_number : (t : Kind) (w n : ℤ) → is_wide t ≡ false → IsHeld (datum_at t w)
       → (n ≡ pos 0) ⊎ (holds t (w +ℤ n) ≡ true) → holds t (w +ℤ n) ≡ true
   with_number t w n narrow held (inl is) =
@@ -615,7 +615,7 @@ module _ (s : Setting) where
         is = el;
       }
 
-  -- a subscript was read: what led to a place of the array leads there in the tree
+  -- a subscript was read: if it led to a place of the array, it leads there in the tree
   pub led_by : (e : SlotExpr) (lower : ℤ) (first count stride : ℕ) (t : Kind) (w : ℤ) (k : ℕ) (tr tr' : Tracked)
       (a b : ℕ)
       → marked_value z tr e a ≡ Ok ((datum_at t w, tr'), b) → LeadsTo lower first count stride (number_at t w) k
@@ -625,7 +625,7 @@ module _ (s : Setting) where
       then give (first + distance lower r.0.number * stride, r.1) else fault Index) value
       ∙ ap (λ u. (if u then give (first + distance lower (number_at t w) * stride, tr') else fault Index) b)
       leads.inside
-      ∙ ap (λ j. Ok ((first + j * stride, tr'), b)) leads.behind
+      ∙ ap (λ j. Ok ((first + j * stride, tr'), b)) leads.distance_is
       ∙ ap (λ j. Ok ((j, tr'), b)) (sym leads.place)
 
   pub fetched_by : (a : Anchor) (e : SlotExpr) (lower : ℤ) (count stride : ℕ) (t : Kind) (d to : ℕ) (p q : Point)
@@ -656,10 +656,10 @@ module _ (s : Setting) where
         word = look one.memory done.place;
         gives = then_gives
             (marked_led z tr first (subscript_then e lower count stride no_subscripts) (b + p.ahead))
-            (k, one.tracked) (one.left + is.last.ahead) (λ r. marked_load s.stand_ins r.1 r.0)
+            (k, one.tracked) (one.left + is.last.ahead) (λ r. marked_load s.stuck_faults r.1 r.0)
             (led_by e lower first count stride there.kind there.value k tr one.tracked (b + p.ahead)
             (one.left + is.last.ahead) there.gives leads.leads)
-            ∙ load_gives s.stand_ins one.tracked k (datum_at t (look one.memory done.place)) (one.left + is.last.ahead)
+            ∙ load_gives s.stuck_faults one.tracked k (datum_at t (look one.memory done.place)) (one.left + is.last.ahead)
             value.is value.held;
         fewer = one.fewer;
         keeps = record { long = one.keeps.long; same = one.keeps.same };
@@ -670,7 +670,7 @@ module _ (s : Setting) where
         ends = done.ends;
       })
 
-  -- what was made in a temporary was read
+  -- a value that was made in a temporary was read
   pub read_made : (e : SlotExpr) (t : Kind) (d k : ℕ) (p q : Point) → IsTemporary f k d
       → From d p (HasMade e t d k p q) → From d p (HasRead e t d k p q)
   read_made e t d k p q is makes m tr b site of runs =
@@ -722,10 +722,10 @@ module _ (s : Setting) where
         gives = ap (λ u. marked_value z tr (compute (CONVERT from u) (expr_then e no_exprs)) (b + p.ahead)) is.0
             ∙ then_gives (marked_values z tr (expr_then e no_exprs) (b + p.ahead))
             (datum_at from w ∷ [], one.tracked) (one.left + q.ahead)
-            (λ xs. λ b. follow (attempt s.stand_ins (standard_value (CONVERT from t) xs.0) b) (λ v. give (v, xs.1)))
+            (λ xs. λ b. follow (attempt s.stuck_faults (standard_value (CONVERT from t) xs.0) b) (λ v. give (v, xs.1)))
             (then_gives (marked_value z tr e (b + p.ahead)) (datum_at from w, one.tracked) (one.left + q.ahead)
             (λ r. λ n. follow (marked_values z r.1 no_exprs n) (λ xs. give (r.0 ∷ xs.0, xs.1))) one.gives)
-            ∙ ap (λ o. follow (attempt s.stand_ins o (one.left + q.ahead)) (λ v. give (v, one.tracked))) wide.0;
+            ∙ ap (λ o. follow (attempt s.stuck_faults o (one.left + q.ahead)) (λ v. give (v, one.tracked))) wide.0;
         fewer = one.fewer;
         keeps = one.keeps;
         is = one.is;
@@ -746,7 +746,7 @@ module _ (s : Setting) where
     pub keeps : Keeps d m memory
     pub is : AreHeld q memory tracked
     pub given : AreGiven memory (d + length words) kinds words arguments
-    pub ends : Ends f q.place memory left s.finish
+    pub ends : EndsWellAt f q.place memory left s.finish
 
   abbrev pub ReadsAll : SlotExprs → ℕ → List Kind → List ℕ → Type 0
   ReadsAll es d kinds words =
@@ -877,8 +877,8 @@ module _ (s : Setting) where
         word = done.word;
         gives = then_gives (marked_values z tr es (b + p.ahead)) (all.arguments, all.tracked)
             (all.left + is.given.ahead)
-            (λ r. λ n. follow (attempt s.stand_ins (standard_value g r.0) n) (λ v. give (v, r.1))) all.gives
-            ∙ ap (λ o. follow (attempt s.stand_ins o (all.left + is.given.ahead)) (λ v. give (v, all.tracked)))
+            (λ r. λ n. follow (attempt s.stuck_faults (standard_value g r.0) n) (λ v. give (v, r.1))) all.gives
+            ∙ ap (λ o. follow (attempt s.stuck_faults o (all.left + is.given.ahead)) (λ v. give (v, all.tracked)))
             done.value
             ∙ ap (λ a. Ok ((datum_at t done.word, all.tracked), all.left + a)) (sym same);
         fewer = omega arith;
@@ -913,9 +913,9 @@ module _ (s : Setting) where
     keeps : Keeps d m memory
     is : AreHeld q memory tracked
     place : ℕ
-    behind : q.place ≡ suc place
+    next : q.place ≡ suc place
     stands : slice_get f.code place ≡ Some (Instr index shift)
-    ends : Ends f place memory left s.finish
+    ends : EndsWellAt f place memory left s.finish
 
   indexed_by : (e : SlotExpr) (lower : ℤ) (count d : ℕ) (Instr : ℕ → ℤ → QuickInstr) (p q : Point)
       → ReadsApart e d
@@ -935,7 +935,7 @@ module _ (s : Setting) where
         keeps = one.keeps;
         is = one.is;
         place = is.last.place;
-        behind = refl;
+        next = refl;
         stands = is.stands;
         ends = one.ends;
       })
@@ -950,15 +950,15 @@ module _ (s : Setting) where
       then marked_led z r.1 (k + distance lower r.0.number * stride) ss else fault Index) value
       ∙ ap (λ u. (if u then marked_led z tr' (k + distance lower (number_at t w) * stride) ss else fault Index) b)
       leads.inside
-      ∙ ap (λ i. marked_led z tr' (k + i * stride) ss b) leads.behind
+      ∙ ap (λ i. marked_led z tr' (k + i * stride) ss b) leads.distance_is
       ∙ ap (λ i. marked_led z tr' i ss b) (sym leads.place)
 
   -- Subscripts led from the value at an offset to a place of a word, and to the slot.
   pub record ComesTo (ss : Subscripts) (start o k word to : ℕ) (tr tr' : Tracked) (a b : ℕ) : Type 0 where
-    pub behind : ℕ
-    pub reached : LeadsBehind ss behind
-    pub place : to ≡ word + (o + behind)
-    pub gives : marked_led z tr k ss a ≡ Ok ((start + (o + behind), tr'), b)
+    pub offset : ℕ
+    pub reached : IsOffset ss offset
+    pub place : to ≡ word + (o + offset)
+    pub gives : marked_led z tr k ss a ≡ Ok ((start + (o + offset), tr'), b)
 
   -- Subscripts were read, up to the instruction of the last one.
   pub record HasLed (ss : Subscripts) (d start o k : ℕ) (Instr : ℕ → ℤ → ℕ → ℕ → QuickInstr) (p q : Point) (m : Memory)
@@ -979,9 +979,9 @@ module _ (s : Setting) where
       pub keeps : Keeps d m memory
       pub is : AreHeld q memory tracked
       pub place : ℕ
-      pub behind : q.place ≡ suc place
+      pub next : q.place ≡ suc place
       pub stands : slice_get f.code place ≡ Some (Instr index shift count stride)
-      pub ends : Ends f place memory left s.finish
+      pub ends : EndsWellAt f place memory left s.finish
 
   -- how further subscripts lead on
   abbrev pub LeadsOn : Subscripts → ℕ → Type 0
@@ -1012,7 +1012,7 @@ module _ (s : Setting) where
             let j = el.before * stride in
             let slot : k + j ≡ start + (o + j) = ap (λ k. k + j) at ∙ add_assoc start o j in
             let place = el.place in record {
-              behind = j;
+              offset = j;
               reached = (el.before, (0, (el.less, (refl, omega arith))));
               place = omega arith;
               gives = led_by e lower k count stride there.kind there.value (k + j) tr one.tracked (b + p.ahead)
@@ -1023,7 +1023,7 @@ module _ (s : Setting) where
         keeps = keeps_less d (suc d) m one.memory (omega arith) one.keeps;
         is = one.is;
         place = one.place;
-        behind = one.behind;
+        next = one.next;
         stands = one.stands;
         ends = one.ends;
       }
@@ -1035,7 +1035,7 @@ module _ (s : Setting) where
       (further : IsLedOn s.frame s.site s.units ss d Instr r q) (m : Memory) (tr : Tracked) (b : ℕ)
       (site : IsSite s.frame s.site d) (one : HasIndexed e lower count c First p r m tr b) (place : ℕ)
       (found : element_place 0 count stride (look one.memory one.index +ℤ one.shift) ≡ Some place)
-      (runs : Ends f (suc one.place) (with_word one.memory d (pos (o + place))) one.left s.finish) where
+      (runs : EndsWellAt f (suc one.place) (with_word one.memory d (pos (o + place))) one.left s.finish) where
     led_further : HasLed (subscript_then e lower count stride ss) d start o k Instr p q m tr b
     led_further =
         let value = one.gives k 0 stride place found in
@@ -1049,7 +1049,7 @@ module _ (s : Setting) where
         let words = one.is.noted.room.words in
         let rest = leads Instr r q further start o' (k + j) slot there m' one.tracked one.left site
         (holds_temporary s.frame s.site s.around r.noted one.memory one.tracked one.is d site d (pos o') (omega arith))
-        (subst (λ i. Ends f i m' one.left s.finish) (sym one.behind) runs)
+        (subst (λ i. EndsWellAt f i m' one.left s.finish) (sym one.next) runs)
         (word_here one.memory d (pos o') (omega arith)) in
         let few_one = one.fewer in
         let few_rest = rest.fewer in
@@ -1065,10 +1065,10 @@ module _ (s : Setting) where
           is_offset = rest.is_offset;
           comes = λ word w found. (
               let to = rest.comes word w found in
-              let sum : o + (j + to.behind) ≡ o' + to.behind = omega arith in
+              let sum : o + (j + to.offset) ≡ o' + to.offset = omega arith in
               let there = to.place in record {
-                behind = j + to.behind;
-                reached = (el.before, (to.behind, (el.less, (to.reached, refl))));
+                offset = j + to.offset;
+                reached = (el.before, (to.offset, (el.less, (to.reached, refl))));
                 place = omega arith;
                 gives = led_on e lower k count stride ss value.kind value.value (k + j) tr one.tracked (b + p.ahead)
                     (one.left + r.ahead) value.gives el.leads
@@ -1081,30 +1081,30 @@ module _ (s : Setting) where
               (keeps_below d one.memory d (pos o') (omega arith)) rest.keeps);
           is = rest.is;
           place = rest.place;
-          behind = rest.behind;
+          next = rest.next;
           stands = rest.stands;
           ends = rest.ends;
         }
 
   middle_led : (e : SlotExpr) (lower : ℤ) (count stride : ℕ) (ss : Subscripts) (d : ℕ)
       → ReadsApart e (suc d) → LeadsOn ss d → (Instr : ℕ → ℤ → ℕ → ℕ → QuickInstr) (p q : Point)
-      → AreBoth (IsIndexed f (λ u n. IsReadApart s.frame s.site s.units e u n (suc d)) lower count
-      (λ i n. LocateBehind d i n d count stride))
+      → InSequence (IsIndexed f (λ u n. IsReadApart s.frame s.site s.units e u n (suc d)) lower count
+      (λ i n. LocateNested d i n d count stride))
       (IsLedOn s.frame s.site s.units ss d Instr) p q
       → (start o k : ℕ) → k ≡ start + o → d < f.size
       → From d p (λ m tr b. look m d ≡ pos o
       → HasLed (subscript_then e lower count stride ss) d start o k Instr p q m tr b)
   middle_led e lower count stride ss d reads_e leads Instr p q is start o k at there m tr b site of runs offset =
-      let one = indexed_by e lower count (suc d) (λ i n. LocateBehind d i n d count stride) p is.middle reads_e is.first
+      let one = indexed_by e lower count (suc d) (λ i n. LocateNested d i n d count stride) p is.middle reads_e is.first
       m tr b (deeper s.frame s.site d (suc d) (omega arith) site) of runs in
       let found = element_place 0 count stride (look one.memory one.index +ℤ one.shift) in
-      let done = has_located f one.place s.finish one.memory one.left d (behind (look one.memory d) found)
+      let done = has_located f one.place s.finish one.memory one.left d (offset_by (look one.memory d) found)
       (stepped f one.place s.finish one.memory one.left _ one.ends one.stands) in
       let is_behind = is_behind (look one.memory d) found o done.offset
       (keeps_word (suc d) m one.memory d one.keeps (omega arith) ∙ offset) done.is in
-      led_further e lower count stride ss d (suc d) (omega arith) (λ i n. LocateBehind d i n d count stride) Instr p
+      led_further e lower count stride ss d (suc d) (omega arith) (λ i n. LocateNested d i n d count stride) Instr p
       is.middle q start o k at there leads is.second m tr b site one is_behind.before is_behind.is
-      (subst (λ o. Ends f (suc one.place) (with_word one.memory d (pos o)) one.left s.finish) is_behind.place_is
+      (subst (λ o. EndsWellAt f (suc one.place) (with_word one.memory d (pos o)) one.left s.finish) is_behind.place_is
       done.ends)
 
   pub led_first : (e : SlotExpr) (lower : ℤ) (count stride : ℕ) (ss : Subscripts) (d start : ℕ)
@@ -1120,7 +1120,7 @@ module _ (s : Setting) where
       (stepped f one.place s.finish one.memory one.left _ one.ends one.stands) in
       led_further e lower count stride ss d d (omega arith) (λ i n. Locate i n d count stride) Instr p is.located q
       start 0 start (omega arith) is.there leads is.further m tr b site one done.offset done.is
-      (subst (λ o. Ends f (suc one.place) (with_word one.memory d (pos o)) one.left s.finish)
+      (subst (λ o. EndsWellAt f (suc one.place) (with_word one.memory d (pos o)) one.left s.finish)
       (let same : done.offset ≡ 0 + done.offset = omega arith in same) done.ends)
 
   -- an element of an array in an array was loaded
@@ -1128,19 +1128,19 @@ module _ (s : Setting) where
       (p q : Point) → ReadsApart e d → LeadsOn ss d
       → IsWithin f s.site (slot_at (base_of s.site) a) (subscript_then e lower count stride ss) t
       (λ word. IsLed f (λ u n. IsReadApart s.frame s.site s.units e u n d) lower count stride d
-      (IsLedOn s.frame s.site s.units ss d (λ i n count stride. LoadBehind d i n to word count stride))) p q
+      (IsLedOn s.frame s.site s.units ss d (λ i n count stride. LoadNested d i n to word count stride))) p q
       → From d p (HasMade (load (place a (subscript_then e lower count stride ss))) t d to p q)
   within_by a e lower count stride ss t d to p q reads_e leads is m tr b site of runs =
       let first = slot_at (base_of s.site) a in
       let all = subscript_then e lower count stride ss in
-      let one = led_first e lower count stride ss d first (λ i n count stride. LoadBehind d i n to is.word count stride)
+      let one = led_first e lower count stride ss d first (λ i n count stride. LoadNested d i n to is.word count stride)
       p q reads_e leads is.led m tr b site of runs in
       let at = element_place is.word one.count one.stride (look one.memory one.index +ℤ one.shift) in
-      let done = of_load f one.place s.finish one.memory one.left (place_behind one.memory d at) to
+      let done = of_load f one.place s.finish one.memory one.left (nested_place one.memory d at) to
       (stepped f one.place s.finish one.memory one.left _ one.ends one.stands) in
       let here = place_is one.memory d one.offset done.place at one.is_offset done.is in
       let comes = one.comes is.word here.before here.is in
-      let o = comes.behind in
+      let o = comes.offset in
       let k = first + o in
       let word : done.place ≡ is.word + o = omega (arith, here.place_is, comes.place) in
       let slot : first + (0 + o) ≡ k = omega arith in
@@ -1154,17 +1154,17 @@ module _ (s : Setting) where
         left = one.left;
         word = look one.memory done.place;
         gives = then_gives (marked_led z tr first all (b + p.ahead)) (k, one.tracked) (one.left + q.ahead)
-            (λ r. marked_load s.stand_ins r.1 r.0)
+            (λ r. marked_load s.stuck_faults r.1 r.0)
             (comes.gives ∙ ap (λ k. Ok ((k, one.tracked), one.left + q.ahead)) slot)
-            ∙ load_gives s.stand_ins one.tracked k (datum_at t (look one.memory done.place)) (one.left + q.ahead)
+            ∙ load_gives s.stuck_faults one.tracked k (datum_at t (look one.memory done.place)) (one.left + q.ahead)
             value.is value.held;
         fewer = one.fewer;
         keeps = record { long = one.keeps.long; same = one.keeps.same };
         is = holds_loaded s.frame s.site s.around q.noted one.memory one.tracked one.is d site k done.place t target own
             (subst (IsExact s.site q.noted) (sym word) (is.reached.exact o comes.reached));
         held = value.held;
-        ends = subst (λ i. Ends f i (with_word (note noted_read done.place one.memory) to (look one.memory done.place))
-            one.left s.finish) (sym one.behind) done.ends;
+        ends = subst (λ i. EndsWellAt f i (with_word (note noted_read done.place one.memory) to (look one.memory done.place))
+            one.left s.finish) (sym one.next) done.ends;
       }
 
   mutual

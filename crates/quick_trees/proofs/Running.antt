@@ -6,24 +6,24 @@ use Rattle.st_types.specs.declared.kind.Kind.{Kind}
 use Rattle.st_types.proofs.KindLemmas.{same_kind-refl}
 use Rattle.st_types.specs.Values.{IsHeld}
 use Rattle.st_types.specs.Words.{datum_at}
-use Rattle.st_meaning.specs.Failures.{StandIns, ill_typed, or_failure}
-use Rattle.st_meaning.specs.Loops.{behind, exits, goes_on, returns}
+use Rattle.st_meaning.specs.Failures.{StuckFaults, ill_typed, or_failure}
+use Rattle.st_meaning.specs.Loops.{continue_with, exits, goes_on, returns}
 use Rattle.st_meaning.specs.Ticks.{Run, ◌>>◌, attempt, follow, give, tick}
-use Rattle.machine_code.specs.Tracking.{Tracked, replaced, written}
-use Rattle.quick_code.specs.QuickSteps.{Memory, look, note, noted_read, noted_written, with_word, place_behind}
-use Rattle.quick_code.specs.declared.quick_instr.QuickInstr.TheVariants.{NoteRead, NoteWritten, StoreBehind}
+use Rattle.machine_code.specs.Tracking.{Tracked, replaced, assigned_slot}
+use Rattle.quick_code.specs.QuickSteps.{Memory, look, note, noted_read, noted_written, with_word, nested_place}
+use Rattle.quick_code.specs.declared.quick_instr.QuickInstr.TheVariants.{NoteRead, NoteWritten, StoreNested}
 use Rattle.slot_trees.specs.SlotTrees.{Anchor, Place, SlotExpr, Subscripts, no_subscripts, place, subscript_then}
 use Rattle.slot_trees.specs.SlotEvaluation.{slot_at}
 use Rattle.slot_trees.specs.SlotRuns.{state_of}
 use Rattle.machine_code.specs.MarkedEvaluation.{MarkedScope, marked_place, marked_truth, marked_value}
 use Rattle.machine_code.specs.MarkedExecution.{MarkedEnd, marked_assigning, marked_put}
-use Rattle.quick_trees.specs.Pieces.{AreBoth, IsArm, IsTicked}
-use Rattle.quick_trees.specs.Points.{AllNoted, AreNoted, IsNoted, Joins, Meets, Note, Part, Point, assignment_of}
+use Rattle.quick_trees.specs.Pieces.{InSequence, IsArm, IsTicked}
+use Rattle.quick_trees.specs.Points.{AllNoted, AreNoted, IsNoted, Joins, Refines, Note, CodeRelation, Point, assignment_of}
 use Rattle.quick_trees.specs.Points.{look_of}
-use Rattle.quick_trees.specs.QuickMemory.{Ends}
-use Rattle.quick_trees.specs.Sites.{HasOwnWord, base_of}
-use Rattle.quick_trees.specs.Sites.{IsExact}
-use Rattle.quick_trees.specs.Standing.{Exits, IsAssignment, IsStored, IsStoredWithin, IsTestedFor}
+use Rattle.quick_trees.specs.QuickMemory.{EndsWellAt}
+use Rattle.quick_trees.specs.UnitValues.{HasOwnWord, base_of}
+use Rattle.quick_trees.specs.UnitValues.{IsExact}
+use Rattle.quick_trees.specs.TreeCode.{Exits, IsAssignment, IsStored, IsStoredWithin, IsTestedFor}
 use Rattle.quick_trees.proofs.Stepping.{HasBranched, has_taken, stepped}
 use Rattle.quick_trees.proofs.Memories.{IsSite, Spares, deeper, holds_assigned, holds_stored, keeps_both, keeps_word}
 use Rattle.quick_trees.proofs.Memories.{marks_of, noted_assignment, noted_look, own_value, spares_all, spares_both}
@@ -36,7 +36,7 @@ use Rattle.quick_trees.proofs.Reading.{AreHeld, From, leads_on, leads_there, led
 use Rattle.quick_trees.proofs.Reading.{reads_apart}
 use Rattle.quick_trees.proofs.Testing.{made, tested, truth_is}
 
--- where a run of statements comes that ends so
+-- the point that a run of statements reaches if it ends so
 abbrev pub reached : Exits → Point → MarkedEnd → Point
 reached e q (goes_on t) = q
 reached e q (exits t) = e.out
@@ -47,26 +47,26 @@ pub ticks_on : {A : Type 0} (t u : ℕ) (g : Unit {0} → Run A) → t ≡ suc u
 ticks_on t u g e = ap (λ n. follow (tick n) g) e
 
 -- a slot takes a value of its type
-pub puts : (s : StandIns) (tr : Tracked) (k : ℕ) (t : Kind) (v w : ℤ) (n : ℕ)
+pub puts : (s : StuckFaults) (tr : Tracked) (k : ℕ) (t : Kind) (v w : ℤ) (n : ℕ)
     → slice_get tr.values k ≡ Some (datum_at t v) → IsHeld (datum_at t w)
-    → marked_put s tr k (datum_at t w) n ≡ Ok (written tr k (datum_at t w), n)
+    → marked_put s tr k (datum_at t w) n ≡ Ok (assigned_slot tr k (datum_at t w), n)
 puts s tr k t v w n at held =
     ap (λ o. attempt s (or_failure ill_typed (replaced tr k (datum_at t w) o)) n) at
     ∙ ap₂ (λ a b. attempt s (or_failure ill_typed
-    (if a && b then Some (written tr k (datum_at t w)) else None)) n) (same_kind-refl t) held
+    (if a && b then Some (assigned_slot tr k (datum_at t w)) else None)) n) (same_kind-refl t) held
 
 module _ (s : Setting) where
   abbrev z : MarkedScope
   z = scope_of s
 
-  -- Statements ended so, with so many ticks of the tree: of a machine's, those that are left and those ahead.
+  -- Statements ended so, with n ticks of the tree: those that the machine has left and those ahead.
   pub record HasEnded (d : ℕ) (e : Exits) (q : Point) (m : Memory) (end : MarkedEnd) (n : ℕ) : Type 0 where
     pub memory : Memory
     pub left : ℕ
     pub ticks : n ≡ left + (reached e q end).ahead
     pub spares : Spares s.frame s.site d m memory
     pub is : AreHeld s (reached e q end) memory (state_of end)
-    pub ends : Ends s.frame (reached e q end).place memory left s.finish
+    pub ends : EndsWellAt s.frame (reached e q end).place memory left s.finish
 
   -- A part was run.
   pub record HasRun (run : Tracked → Run MarkedEnd) (d : ℕ) (e : Exits) (q : Point) (m : Memory) (tr : Tracked)
@@ -79,8 +79,8 @@ module _ (s : Setting) where
       pub fewer : rest ≤ n
       pub ended : HasEnded d e q m end rest
 
-  -- how code does what a part means, where temporaries from a depth on are free
-  abbrev pub Does : (Tracked → Run MarkedEnd) → ℕ → Exits → Part → Type 0
+  -- how code does what a part means, with temporaries free from a depth on
+  abbrev pub Does : (Tracked → Run MarkedEnd) → ℕ → Exits → CodeRelation → Type 0
   Does run d e part =
       (p q : Point) → part p q → From s d p (λ m tr b. HasRun run d e q m tr (b + p.ahead))
 
@@ -96,7 +96,7 @@ module _ (s : Setting) where
     ends = h.ends;
   }
 
-  -- what gives the same was run as well
+  -- a part with the same result was run as well
   pub gives_same : (run go : Tracked → Run MarkedEnd) (d : ℕ) (e : Exits) (q : Point) (m n : Memory) (tr us : Tracked)
       (t u : ℕ) → run tr t ≡ go us u → u ≤ t → Spares s.frame s.site d m n → HasRun go d e q n us u
       → HasRun run d e q m tr t
@@ -109,7 +109,7 @@ module _ (s : Setting) where
   }
 
   pub nothing : (run : Tracked → Run MarkedEnd) (d : ℕ) (e : Exits) (q : Point) (m : Memory) (tr : Tracked) (b t n : ℕ)
-      → AreHeld s q m tr → Ends s.frame q.place m b s.finish → run tr t ≡ Ok (goes_on tr, n) → n ≡ b + q.ahead → n ≤ t
+      → AreHeld s q m tr → EndsWellAt s.frame q.place m b s.finish → run tr t ≡ Ok (goes_on tr, n) → n ≡ b + q.ahead → n ≤ t
       → HasRun run d e q m tr t
   nothing run d e q m tr b t n is runs gives ticks fewer = record {
     end = goes_on tr;
@@ -126,15 +126,15 @@ module _ (s : Setting) where
     };
   }
 
-  -- a point that is another, of whose notes no more is known
-  pub held_met : (p q : Point) (m : Memory) (tr : Tracked) → Meets p q → AreHeld s p m tr → AreHeld s q m tr
+  -- a point that is another, with no more known of its notes
+  pub held_met : (p q : Point) (m : Memory) (tr : Tracked) → Refines p q → AreHeld s p m tr → AreHeld s q m tr
   held_met p q m tr met is = still_told s.frame s.site s.around p.noted m tr is q.noted met.noted
 
-  pub ends_met : (p q : Point) (m : Memory) (b : ℕ) → Meets p q → Ends s.frame p.place m b s.finish
-      → Ends s.frame q.place m b s.finish
-  ends_met p q m b met runs = subst (λ p. Ends s.frame p m b s.finish) met.place runs
+  pub ends_met : (p q : Point) (m : Memory) (b : ℕ) → Refines p q → EndsWellAt s.frame p.place m b s.finish
+      → EndsWellAt s.frame q.place m b s.finish
+  ends_met p q m b met runs = subst (λ p. EndsWellAt s.frame p m b s.finish) met.place runs
 
-  pub met : (d : ℕ) (e : Exits) (p q : Point) (m : Memory) (end : MarkedEnd) (n : ℕ) → Meets p q
+  pub met : (d : ℕ) (e : Exits) (p q : Point) (m : Memory) (end : MarkedEnd) (n : ℕ) → Refines p q
       → HasEnded d e p m end n → HasEnded d e q m end n
   met d e p q m (goes_on t) n same h = record {
     memory = h.memory;
@@ -154,10 +154,10 @@ module _ (s : Setting) where
     pub left : ℕ
     pub ticks : n ≡ left + q.ahead
     pub is : AreHeld s q m tr
-    pub ends : Ends s.frame q.place m left s.finish
+    pub ends : EndsWellAt s.frame q.place m left s.finish
 
   pub has_joined : (p q : Point) (m : Memory) (tr : Tracked) (b n : ℕ) → Joins s.frame p q → n ≡ b + p.ahead
-      → AreHeld s p m tr → Ends s.frame p.place m b s.finish → HasJoined q m tr n
+      → AreHeld s p m tr → EndsWellAt s.frame p.place m b s.finish → HasJoined q m tr n
   has_joined p q m tr b n (inl same) ticks is runs = record {
     left = b;
     ticks = ticks ∙ ap (λ a. b + a) same.ahead;
@@ -171,7 +171,7 @@ module _ (s : Setting) where
         left = b - j.way.ticks;
         ticks = omega arith;
         is = still_told s.frame s.site s.around p.noted m tr is q.noted j.meets.noted;
-        ends = subst (λ q. Ends s.frame q m (b - j.way.ticks) s.finish) j.meets.place took.1;
+        ends = subst (λ q. EndsWellAt s.frame q m (b - j.way.ticks) s.finish) j.meets.place took.1;
       }
 
   pub joined : (d : ℕ) (e : Exits) (p q : Point) (m : Memory) (end : MarkedEnd) (n : ℕ) → Joins s.frame p q
@@ -200,10 +200,10 @@ module _ (s : Setting) where
     pub words : memory.words ≡ m.words
     pub ahead : p.ahead ≡ q.ahead
     pub is : AreHeld s q memory tr
-    pub ends : Ends s.frame q.place memory b s.finish
+    pub ends : EndsWellAt s.frame q.place memory b s.finish
 
   noted_once : (n : Note) (p q : Point) (m : Memory) (tr : Tracked) (b : ℕ) → IsNoted s.frame n p q → AreHeld s p m tr
-      → Ends s.frame p.place m b s.finish → HasNoted p q m tr b
+      → EndsWellAt s.frame p.place m b s.finish → HasNoted p q m tr b
   noted_once (look_of k) p q m tr b is of runs = record {
     memory = note noted_read k m;
     words = refl;
@@ -214,7 +214,7 @@ module _ (s : Setting) where
       long = of.long;
       values = λ j w t at has. (let v = of.values j w t at has in record { is = v.is; held = v.held });
     };
-    ends = subst (λ i. Ends s.frame i (note noted_read k m) b s.finish) (sym (ap (λ (q : Point). q.place) is.1.0))
+    ends = subst (λ i. EndsWellAt s.frame i (note noted_read k m) b s.finish) (sym (ap (λ (q : Point). q.place) is.1.0))
         (stepped s.frame p.place s.finish m b (NoteRead k) runs is.0);
   }
   noted_once (assignment_of k) p q m tr b is of runs = record {
@@ -227,12 +227,12 @@ module _ (s : Setting) where
       long = of.long;
       values = λ j w t at has. (let v = of.values j w t at has in record { is = v.is; held = v.held });
     };
-    ends = subst (λ i. Ends s.frame i (note noted_written k m) b s.finish) (sym (ap (λ (q : Point). q.place) is.1.0))
+    ends = subst (λ i. EndsWellAt s.frame i (note noted_written k m) b s.finish) (sym (ap (λ (q : Point). q.place) is.1.0))
         (stepped s.frame p.place s.finish m b (NoteWritten k) runs is.0);
   }
 
   pub has_noted : (ns : List Note) (p q : Point) (m : Memory) (tr : Tracked) (b : ℕ) → AllNoted s.frame ns p q
-      → AreHeld s p m tr → Ends s.frame p.place m b s.finish → HasNoted p q m tr b
+      → AreHeld s p m tr → EndsWellAt s.frame p.place m b s.finish → HasNoted p q m tr b
   has_noted [] p q m tr b is of runs =
       subst (λ q. HasNoted p q m tr b) is (record { memory = m; words = refl; ahead = refl; is = of; ends = runs })
   has_noted (n ∷ ns) p q m tr b is of runs =
@@ -251,9 +251,9 @@ module _ (s : Setting) where
     same = λ w lt not_own. ap (λ ws. slice_get ws w) same;
   }
 
-  -- a part behind notes
-  pub noting : (run : Tracked → Run MarkedEnd) (d : ℕ) (e : Exits) (part : Part) → Does run d e part
-      → Does run d e (AreBoth (AreNoted s.frame) part)
+  -- a part after notes
+  pub noting : (run : Tracked → Run MarkedEnd) (d : ℕ) (e : Exits) (part : CodeRelation) → Does run d e part
+      → Does run d e (InSequence (AreNoted s.frame) part)
   noting run d e part does p q r m tr b site is runs =
       let n = has_noted r.first.notes p r.middle m tr b r.first.all is runs in
       let same = n.ahead in
@@ -261,7 +261,7 @@ module _ (s : Setting) where
       gives_same run run d e q m n.memory tr tr (b + p.ahead) (b + r.middle.ahead) (ap (run tr) at) (omega arith)
       (spares_words d m n.memory n.words) (does r.middle q r.second n.memory tr b site n.is n.ends)
 
-  pub ticked : (run : Tracked → Run MarkedEnd) (d : ℕ) (e : Exits) (rest : Part) → Does run d e rest
+  pub ticked : (run : Tracked → Run MarkedEnd) (d : ℕ) (e : Exits) (rest : CodeRelation) → Does run d e rest
       → Does (λ tr. tick >> run tr) d e (IsTicked rest)
   ticked run d e rest does p q r m tr b site is runs =
       let ticks = r.ticks in
@@ -270,7 +270,7 @@ module _ (s : Setting) where
       (ticks_on (b + p.ahead) (b + r.behind) (λ _. run tr) at) (omega arith) (spares_all s.frame s.site d m)
       (does (record p { ahead = r.behind }) q r.rest m tr b site is runs)
 
-  pub does_nothing : (d : ℕ) (e : Exits) → Does (λ tr. give (goes_on tr)) d e Meets
+  pub does_nothing : (d : ℕ) (e : Exits) → Does (λ tr. give (goes_on tr)) d e Refines
   does_nothing d e p q same m tr b site is runs =
       nothing (λ tr. give (goes_on tr)) d e q m tr b (b + p.ahead) (b + p.ahead) (held_met p q m tr same is)
       (ends_met p q m b same runs) refl (ap (λ a. b + a) same.ahead) (omega arith)
@@ -314,15 +314,15 @@ module _ (s : Setting) where
   pub assigns : (l : Place) (y : SlotExpr) (tr tr' tr'' : Tracked) (a b c k : ℕ) (t : Kind) (w old : ℤ)
       → marked_value z tr y a ≡ Ok ((datum_at t w, tr'), b) → marked_place z tr' l b ≡ Ok ((k, tr''), c)
       → slice_get tr''.values k ≡ Some (datum_at t old) → IsHeld (datum_at t w)
-      → marked_assigning z l y tr a ≡ Ok (goes_on (written tr'' k (datum_at t w)), c)
+      → marked_assigning z l y tr a ≡ Ok (goes_on (assigned_slot tr'' k (datum_at t w)), c)
   assigns l y tr tr' tr'' a b c k t w old value led at held =
       then_gives (marked_value z tr y a) (datum_at t w, tr') b
       (λ v. λ n. follow (marked_place z v.1 l n)
-      (λ l. λ n. follow (marked_put s.stand_ins l.1 l.0 v.0 n) (λ m. give (goes_on m)))) value
+      (λ l. λ n. follow (marked_put s.stuck_faults l.1 l.0 v.0 n) (λ m. give (goes_on m)))) value
       ∙ then_gives (marked_place z tr' l b) (k, tr'') c
-      (λ l. λ n. follow (marked_put s.stand_ins l.1 l.0 (datum_at t w) n) (λ m. give (goes_on m))) led
-      ∙ then_gives (marked_put s.stand_ins tr'' k (datum_at t w) c) (written tr'' k (datum_at t w)) c
-      (λ m. give (goes_on m)) (puts s.stand_ins tr'' k t old w c at held)
+      (λ l. λ n. follow (marked_put s.stuck_faults l.1 l.0 (datum_at t w) n) (λ m. give (goes_on m))) led
+      ∙ then_gives (marked_put s.stuck_faults tr'' k (datum_at t w) c) (assigned_slot tr'' k (datum_at t w)) c
+      (λ m. give (goes_on m)) (puts s.stuck_faults tr'' k t old w c at held)
 
   pub does_assign : (a : Anchor) (y : SlotExpr) (d : ℕ) (e : Exits)
       → Does (marked_assigning z (place a no_subscripts) y) d e (IsAssignment s.frame s.site s.units a y d)
@@ -332,7 +332,7 @@ module _ (s : Setting) where
       let done = made s y t d r.word p r.made r.makes m tr b site is runs in
       let old = own_value s.frame s.site s.around r.made.noted done.memory done.tracked done.is d site k r.word t
       r.target r.own in
-      let after = written done.tracked k (datum_at t done.word) in
+      let after = assigned_slot done.tracked k (datum_at t done.word) in
       let m' = with_word done.memory r.word done.word in
       let rest = done.left + r.made.ahead in
       record {
@@ -380,7 +380,7 @@ module _ (s : Setting) where
       let old = own_value s.frame s.site s.around r.last.noted two.memory two.tracked two.is d site k done.place t
       target
       own in
-      let after = written two.tracked k (datum_at t w) in
+      let after = assigned_slot two.tracked k (datum_at t w) in
       let m' = with_word (note noted_written done.place two.memory) done.place w in
       let rest = two.left + r.last.ahead in
       let keeps = keeps_both d (suc d) m one.memory two.memory (omega arith) one.keeps two.keeps in
@@ -419,7 +419,7 @@ module _ (s : Setting) where
       let v = r.stores.word in
       let one = reads s y t d r.from p r.middle r.value m tr b site is runs in
       let two = led_first s i lower count stride ss (suc d) first
-      (λ i n count stride. StoreBehind (suc d) i n r.from v count stride) r.middle q
+      (λ i n count stride. StoreNested (suc d) i n r.from v count stride) r.middle q
       (reads_apart s i (suc d))
       (leads_on s ss (suc d)) r.stores.led one.memory one.tracked one.left
       (deeper s.frame s.site d (suc d) (omega arith) site) one.is one.ends in
@@ -428,11 +428,11 @@ module _ (s : Setting) where
       let w = look two.memory r.from in
       let held = subst (λ w. IsHeld (datum_at t w)) (sym kept) one.held in
       let value = one.gives ∙ ap (λ w. Ok ((datum_at t w, one.tracked), one.left + r.middle.ahead)) (sym kept) in
-      let done = of_store s.frame two.place s.finish two.memory two.left (place_behind two.memory (suc d) found) w
+      let done = of_store s.frame two.place s.finish two.memory two.left (nested_place two.memory (suc d) found) w
       (stepped s.frame two.place s.finish two.memory two.left _ two.ends two.stands) in
       let here = place_is two.memory (suc d) two.offset done.place found two.is_offset done.is in
       let comes = two.comes v here.before here.is in
-      let o = comes.behind in
+      let o = comes.offset in
       let k = first + o in
       let word : done.place ≡ v + o = omega (arith, here.place_is, comes.place) in
       let slot : first + (0 + o) ≡ k = omega arith in
@@ -440,7 +440,7 @@ module _ (s : Setting) where
       let own = subst (HasOwnWord s.frame.window s.site k) (sym word) (r.stores.reached.words o comes.reached) in
       let old = own_value s.frame s.site s.around q.noted two.memory two.tracked two.is d site k done.place t target own
       in
-      let after = written two.tracked k (datum_at t w) in
+      let after = assigned_slot two.tracked k (datum_at t w) in
       let m' = with_word (note noted_written done.place two.memory) done.place w in
       let rest = two.left + q.ahead in
       let keeps = keeps_both d (suc d) m one.memory two.memory (omega arith) one.keeps two.keeps in
@@ -462,27 +462,27 @@ module _ (s : Setting) where
               (spares_own s.frame s.site d two.memory m' k done.place t w target own refl);
           is = holds_stored s.frame s.site s.around q.noted two.memory two.tracked two.is d site k done.place t target
               own w held (subst (IsExact s.site q.noted) (sym word) (r.stores.reached.exact o comes.reached));
-          ends = subst (λ i. Ends s.frame i m' two.left s.finish) (sym two.behind) done.ends;
+          ends = subst (λ i. EndsWellAt s.frame i m' two.left s.finish) (sym two.next) done.ends;
         };
       }
 
-  -- one part behind another, unless this left the unit or a loop
+  -- one part after another, unless this left the unit or a loop
   module _ (run go : Tracked → Run MarkedEnd) (d : ℕ) (e : Exits) (p q : Point) (m : Memory) (tr : Tracked) (n : ℕ)
       (next : (us : Tracked) (rest : ℕ) → (h : HasEnded d e p m (goes_on us) rest) → rest ≤ n
       → HasRun go d e q h.memory us rest) where
     abbrev both : Tracked → Run MarkedEnd
-    both us = λ b. follow (run us b) (λ e. behind e go)
+    both us = λ b. follow (run us b) (λ e. continue_with e go)
 
     by_end : (end : MarkedEnd) (rest : ℕ) → run tr n ≡ Ok (end, rest) → rest ≤ n → HasEnded d e p m end rest
         → HasRun both d e q m tr n
     by_end (goes_on us) rest gives fewer h =
         gives_same both go d e q m h.memory tr us n rest (then_gives (run tr n) (goes_on us) rest
-        (λ e. behind e go) gives)
+        (λ e. continue_with e go) gives)
         fewer h.spares (next us rest h fewer)
     by_end (exits us) rest gives fewer h = record {
       end = exits us;
       rest = rest;
-      gives = then_gives (run tr n) (exits us) rest (λ e. behind e go) gives;
+      gives = then_gives (run tr n) (exits us) rest (λ e. continue_with e go) gives;
       fewer = fewer;
       ended = record {
         memory = h.memory;
@@ -496,7 +496,7 @@ module _ (s : Setting) where
     by_end (returns us) rest gives fewer h = record {
       end = returns us;
       rest = rest;
-      gives = then_gives (run tr n) (returns us) rest (λ e. behind e go) gives;
+      gives = then_gives (run tr n) (returns us) rest (λ e. continue_with e go) gives;
       fewer = fewer;
       ended = record {
         memory = h.memory;
@@ -511,15 +511,15 @@ module _ (s : Setting) where
     then_run : HasRun run d e p m tr n → HasRun both d e q m tr n
     then_run h = by_end h.end h.rest h.gives h.fewer h.ended
 
-  pub in_turn : (run go : Tracked → Run MarkedEnd) (d : ℕ) (e : Exits) (First Second : Part) → Does run d e First
-      → Does go d e Second → Does (λ tr. λ b. follow (run tr b) (λ e. behind e go)) d e (AreBoth First Second)
+  pub in_turn : (run go : Tracked → Run MarkedEnd) (d : ℕ) (e : Exits) (First Second : CodeRelation) → Does run d e First
+      → Does go d e Second → Does (λ tr. λ b. follow (run tr b) (λ e. continue_with e go)) d e (InSequence First Second)
   in_turn run go d e First Second one two p q r m tr b site is runs =
       then_run run go d e r.middle q m tr (b + p.ahead)
       (λ us rest h fewer. subst (HasRun go d e q h.memory us) (sym h.ticks)
       (two r.middle q r.second h.memory us h.left site h.is h.ends))
       (one p r.middle r.first m tr b site is runs)
 
-  module _ (x : SlotExpr) (d : ℕ) (e : Exits) (body rest : Tracked → Run MarkedEnd) (Body Rest : Part)
+  module _ (x : SlotExpr) (d : ℕ) (e : Exits) (body rest : Tracked → Run MarkedEnd) (Body Rest : CodeRelation)
       (does_body : Does body d e Body) (does_rest : Does rest d e Rest) where
     chosen : (p q : Point) (r : IsArm s.frame (IsTestedFor s.frame s.site s.units x false d) Body Rest p q) (m : Memory)
         (tr : Tracked) (b : ℕ) → IsSite s.frame s.site d → AreHeld s r.test m tr → (go : Bool)

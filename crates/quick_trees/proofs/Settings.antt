@@ -4,16 +4,16 @@ use Rattle.std.specs.Prelude.{slice_get}
 use Rattle.st_types.specs.declared.kind.Kind.{Kind}
 use Rattle.st_types.specs.Values.{Datum, IsHeld}
 use Rattle.st_types.specs.Words.{datum_at}
-use Rattle.st_meaning.specs.Failures.{StandIns}
+use Rattle.st_meaning.specs.Failures.{StuckFaults}
 use Rattle.st_meaning.specs.Ticks.{Run}
 use Rattle.machine_code.specs.declared.mark.Mark.{Mark}
 use Rattle.quick_code.specs.QuickRuns.{Left}
 use Rattle.quick_code.specs.QuickSteps.{Memory, look, with_word}
 use Rattle.machine_code.specs.MarkedEvaluation.{MarkedScope, MarkedUnits}
 use Rattle.quick_trees.specs.Points.{Point}
-use Rattle.quick_trees.specs.QuickMemory.{Ends, Frame, first_temporary}
-use Rattle.quick_trees.specs.Sites.{Site, base_of, whole}
-use Rattle.quick_trees.specs.Standing.{QuickUnits}
+use Rattle.quick_trees.specs.QuickMemory.{EndsWellAt, Frame, first_temporary}
+use Rattle.quick_trees.specs.UnitValues.{UnitValues, base_of, whole}
+use Rattle.quick_trees.specs.TreeCode.{QuickUnits}
 use Rattle.quick_trees.proofs.Memories.{Holds, IsNoted, Keeps, Spares}
 use Rattle.slot_trees.specs.SlotTrees.{BlockCode}
 use Rattle.machine_code.specs.Tracking.{Tracked}
@@ -39,17 +39,17 @@ pub record HasCalled (f : Frame) (x : Left) (run : Run Datum) (t : Kind) (d to :
   pub keeps : Keeps d m memory
   pub noted : IsNoted f q.noted marks memory
   pub held : IsHeld (datum_at t word)
-  pub ends : Ends f q.place (with_word memory to word) left x
+  pub ends : EndsWellAt f q.place (with_word memory to word) left x
 
 -- code in the place of a call does what the function does
 abbrev pub DoesCalls : Frame → Left → QuickUnits → MarkedUnits → Type 0
 DoesCalls f x units means =
     (i : ℕ) (kinds : List Kind) (words : List ℕ) (d : ℕ) (t : Kind) (to : ℕ) (p q : Point)
     → units.functions i kinds words d t to p q → (marks : List Mark) (m : Memory) (b : ℕ) (values : List Datum)
-    → first_temporary f ≤ d → IsNoted f p.noted marks m → AreGiven m d kinds words values → Ends f p.place m b x
+    → first_temporary f ≤ d → IsNoted f p.noted marks m → AreGiven m d kinds words values → EndsWellAt f p.place m b x
     → HasCalled f x (means.functions i values) t d to p q marks m b
 
--- A block was called on an instance: what its body did is in the words of the program.
+-- A block was called on an instance: the results of its body are in the words of the program.
 pub record HasInvoked (f : Frame) (x : Left) (run : Tracked → Run Tracked) (at d : ℕ) (p q : Point) (around : Tracked)
     (m : Memory) (tr : Tracked) (b : ℕ) : Type 0 where
   pub memory : Memory
@@ -59,27 +59,26 @@ pub record HasInvoked (f : Frame) (x : Left) (run : Tracked → Run Tracked) (at
   pub fewer : left + q.ahead ≤ b + p.ahead
   pub spares : Spares f (whole at) d m memory
   pub is : Holds f (whole at) around q.noted memory tracked
-  pub ends : Ends f q.place memory left x
+  pub ends : EndsWellAt f q.place memory left x
 
 -- code in the place of a call of a block does what the block does
 abbrev pub DoesBlocks : Frame → Left → QuickUnits → MarkedUnits → Type 0
 DoesBlocks f x units means =
     (c : BlockCode) (at d : ℕ) (p q : Point) → units.blocks c at d p q → (around : Tracked) (m : Memory) (tr : Tracked)
-    (b : ℕ) → first_temporary f ≤ d → Holds f (whole at) around p.noted m tr → Ends f p.place m b x
+    (b : ℕ) → first_temporary f ≤ d → Holds f (whole at) around p.noted m tr → EndsWellAt f p.place m b x
     → HasInvoked f x (means.blocks c at) at d p q around m tr b
 
--- The code, where the unit's values stand, what units stand for and what they mean, the slots around the unit, and what
--- the run leaves.
+-- The code, the unit's values, the code of units and their meaning, the slots around the unit, and the state after the run.
 pub record Setting : Type 1 where
   pub frame : Frame
-  pub site : Site
+  pub site : UnitValues
   pub units : QuickUnits
   pub means : MarkedUnits
-  pub stand_ins : StandIns
+  pub stuck_faults : StuckFaults
   pub around : Tracked
   pub finish : Left
   pub does : DoesCalls frame finish units means
   pub does_blocks : DoesBlocks frame finish units means
 
 abbrev pub scope_of : Setting → MarkedScope
-scope_of s = record { units = s.means; base = base_of s.site; stand_ins = s.stand_ins }
+scope_of s = record { units = s.means; base = base_of s.site; stuck_faults = s.stuck_faults }

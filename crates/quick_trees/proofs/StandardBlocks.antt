@@ -6,11 +6,11 @@ use Rattle.st_types.specs.declared.kind.Kind.{Kind}
 use Rattle.st_types.specs.Kinds.{holds}
 use Rattle.st_types.specs.Values.{Datum, IsHeld}
 use Rattle.st_types.specs.Words.{datum_at, is_wide, number_at}
-use Rattle.st_meaning.specs.Failures.{StandIns, ill_typed, or_failure}
+use Rattle.st_meaning.specs.Failures.{StuckFaults, ill_typed, or_failure}
 use Rattle.st_meaning.specs.StandardBlocks.{BlockMember, StandardBlock, CTD, CTU, CTUD, F_TRIG, R_TRIG, RS, SR, TOF, TON}
 use Rattle.st_meaning.specs.StandardBlocks.{TP, hidden_of, inputs_of, members_of, outputs_of, stepped as stepped_block}
 use Rattle.st_meaning.specs.Ticks.{attempt, follow, give}
-use Rattle.machine_code.specs.Tracking.{Tracked, looked, written}
+use Rattle.machine_code.specs.Tracking.{Tracked, looked, assigned_slot}
 use Rattle.quick_code.specs.Blocks.{all_put, data_of, held_word, held_words, input_count, member_count, stepped_words}
 use Rattle.quick_code.specs.Blocks.{words_from}
 use Rattle.quick_code.specs.QuickRuns.{Left}
@@ -21,10 +21,10 @@ use Rattle.machine_code.specs.MarkedExecution.{marked_put}
 use Rattle.machine_code.specs.MarkedRuns.{marked_members, marked_members_stored, marked_standard}
 use Rattle.quick_trees.specs.declared.noting.Noting.{Noting}
 use Rattle.quick_trees.specs.Calls.{AreMembers, IsStepped}
-use Rattle.quick_trees.specs.Notes.{AllChange, at_assignment, at_look}
+use Rattle.quick_trees.specs.Notes.{NotesChange, at_assignment, at_look}
 use Rattle.quick_trees.specs.Points.{Point}
-use Rattle.quick_trees.specs.QuickMemory.{Ends, Frame, IsRoom, first_temporary}
-use Rattle.quick_trees.specs.Sites.{whole}
+use Rattle.quick_trees.specs.QuickMemory.{EndsWellAt, Frame, IsRoom, first_temporary}
+use Rattle.quick_trees.specs.UnitValues.{whole}
 use Rattle.quick_trees.proofs.Lists.{set_same, some_is, there_within, within_there}
 use Rattle.quick_trees.proofs.Stepping.{Follows, stepped}
 use Rattle.quick_trees.proofs.Memories.{Holds, Spares, deeper, holds_assigned, holds_looked, own_value, spares_all}
@@ -34,7 +34,7 @@ use Rattle.quick_trees.proofs.Settings.{HasInvoked}
 use Rattle.quick_trees.proofs.Truths.{then_gives}
 use Rattle.quick_trees.proofs.Running.{puts}
 
--- so many words from a place on
+-- n words from a place on
 abbrev words_of : List ℤ → ℕ → ℕ → List ℤ
 words_of ws k zero = []
 words_of ws k (suc n) = word_at ws k ∷ words_of ws (suc k) n
@@ -54,7 +54,7 @@ words_are (suc n) k ws are =
     ap (take (suc n)) (drop_here ws k (word_at ws k) are.0)
     ∙ ap (λ vs. word_at ws k ∷ vs) (words_are n (suc k) ws are.1)
 
--- words are put where they are
+-- putting words over themselves
 put_same : (n k j : ℕ) (ws outs : List ℤ) → AreThere ws k n → k + n ≡ j
     → all_put k (words_of ws k n ++ outs) ws ≡ all_put j outs ws
 put_same zero k j ws outs are at = ap (λ k. all_put k outs ws) (let same : k ≡ j = omega arith in same)
@@ -139,7 +139,7 @@ words_of_values (x ∷ members) (v ∷ vs) ws are e =
       held = (one.held, rest.held);
     })
 
--- what a block leaves: its inputs as they were, and further members of their types
+-- the members after a block's step: its inputs as they were, and further members of their types
 record IsLeft (b : StandardBlock) (now : ℕ) (ws : List ℤ) (k : ℕ) (us : List Datum) : Type 0 where
   inputs : us ≡ data_of (inputs_of b) (words_of ws k (input_count b)) ++ drop (input_count b) us
   rest : AreOf (outputs_of b ++ hidden_of b) (drop (input_count b) us)
@@ -163,7 +163,7 @@ is_left TOF now ws k =
 is_left TP now ws k =
     record { inputs = refl; rest = (refl, (refl, (refl, (refl, (refl, (refl, (refl, (refl, tt)))))))) }
 
-module _ (f : Frame) (x : Left) (t : StandIns) (at d : ℕ) (deep : first_temporary f ≤ d) (around : Tracked) where
+module _ (f : Frame) (x : Left) (t : StuckFaults) (at d : ℕ) (deep : first_temporary f ≤ d) (around : Tracked) where
   abbrev HoldsAll : List Noting → Memory → Tracked → Type 0
   HoldsAll = Holds f (whole at) around
 
@@ -195,7 +195,7 @@ module _ (f : Frame) (x : Left) (t : StandIns) (at d : ℕ) (deep : first_tempor
     is : HoldsAll ns m tracked
 
   members_looked : (xs : List BlockMember) (k w : ℕ) (ns ns' : List Noting) (m : Memory) (tr : Tracked)
-      → AreMembers f xs k w → AllChange at_look w (length xs) ns ns' → HoldsAll ns m tr → HaveLooked xs k w ns' m tr
+      → AreMembers f xs k w → NotesChange at_look w (length xs) ns ns' → HoldsAll ns m tr → HaveLooked xs k w ns' m tr
   members_looked [] k w ns ns' m tr are change holds =
       record { tracked = tr; gives = λ n. refl; is = subst (λ ns. HoldsAll ns m tr) change holds }
   members_looked (x ∷ xs) k w ns ns' m tr are change holds =
@@ -224,7 +224,7 @@ module _ (f : Frame) (x : Left) (t : StandIns) (at d : ℕ) (deep : first_tempor
     spares : Spares f (whole at) d m (record m { words = all_put u ws m.words })
 
   members_stored : (xs : List BlockMember) (k u : ℕ) (ws : List ℤ) (ns ns' : List Noting) (m : Memory) (tr : Tracked)
-      → AreMembers f xs k u → AllHeld xs ws → AllChange at_assignment u (length xs) ns ns' → HoldsAll ns m tr
+      → AreMembers f xs k u → AllHeld xs ws → NotesChange at_assignment u (length xs) ns ns' → HoldsAll ns m tr
       → HaveStored xs k u ws ns' m tr
   members_stored [] k u [] ns ns' m tr are held change holds = record {
     tracked = tr;
@@ -239,7 +239,7 @@ module _ (f : Frame) (x : Left) (t : StandIns) (at d : ℕ) (deep : first_tempor
       let v = datum_at x.1 w in
       let old = own_value f (whole at) around ns m tr holds d site k u x.1 are.0 are.1.0 in
       let m' = with_word m u w in
-      let us = written tr k v in
+      let us = assigned_slot tr k v in
       let one = holds_assigned f (whole at) around ns m tr holds d site k u x.1 are.0 are.1.0 w held.0 change.0
       change.1.0 in
       let rest = members_stored xs (suc k) (suc u) ws change.0 ns' m' us are.1.1 held.1 change.1.1 one in
@@ -257,7 +257,7 @@ module _ (f : Frame) (x : Left) (t : StandIns) (at d : ℕ) (deep : first_tempor
   record HavePut (k : ℕ) (o : Option (List ℤ)) (p : ℕ) (m : Memory) (b : ℕ) : Type 0 where
     words : List ℤ
     is : o ≡ Some words
-    ends : Ends f (suc p) (record m { words = all_put k words m.words }) b x
+    ends : EndsWellAt f (suc p) (record m { words = all_put k words m.words }) b x
 
   have_put : (k : ℕ) (o : Option (List ℤ)) (p : ℕ) (m : Memory) (b : ℕ) → Follows f p x (put_from k o m b)
       → HavePut k o p m b
@@ -265,7 +265,7 @@ module _ (f : Frame) (x : Left) (t : StandIns) (at d : ℕ) (deep : first_tempor
   have_put k None p m b h = absurd h
 
   pub steps : (c : StandardBlock) (p q : Point) → IsStepped f c at p q → (m : Memory) (tr : Tracked) (b : ℕ)
-      → Holds f (whole at) around p.noted m tr → Ends f p.place m b x
+      → Holds f (whole at) around p.noted m tr → EndsWellAt f p.place m b x
       → HasInvoked f x (marked_standard t c f.now at) at d p q around m tr b
   steps c p q r m tr b holds runs =
       let ic = input_count c in
@@ -313,5 +313,5 @@ module _ (f : Frame) (x : Left) (t : StandIns) (at d : ℕ) (deep : first_tempor
         fewer = omega arith;
         spares = subst (λ ws. Spares f (whole at) d m (record m { words = ws })) words two.spares;
         is = subst (λ ws. HoldsAll q.noted (record m { words = ws }) two.tracked) words two.is;
-        ends = subst (λ i. Ends f i m' b x) (sym place) put.ends;
+        ends = subst (λ i. EndsWellAt f i m' b x) (sym place) put.ends;
       }

@@ -20,12 +20,12 @@ use Rattle.machine_code.specs.MarkedEvaluation.{MarkedScope, marked_truth, marke
 use Rattle.machine_code.specs.MarkedExecution.{MarkedEnd, marked_assigning, marked_counting, marked_exec, marked_exec_all}
 use Rattle.machine_code.specs.MarkedExecution.{marked_exec_arms, marked_exec_case, marked_guarded, marked_loop}
 use Rattle.machine_code.specs.MarkedExecution.{marked_no_step, marked_until, marked_invoking}
-use Rattle.quick_trees.specs.Pieces.{AreBoth, IsArm, IsLoop, IsUntil}
-use Rattle.quick_trees.specs.Points.{Joins, Meets, Part, along}
-use Rattle.quick_trees.specs.QuickMemory.{Ends, Frame}
-use Rattle.quick_trees.specs.Sites.{base_of}
-use Rattle.quick_trees.specs.Standing.{ArmsStand, ChosenStand, Exits, IsAssignment, IsCase, IsChosen, IsFor, IsStored}
-use Rattle.quick_trees.specs.Standing.{IsTestedFor, StandsFor, StmtsStand, part_by, IsStoredWithin, IsInvoked}
+use Rattle.quick_trees.specs.Pieces.{InSequence, IsArm, IsLoop, IsUntil}
+use Rattle.quick_trees.specs.Points.{Joins, Refines, CodeRelation, along}
+use Rattle.quick_trees.specs.QuickMemory.{EndsWellAt, Frame}
+use Rattle.quick_trees.specs.UnitValues.{base_of}
+use Rattle.quick_trees.specs.TreeCode.{AreArmsCode, IsChosenCode, Exits, IsAssignment, IsCase, IsChosen, IsFor, IsStored}
+use Rattle.quick_trees.specs.TreeCode.{IsTestedFor, IsStmtCode, AreStmtsCode, part_by, IsStoredWithin, IsInvoked}
 use Rattle.quick_trees.proofs.Stepping.{Follows, has_taken, stepped}
 use Rattle.quick_trees.proofs.Memories.{spares_kept}
 use Rattle.quick_trees.proofs.Elements.{narrow_number}
@@ -39,12 +39,12 @@ use Rattle.quick_trees.proofs.Choosing.{does_choice}
 use Rattle.quick_trees.proofs.Counting.{does_for}
 use Rattle.quick_trees.proofs.Invoking.{does_invoke}
 
--- A way of a table was gone.
+-- A way of a table was taken.
 record HasSwitched (f : Frame) (e : Left) (o : Option Way) (m : Memory) (b : ℕ) : Type 0 where
   way : Way
   is : o ≡ Some way
   enough : way.ticks ≤ b
-  ends : Ends f way.place m (b - way.ticks) e
+  ends : EndsWellAt f way.place m (b - way.ticks) e
 
 has_switched : (f : Frame) (p : ℕ) (e : Left) (o : Option Way) (m : Memory) (b : ℕ)
     → Follows f p e (taken_if_any o m b) → HasSwitched f e o m b
@@ -57,7 +57,7 @@ module _ (s : Setting) where
   z = scope_of s
 
   -- the statements that are chosen by the number of a selector
-  module _ (x : SlotExpr) (d : ℕ) (e : Exits) (run : ℤ → Tracked → Run MarkedEnd) (Chosen : ℤ → Part)
+  module _ (x : SlotExpr) (d : ℕ) (e : Exits) (run : ℤ → Tracked → Run MarkedEnd) (Chosen : ℤ → CodeRelation)
       (does_chosen : (n : ℤ) → Does s (run n) d e (Chosen n)) where
     pub does_case : Does s (λ tr. λ b. follow (marked_value z tr x b) (λ r. run r.0.number r.1)) d e
         (IsCase s.frame (λ t. Is s x t d) Chosen)
@@ -82,26 +82,26 @@ module _ (s : Setting) where
         went.ends))
 
   -- one part or another
-  either : (run : Tracked → Run MarkedEnd) (d : ℕ) (e : Exits) (one other : Part) → Does s run d e one
+  either : (run : Tracked → Run MarkedEnd) (d : ℕ) (e : Exits) (one other : CodeRelation) → Does s run d e one
       → Does s run d e other → Does s run d e (λ p q. one p q ⊎ other p q)
   either run d e one other does does_other p q (inl is) = does p q is
   either run d e one other does does_other p q (inr is) = does_other p q is
 
-  -- a part that is joined to what follows
-  joins_on : (run : Tracked → Run MarkedEnd) (d : ℕ) (e : Exits) (part : Part) → Does s run d e part
-      → Does s run d e (AreBoth part (Joins s.frame))
+  -- a part that is joined to the rest
+  joins_on : (run : Tracked → Run MarkedEnd) (d : ℕ) (e : Exits) (part : CodeRelation) → Does s run d e part
+      → Does s run d e (InSequence part (Joins s.frame))
   joins_on run d e part does p q r m tr b site is runs =
       run_joined s run d e r.middle q m tr (b + p.ahead) r.second (does p r.middle r.first m tr b site is runs)
 
-  one_of : (run go : Tracked → Run MarkedEnd) (d : ℕ) (e : Exits) (part other : Part) (t : Bool) → Does s run d e part
+  one_of : (run go : Tracked → Run MarkedEnd) (d : ℕ) (e : Exits) (part other : CodeRelation) (t : Bool) → Does s run d e part
       → Does s go d e other → Does s (λ tr. if t then run tr else go tr) d e (part_by t part other)
   one_of run go d e part other true does does_other = does
   one_of run go d e part other false does does_other = does_other
 
   mutual
     does_stmt : (x : SlotStmt) (d : ℕ) (e : Exits)
-        → Does s (marked_exec z x) d e (StandsFor s.frame s.site s.units x d e)
-    does_stmt empty d e = ticked s (λ tr. give (goes_on tr)) d e Meets (does_nothing s d e)
+        → Does s (marked_exec z x) d e (IsStmtCode s.frame s.site s.units x d e)
+    does_stmt empty d e = ticked s (λ tr. give (goes_on tr)) d e Refines (does_nothing s d e)
     does_stmt (assign (place a no_subscripts) y) d e =
         ticked s (marked_assigning z (place a no_subscripts) y) d e (IsAssignment s.frame s.site s.units a y d)
         (does_assign s a y d e)
@@ -118,76 +118,76 @@ module _ (s : Setting) where
     does_stmt (IF arms otherwise) d e =
         ticked s (marked_exec_arms z arms (marked_exec_all z otherwise)) d e
         (λ p q. IsChosen s.frame s.site s.units arms otherwise d p q
-        ⊎ ArmsStand s.frame s.site s.units arms (StmtsStand s.frame s.site s.units otherwise d e) d e p q)
+        ⊎ AreArmsCode s.frame s.site s.units arms (AreStmtsCode s.frame s.site s.units otherwise d e) d e p q)
         (either (marked_exec_arms z arms (marked_exec_all z otherwise)) d e
         (IsChosen s.frame s.site s.units arms otherwise d)
-        (ArmsStand s.frame s.site s.units arms (StmtsStand s.frame s.site s.units otherwise d e) d e)
+        (AreArmsCode s.frame s.site s.units arms (AreStmtsCode s.frame s.site s.units otherwise d e) d e)
         (does_choice s arms otherwise d e) (does_arms arms otherwise d e (does_stmts otherwise d e)))
     does_stmt (CASE x arms otherwise) d e =
         ticked s (λ tr. λ b. follow (marked_value z tr x b)
         (λ r. marked_exec_case z r.0.number arms (marked_exec_all z otherwise) r.1)) d e
-        (IsCase s.frame (λ t. Is s x t d) (λ n. ChosenStand s.frame s.site s.units n arms
-        (StmtsStand s.frame s.site s.units otherwise d e) d e))
+        (IsCase s.frame (λ t. Is s x t d) (λ n. IsChosenCode s.frame s.site s.units n arms
+        (AreStmtsCode s.frame s.site s.units otherwise d e) d e))
         (does_case x d e (λ n. marked_exec_case z n arms (marked_exec_all z otherwise))
-        (λ n. ChosenStand s.frame s.site s.units n arms (StmtsStand s.frame s.site s.units otherwise d e) d e)
+        (λ n. IsChosenCode s.frame s.site s.units n arms (AreStmtsCode s.frame s.site s.units otherwise d e) d e)
         (λ n. does_chosen n arms otherwise d e (does_stmts otherwise d e)))
     does_stmt (FOR a start limit step body) d e =
         ticked s (marked_counting z (slot_at (base_of s.site) a) start limit step (marked_exec_all z body)) d e
-        (λ p q. IsFor s.frame s.site s.units (λ c. StmtsStand s.frame s.site s.units body c (record e { out = q }))
+        (λ p q. IsFor s.frame s.site s.units (λ c. AreStmtsCode s.frame s.site s.units body c (record e { out = q }))
         a start limit step d p q)
         (λ p q r. does_for s a start limit step d e (marked_exec_all z body)
-        (λ c. StmtsStand s.frame s.site s.units body c (record e { out = q })) p q
+        (λ c. AreStmtsCode s.frame s.site s.units body c (record e { out = q })) p q
         (λ c. does_stmts body c (record e { out = q })) r)
     does_stmt (WHILE x body) d e =
         ticked s (marked_loop (marked_guarded (marked_truth z x) (marked_exec_all z body)) marked_no_step) d e
         (λ p q. IsLoop s.frame (λ when. IsTestedFor s.frame s.site s.units x when d)
-        (StmtsStand s.frame s.site s.units body d (record e { out = q })) p q)
+        (AreStmtsCode s.frame s.site s.units body d (record e { out = q })) p q)
         (λ p q r. does_while s x d e (marked_exec_all z body)
-        (StmtsStand s.frame s.site s.units body d (record e { out = q })) p q
+        (AreStmtsCode s.frame s.site s.units body d (record e { out = q })) p q
         (does_stmts body d (record e { out = q })) r)
     does_stmt (REPEAT body x) d e =
         ticked s (marked_loop (marked_until (marked_exec_all z body) (marked_truth z x)) marked_no_step) d e
         (λ p q. IsUntil s.frame (λ when. IsTestedFor s.frame s.site s.units x when d)
-        (StmtsStand s.frame s.site s.units body d (record e { out = q })) p q)
+        (AreStmtsCode s.frame s.site s.units body d (record e { out = q })) p q)
         (λ p q r. does_repeat s x d e (marked_exec_all z body)
-        (StmtsStand s.frame s.site s.units body d (record e { out = q })) p q
+        (AreStmtsCode s.frame s.site s.units body d (record e { out = q })) p q
         (does_stmts body d (record e { out = q })) r)
     does_stmt EXIT d e = ticked s (λ tr. give (exits tr)) d e (λ p q. Joins s.frame p e.out) (does_exit s d e)
     does_stmt RETURN d e = ticked s (λ tr. give (returns tr)) d e (λ p q. Joins s.frame p e.back) (does_return s d e)
 
     pub does_stmts : (xs : SlotStmts) (d : ℕ) (e : Exits)
-        → Does s (marked_exec_all z xs) d e (StmtsStand s.frame s.site s.units xs d e)
+        → Does s (marked_exec_all z xs) d e (AreStmtsCode s.frame s.site s.units xs d e)
     does_stmts no_stmts d e = does_nothing s d e
     does_stmts (stmt_then x xs) d e =
         noting s (marked_exec_all z (stmt_then x xs)) d e
-        (AreBoth (StandsFor s.frame s.site s.units x d e) (StmtsStand s.frame s.site s.units xs d e))
-        (in_turn s (marked_exec z x) (marked_exec_all z xs) d e (StandsFor s.frame s.site s.units x d e)
-        (StmtsStand s.frame s.site s.units xs d e) (does_stmt x d e) (does_stmts xs d e))
+        (InSequence (IsStmtCode s.frame s.site s.units x d e) (AreStmtsCode s.frame s.site s.units xs d e))
+        (in_turn s (marked_exec z x) (marked_exec_all z xs) d e (IsStmtCode s.frame s.site s.units x d e)
+        (AreStmtsCode s.frame s.site s.units xs d e) (does_stmt x d e) (does_stmts xs d e))
 
     does_arms : (arms : SlotArms) (otherwise : SlotStmts) (d : ℕ) (e : Exits)
-        → Does s (marked_exec_all z otherwise) d e (StmtsStand s.frame s.site s.units otherwise d e)
+        → Does s (marked_exec_all z otherwise) d e (AreStmtsCode s.frame s.site s.units otherwise d e)
         → Does s (marked_exec_arms z arms (marked_exec_all z otherwise)) d e
-        (ArmsStand s.frame s.site s.units arms (StmtsStand s.frame s.site s.units otherwise d e) d e)
+        (AreArmsCode s.frame s.site s.units arms (AreStmtsCode s.frame s.site s.units otherwise d e) d e)
     does_arms no_arms otherwise d e does = does
     does_arms (arm_then x body arms) otherwise d e does =
         noting s (marked_exec_arms z (arm_then x body arms) (marked_exec_all z otherwise)) d e
-        (IsArm s.frame (IsTestedFor s.frame s.site s.units x false d) (StmtsStand s.frame s.site s.units body d e)
-        (ArmsStand s.frame s.site s.units arms (StmtsStand s.frame s.site s.units otherwise d e) d e))
+        (IsArm s.frame (IsTestedFor s.frame s.site s.units x false d) (AreStmtsCode s.frame s.site s.units body d e)
+        (AreArmsCode s.frame s.site s.units arms (AreStmtsCode s.frame s.site s.units otherwise d e) d e))
         (does_arm s x d e (marked_exec_all z body) (marked_exec_arms z arms (marked_exec_all z otherwise))
-        (StmtsStand s.frame s.site s.units body d e)
-        (ArmsStand s.frame s.site s.units arms (StmtsStand s.frame s.site s.units otherwise d e) d e)
+        (AreStmtsCode s.frame s.site s.units body d e)
+        (AreArmsCode s.frame s.site s.units arms (AreStmtsCode s.frame s.site s.units otherwise d e) d e)
         (does_stmts body d e) (does_arms arms otherwise d e does))
 
     does_chosen : (n : ℤ) (arms : SlotCaseArms) (otherwise : SlotStmts) (d : ℕ) (e : Exits)
-        → Does s (marked_exec_all z otherwise) d e (StmtsStand s.frame s.site s.units otherwise d e)
+        → Does s (marked_exec_all z otherwise) d e (AreStmtsCode s.frame s.site s.units otherwise d e)
         → Does s (marked_exec_case z n arms (marked_exec_all z otherwise)) d e
-        (ChosenStand s.frame s.site s.units n arms (StmtsStand s.frame s.site s.units otherwise d e) d e)
+        (IsChosenCode s.frame s.site s.units n arms (AreStmtsCode s.frame s.site s.units otherwise d e) d e)
     does_chosen n no_case_arms otherwise d e does =
-        joins_on (marked_exec_all z otherwise) d e (StmtsStand s.frame s.site s.units otherwise d e) does
+        joins_on (marked_exec_all z otherwise) d e (AreStmtsCode s.frame s.site s.units otherwise d e) does
     does_chosen n (case_arm_then labels body arms) otherwise d e does =
         one_of (marked_exec_all z body) (marked_exec_case z n arms (marked_exec_all z otherwise)) d e
-        (AreBoth (StmtsStand s.frame s.site s.units body d e) (Joins s.frame))
-        (ChosenStand s.frame s.site s.units n arms (StmtsStand s.frame s.site s.units otherwise d e) d e)
+        (InSequence (AreStmtsCode s.frame s.site s.units body d e) (Joins s.frame))
+        (IsChosenCode s.frame s.site s.units n arms (AreStmtsCode s.frame s.site s.units otherwise d e) d e)
         (list_any (label_holds n) labels)
-        (joins_on (marked_exec_all z body) d e (StmtsStand s.frame s.site s.units body d e) (does_stmts body d e))
+        (joins_on (marked_exec_all z body) d e (AreStmtsCode s.frame s.site s.units body d e) (does_stmts body d e))
         (does_chosen n arms otherwise d e does)

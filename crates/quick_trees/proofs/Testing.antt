@@ -5,9 +5,9 @@ use Rattle.std.specs.Ordering.{int_eq}
 use Rattle.st_types.specs.declared.kind.Kind.{Kind}
 use Rattle.st_types.specs.declared.kind.Kind.TheVariants.{Bool as Boolean}
 use Rattle.st_types.specs.declared.operator.UnaryOperator.TheVariants.{Negate, Not}
-use Rattle.st_types.specs.Values.{datum_of_truth}
+use Rattle.st_types.specs.Values.{bool_datum}
 use Rattle.st_meaning.specs.Failures.{failing}
-use Rattle.st_meaning.specs.Operators.{apply_unary, truth}
+use Rattle.st_meaning.specs.Operators.{apply_unary, condition_of}
 use Rattle.st_meaning.specs.Ticks.{attempt, follow, give}
 use Rattle.machine_code.specs.Tracking.{Tracked}
 use Rattle.quick_code.specs.declared.quick_code.Way.{Way}
@@ -15,15 +15,15 @@ use Rattle.quick_code.specs.QuickSteps.{Memory, act, look}
 use Rattle.slot_trees.specs.SlotTrees.{SlotExpr, binary, call, compute, constant, load, no_subscripts, place}
 use Rattle.slot_trees.specs.SlotTrees.{subscript_then, unary}
 use Rattle.machine_code.specs.MarkedEvaluation.{MarkedScope, marked_truth, marked_value}
-use Rattle.quick_trees.specs.Instructions.{truth_branch}
+use Rattle.quick_trees.specs.Instructions.{bool_branch}
 use Rattle.quick_trees.specs.Pieces.{IsMoved, IsTemporary, IsTested}
 use Rattle.quick_trees.specs.Points.{Point}
-use Rattle.quick_trees.specs.Standing.{IsMade, IsTestedFor}
+use Rattle.quick_trees.specs.TreeCode.{IsAssignedTo, IsTestedFor}
 use Rattle.quick_trees.proofs.Stepping.{Follows, HasBranched, has_branched, stepped}
 use Rattle.quick_trees.proofs.Memories.{Keeps, keeps_all}
-use Rattle.quick_trees.proofs.Operators.{has_compared, has_compared_to, turn_for}
+use Rattle.quick_trees.proofs.Operators.{has_compared, has_compared_to, turn_for, not_not}
 use Rattle.quick_trees.proofs.Settings.{Setting, scope_of}
-use Rattle.quick_trees.proofs.Truths.{not_is, not_not, then_gives, truth_is_word, truth_of_truth, turned}
+use Rattle.quick_trees.proofs.Truths.{not_is, then_gives, truth_is_word, truth_of_truth, turned}
 use Rattle.quick_trees.proofs.Reading.{negated_by, turned_by, AreHeld, From, HasMade, HasRead, Is, applied_to}
 use Rattle.quick_trees.proofs.Reading.{evaluated_by, binary_by, called_by, fetched_by, leads_on, within_by, number_gives, number_held}
 use Rattle.quick_trees.proofs.Reading.{read_both, read_made, reads, reads_all, reads_apart}
@@ -52,7 +52,7 @@ module _ (s : Setting) where
       })
 
   -- the value of an expression is assigned to a word
-  pub made : (e : SlotExpr) (t : Kind) (d to : ℕ) (p q : Point) → IsMade s.frame s.site s.units e t d to p q
+  pub made : (e : SlotExpr) (t : Kind) (d to : ℕ) (p q : Point) → IsAssignedTo s.frame s.site s.units e t d to p q
       → From s d p (HasMade s e t d to p q)
   made (constant l) t d to p q (inl is) = moved (constant l) t d to p q is
   made (constant l) t d to p q (inr is) = λ m tr b site of runs.
@@ -101,21 +101,21 @@ module _ (s : Setting) where
       pub keeps : Keeps d m memory
       pub is : AreHeld s q memory tracked
       pub go : Bool
-      pub value : marked_value z tr e (b + p.ahead) ≡ Ok ((datum_of_truth go, tracked), left + q.ahead)
+      pub value : marked_value z tr e (b + p.ahead) ≡ Ok ((bool_datum go, tracked), left + q.ahead)
       pub fewer : left + q.ahead ≤ b + p.ahead
       pub ends : HasBranched s.frame q.place s.finish (turn_for when go) w past memory left
 
   pub truth_is : (e : SlotExpr) (tr tr' : Tracked) (go : Bool) (a b : ℕ)
-      → marked_value z tr e a ≡ Ok ((datum_of_truth go, tr'), b) → marked_truth z e tr a ≡ Ok ((go, tr'), b)
+      → marked_value z tr e a ≡ Ok ((bool_datum go, tr'), b) → marked_truth z e tr a ≡ Ok ((go, tr'), b)
   unfolding marked_truth
   truth_is e tr tr' go a b gives =
-      then_gives (marked_value z tr e a) (datum_of_truth go, tr') b
-      (λ r. λ n. follow (attempt s.stand_ins (truth r.0) n) (λ go. give (go, r.1))) gives
-      ∙ ap (λ r. follow (attempt s.stand_ins r b) (λ go. give (go, tr'))) (truth_of_truth go)
+      then_gives (marked_value z tr e a) (bool_datum go, tr') b
+      (λ r. λ n. follow (attempt s.stuck_faults (condition_of r.0) n) (λ go. give (go, r.1))) gives
+      ∙ ap (λ r. follow (attempt s.stuck_faults r b) (λ go. give (go, tr'))) (truth_of_truth go)
 
   -- how a branch on a BOOL goes
   word_branched : (when : Bool) (k q : ℕ) (w : Way) (past : ℕ) (m : Memory) (b : ℕ)
-      → Follows s.frame q s.finish (act s.frame.ways s.frame.now (truth_branch when k w past) m b)
+      → Follows s.frame q s.finish (act s.frame.ways s.frame.now (bool_branch when k w past) m b)
       → HasBranched s.frame q s.finish (turn_for when (not (int_eq (look m k) (pos 0)))) w past m b
   word_branched true k q w past m b runs =
       has_branched s.frame q s.finish (not (int_eq (look m k) (pos 0))) w past m b runs
@@ -127,7 +127,7 @@ module _ (s : Setting) where
       → IsTested s.frame (Is s e Boolean d) when p q w past → From s d p (HasTested e when d p q w past)
   tested_word e when d p q w past is m tr b site of runs =
       let read = reads s e Boolean d is.from p q is.reads m tr b site of runs in
-      let step = stepped s.frame q.place s.finish read.memory read.left (truth_branch when is.from w past) read.ends
+      let step = stepped s.frame q.place s.finish read.memory read.left (bool_branch when is.from w past) read.ends
       is.stands in
       let word = look read.memory is.from in
       record {
@@ -158,9 +158,9 @@ module _ (s : Setting) where
         keeps = t.keeps;
         is = t.is;
         go = not t.go;
-        value = then_gives (marked_value z tr e (b + p.ahead)) (datum_of_truth t.go, t.tracked) (t.left + q.ahead)
-            (λ r. λ n. follow (attempt s.stand_ins (failing (apply_unary Not r.0)) n) (λ v. give (v, r.1))) t.value
-            ∙ ap (λ o. follow (attempt s.stand_ins (failing o) (t.left + q.ahead)) (λ v. give (v, t.tracked)))
+        value = then_gives (marked_value z tr e (b + p.ahead)) (bool_datum t.go, t.tracked) (t.left + q.ahead)
+            (λ r. λ n. follow (attempt s.stuck_faults (failing (apply_unary Not r.0)) n) (λ v. give (v, r.1))) t.value
+            ∙ ap (λ o. follow (attempt s.stuck_faults (failing o) (t.left + q.ahead)) (λ v. give (v, t.tracked)))
             (not_is t.go);
         fewer = t.fewer;
         ends = subst (λ u. HasBranched s.frame q.place s.finish u w past t.memory t.left) (turned v t.go) t.ends;
@@ -180,7 +180,7 @@ module _ (s : Setting) where
         is = one.is;
         go = done.go;
         value = applied_to s op l r t (look one.memory is.left) is.word tr one.tracked one.tracked (b + p.ahead)
-            (one.left + q.ahead) (one.left + q.ahead) (datum_of_truth done.go) one.gives
+            (one.left + q.ahead) (one.left + q.ahead) (bool_datum done.go) one.gives
             (number_gives s r t is.word one.tracked (one.left + q.ahead) is.number) done.is;
         fewer = one.fewer;
         ends = done.ends;
@@ -201,7 +201,7 @@ module _ (s : Setting) where
         go = done.go;
         value = applied_to s op l r t (look both.memory is.left) (look both.memory is.right) tr both.between
             both.tracked
-            (b + p.ahead) both.then_left (both.left + q.ahead) (datum_of_truth done.go) both.first both.second done.is;
+            (b + p.ahead) both.then_left (both.left + q.ahead) (bool_datum done.go) both.first both.second done.is;
         fewer = both.fewer;
         ends = done.ends;
       })

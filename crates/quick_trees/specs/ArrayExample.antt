@@ -4,8 +4,8 @@ use Rattle.st_types.specs.declared.kind.Kind.TheVariants.{Int}
 use Rattle.machine_code.specs.declared.mark.Mark.{Mark}
 use Rattle.machine_code.specs.Tracking.{Tracked, tracked}
 use Rattle.quick_code.specs.declared.quick_instr.QuickInstr.{QuickInstr}
-use Rattle.quick_code.specs.declared.quick_instr.QuickInstr.TheVariants.{End, Jump, LoadBehind, Locate, LocateBehind}
-use Rattle.quick_code.specs.declared.quick_instr.QuickInstr.TheVariants.{NoteRead, StoreBehind}
+use Rattle.quick_code.specs.declared.quick_instr.QuickInstr.TheVariants.{End, Jump, LoadNested, Locate, LocateNested}
+use Rattle.quick_code.specs.declared.quick_instr.QuickInstr.TheVariants.{NoteRead, StoreNested}
 use Rattle.quick_code.specs.QuickSteps.{Memory}
 use Rattle.slot_trees.specs.SlotTrees.{Place, SlotStmts, assign, load, no_stmts, no_subscripts, own, place, stmt_then}
 use Rattle.slot_trees.specs.SlotTrees.{subscript_then}
@@ -23,12 +23,12 @@ cell x y z =
 abbrev pub array_body : SlotStmts
 array_body = stmt_then (assign (cell 0 1 0) (load (cell 1 0 1))) no_stmts
 
--- i is the word 0, j is 1, the elements are 2 to 9, and what is behind them is free
+-- i is the word 0, j is 1, the elements are 2 to 9, and the words after them are free
 abbrev pub array_code : List QuickInstr
 array_code =
-    Jump (way 1 1) ∷ NoteRead 0 ∷ NoteRead 1 ∷ Locate 1 (negsuc 0) 10 2 4 ∷ LocateBehind 10 0 (negsuc 0) 10 2 2
-    ∷ LoadBehind 10 1 (negsuc 0) 10 2 2 1 ∷ Locate 0 (negsuc 0) 11 2 4 ∷ LocateBehind 11 1 (negsuc 0) 11 2 2
-    ∷ StoreBehind 11 0 (negsuc 0) 10 2 2 1 ∷ End ∷ []
+    Jump (way 1 1) ∷ NoteRead 0 ∷ NoteRead 1 ∷ Locate 1 (negsuc 0) 10 2 4 ∷ LocateNested 10 0 (negsuc 0) 10 2 2
+    ∷ LoadNested 10 1 (negsuc 0) 10 2 2 1 ∷ Locate 0 (negsuc 0) 11 2 4 ∷ LocateNested 11 1 (negsuc 0) 11 2 2
+    ∷ StoreNested 11 0 (negsuc 0) 10 2 2 1 ∷ End ∷ []
 
 abbrev pub array_frame : Frame
 array_frame = record {

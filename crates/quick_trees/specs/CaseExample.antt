@@ -31,7 +31,7 @@ case_code =
     Jump (way 1 1) ∷ NoteRead 0 ∷ NoteWritten 1 ∷ Switch 0 (negsuc 0) 0 3 ∷ Set (pos 10) 1 ∷ Jump (way 9 0)
     ∷ Set (pos 20) 1 ∷ Jump (way 9 0) ∷ Move 0 1 ∷ End ∷ []
 
--- the ways for 1, 2 and 3, and for what is none of these
+-- the ways for 1, 2 and 3, and for all other numbers
 abbrev pub case_ways : List Way
 case_ways = way 4 1 ∷ way 6 1 ∷ way 6 1 ∷ way 8 1 ∷ []
 

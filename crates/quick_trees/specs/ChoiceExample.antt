@@ -31,7 +31,7 @@ choice_body =
     stmt_then (IF (arm_then is_odd (becomes (binary Xor (variable 0) (bits 5))) no_arms) (becomes (variable 0)))
     no_stmts
 
--- x is the word 0, and what is behind it is free
+-- x is the word 0, and the words after it are free
 abbrev pub choice_code : List QuickInstr
 choice_code =
     Jump (way 1 2) ∷ NoteRead 0 ∷ NoteWritten 0 ∷ AndBy 0 (pos 1) 1 ∷ XorBy 0 (pos 5) 2 ∷ Select 1 2 0 0 ∷ End ∷ []

@@ -7,7 +7,7 @@ use Rattle.machine_code.specs.declared.mark.Mark.{Mark}
 use Rattle.machine_code.specs.Tracking.{Tracked, tracked}
 use Rattle.quick_code.specs.declared.quick_instr.QuickInstr.{QuickInstr}
 use Rattle.quick_code.specs.declared.quick_instr.QuickInstr.TheVariants.{AddIntBy, End, Jump, NoteRead, NoteWritten}
-use Rattle.quick_code.specs.declared.quick_instr.QuickInstr.TheVariants.{WhenBelow, WhenFrom}
+use Rattle.quick_code.specs.declared.quick_instr.QuickInstr.TheVariants.{JumpIfLessConst, JumpIfAtLeastConst}
 use Rattle.quick_code.specs.QuickSteps.{Memory}
 use Rattle.slot_trees.specs.SlotTrees.{SlotStmts, binary, no_stmts, stmt_then, WHILE}
 use Rattle.quick_trees.specs.Example.{int, number, raised_by, untouched, variable, way}
@@ -19,8 +19,8 @@ count_body = stmt_then (WHILE (binary Less (variable 0) (number 10)) (raised_by 
 
 abbrev pub count_code : List QuickInstr
 count_code =
-    Jump (way 1 1) ∷ NoteRead 0 ∷ WhenFrom 0 (pos 10) (way 6 0) 2 ∷ NoteWritten 0 ∷ AddIntBy 0 (pos 1) 0
-    ∷ WhenBelow 0 (pos 10) (way 4 2) 0 ∷ End ∷ []
+    Jump (way 1 1) ∷ NoteRead 0 ∷ JumpIfAtLeastConst 0 (pos 10) (way 6 0) 2 ∷ NoteWritten 0 ∷ AddIntBy 0 (pos 1) 0
+    ∷ JumpIfLessConst 0 (pos 10) (way 4 2) 0 ∷ End ∷ []
 
 -- x is the third of four slots, and the word 0
 abbrev pub count_frame : Frame

@@ -10,7 +10,7 @@ use Rattle.machine_code.specs.Tracking.{Tracked, tracked}
 use Rattle.quick_code.specs.declared.quick_code.Way.{Way}
 use Rattle.quick_code.specs.declared.quick_instr.QuickInstr.{QuickInstr}
 use Rattle.quick_code.specs.declared.quick_instr.QuickInstr.TheVariants.{AddInt, End, Jump, NoteRead, NoteWritten}
-use Rattle.quick_code.specs.declared.quick_instr.QuickInstr.TheVariants.{WhenAtMost, WhenLess}
+use Rattle.quick_code.specs.declared.quick_instr.QuickInstr.TheVariants.{JumpIfAtMost, JumpIfLess}
 use Rattle.quick_code.specs.QuickSteps.{Memory}
 use Rattle.slot_trees.specs.SlotTrees.{SlotExpr, SlotLibrary, SlotStmts, arm_then, assign, binary, constant, IF, load}
 use Rattle.slot_trees.specs.SlotTrees.{no_arms, no_stmts, no_subscripts, own, place, stmt_then, WHILE}
@@ -49,8 +49,8 @@ way to n = record { place = to; ticks = n }
 -- x is the word 0, y is 1, and the constants 10 and 1 are 2 and 3
 abbrev pub its_code : List QuickInstr
 its_code =
-    Jump (way 1 1) ∷ NoteRead 0 ∷ WhenAtMost 2 0 (way 10 0) 1 ∷ NoteRead 1 ∷ NoteWritten 0 ∷ WhenAtMost 1 0 (way 8 2) 2
-    ∷ AddInt 0 1 0 ∷ Jump (way 9 0) ∷ AddInt 0 3 0 ∷ WhenLess 0 2 (way 5 1) 0 ∷ End ∷ []
+    Jump (way 1 1) ∷ NoteRead 0 ∷ JumpIfAtMost 2 0 (way 10 0) 1 ∷ NoteRead 1 ∷ NoteWritten 0 ∷ JumpIfAtMost 1 0 (way 8 2) 2
+    ∷ AddInt 0 1 0 ∷ Jump (way 9 0) ∷ AddInt 0 3 0 ∷ JumpIfLess 0 2 (way 5 1) 0 ∷ End ∷ []
 
 abbrev pub int : ℕ → Datum
 int n = record { kind = Int; number = pos n }
@@ -72,7 +72,7 @@ no_units = record { functions = []; blocks = [] }
 abbrev pub its_words : ℤ → ℤ → ℕ → ℕ → Memory
 its_words x y m n = record { words = x ∷ y ∷ pos 10 ∷ pos 1 ∷ []; notes = m ∷ n ∷ 0 ∷ 0 ∷ [] }
 
--- what a program did with a slot: it looked it up before it assigned it, and it assigned it
+-- how a program used a slot: it looked it up before it assigned it, and it assigned it
 abbrev pub mark : Bool → Bool → Mark
 mark read assigned = record { is_read = read; is_assigned = assigned }
 

@@ -1,4 +1,4 @@
--- A worked example of standard functions, the one of which is the other's argument.
+-- A worked example of standard functions, one of which is the other's argument.
 use Rattle.std.specs.Prelude.{ℕ, pos, List, [], ◌∷◌}
 use Rattle.st_types.specs.declared.kind.Kind.TheVariants.{Int, Word}
 use Rattle.st_meaning.specs.StandardFunctions.{CONVERT, SHR}

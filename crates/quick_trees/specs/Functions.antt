@@ -8,10 +8,10 @@ use Rattle.st_types.specs.Words.{is_wide}
 use Rattle.st_meaning.specs.StandardFunctions.{ABS, CONVERT, LIMIT, MAX, MIN, ROL, ROR, SEL, SHL, SHR, Standard}
 use Rattle.quick_code.specs.declared.quick_instr.QuickInstr.TheVariants.{AtMost, MoveWithin, Select, ShiftRight}
 use Rattle.quick_code.specs.declared.quick_instr.QuickInstr.TheVariants.{AddLint, And, MultiplyLint, SubtractLint}
-use Rattle.quick_trees.specs.Points.{Part, Point, next}
+use Rattle.quick_trees.specs.Points.{CodeRelation, Point, next}
 use Rattle.quick_trees.specs.QuickMemory.{Frame}
 use Rattle.quick_trees.specs.Instructions.{by_bits, instr_by, instr_for}
-use Rattle.quick_trees.specs.Pieces.{AreBoth, AreRead, IsNumber, IsNumberAt, Reading, Stands}
+use Rattle.quick_trees.specs.Pieces.{InSequence, AreRead, IsNumber, IsNumberAt, Reading, IsInstr}
 use Rattle.slot_trees.specs.SlotTrees.{SlotExpr}
 
 -- A word is assigned if it is a number of a type, whose least and greatest numbers are constants.
@@ -23,14 +23,14 @@ pub record IsMovedWithin (f : Frame) (t : Kind) (from to p : ℕ) : Type 0 where
   pub is_high : IsNumberAt f t (greatest t) high
   pub stands : slice_get f.code p ≡ Some (MoveWithin from low high to)
 
--- A comparison of two words is assigned to a temporary, and then the one of two words if it holds, else the other.
-pub record IsChosen (f : Frame) (left right x y d to : ℕ) (p q : Point) : Type 0 where
+-- A comparison of two words is assigned to a temporary, and then one of two words if it holds, else the other.
+pub record IsPicked (f : Frame) (left right x y d to : ℕ) (p q : Point) : Type 0 where
   pub there : d < f.size
   pub compared : slice_get f.code p.place ≡ Some (AtMost left right d)
   pub chosen : slice_get f.code (suc p.place) ≡ Some (Select d x y to)
   pub is : q ≡ next (next p)
 
--- so many arguments are of types and in words
+-- one, two or three arguments, of these types and in these words
 abbrev pub IsOne : List Kind → List ℕ → Kind → ℕ → Type 0
 IsOne kinds words t x = (kinds ≡ t ∷ []) × (words ≡ x ∷ [])
 
@@ -59,17 +59,17 @@ pub record IsShifted (f : Frame) (kinds : List Kind) (words : List ℕ) (t : Kin
   pub places : ℕ
   pub is_count : IsNumberAt f kind (pos places) count
   pub few : places < (row_of t).bits
-  pub stands : Stands f (by_bits t (ShiftRight word places to)) p.place
+  pub stands : IsInstr f (by_bits t (ShiftRight word places to)) p.place
   pub is : q ≡ next p
 
--- Bits are moved up by a number of places: what leaves the width is masked out, and the rest is multiplied.
+-- Bits are moved up by a number of places: bits that leave the width are masked out, and the rest is multiplied.
 pub record IsMovedUp (f : Frame) (t : Kind) (word places d to : ℕ) (p q : Point) : Type 0 where
   pub there : d < f.size
   pub mask : ℕ
   pub is_mask : IsNumberAt f t (pos (2 ^ ((row_of t).bits - places) - 1)) mask
   pub power : ℕ
   pub is_power : IsNumberAt f t (pos (2 ^ places)) power
-  pub masked : Stands f (by_bits t (And word mask d)) p.place
+  pub masked : IsInstr f (by_bits t (And word mask d)) p.place
   pub moved : slice_get f.code (suc p.place) ≡ Some (MultiplyLint d power to)
   pub is : q ≡ next (next p)
 
@@ -85,8 +85,8 @@ pub record IsShiftedUp (f : Frame) (kinds : List Kind) (words : List ℕ) (t : K
     pub few : places < (row_of t).bits
     pub moves : IsMovedUp f t word places d to p q
 
--- Bits are turned up by a number of places, or down by a constant one: those that are moved up are assigned to a
--- temporary, those that are moved down to another one, and the sum is assigned.
+-- Bits are rotated up by a number of places, or down by a constant one: those that are moved up are assigned to a temporary,
+-- those that are moved down to another one, and the sum is assigned.
 pub record IsTurnedBy (f : Frame) (kinds : List Kind) (words : List ℕ) (t : Kind) (constant up d to : ℕ)
     (p q : Point) : Type 0 where
   pub word : ℕ
@@ -109,14 +109,14 @@ pub record IsLesser (f : Frame) (kinds : List Kind) (words : List ℕ) (t : Kind
   pub left : ℕ
   pub right : ℕ
   pub arguments : AreTwo kinds words t t left right
-  pub chosen : IsChosen f left right left right d to p q
+  pub chosen : IsPicked f left right left right d to p q
 
 pub record IsGreater (f : Frame) (kinds : List Kind) (words : List ℕ) (t : Kind) (d to : ℕ) (p q : Point) : Type 0
   where
     pub left : ℕ
     pub right : ℕ
     pub arguments : AreTwo kinds words t t left right
-    pub chosen : IsChosen f right left left right d to p q
+    pub chosen : IsPicked f right left left right d to p q
 
 -- The greater of a value and a lower limit is assigned to a temporary, and the lesser of this and an upper limit.
 pub record IsLimited (f : Frame) (kinds : List Kind) (words : List ℕ) (t : Kind) (d to : ℕ) (p q : Point) : Type 0
@@ -125,9 +125,9 @@ pub record IsLimited (f : Frame) (kinds : List Kind) (words : List ℕ) (t : Kin
     pub word : ℕ
     pub upper : ℕ
     pub arguments : AreThree kinds words t t t lower word upper
-    pub chosen : AreBoth (IsChosen f lower word word lower d d) (IsChosen f d upper d upper (suc d) to) p q
+    pub chosen : InSequence (IsPicked f lower word word lower d d) (IsPicked f d upper d upper (suc d) to) p q
 
--- The one of two values is assigned where a BOOL is FALSE, and the other where it is TRUE.
+-- One of two values is assigned if a BOOL is FALSE, and the other if it is TRUE.
 pub record IsSelected (f : Frame) (kinds : List Kind) (words : List ℕ) (t : Kind) (to : ℕ) (p q : Point) : Type 0 where
   pub truth : ℕ
   pub left : ℕ
@@ -136,7 +136,7 @@ pub record IsSelected (f : Frame) (kinds : List Kind) (words : List ℕ) (t : Ki
   pub stands : slice_get f.code p.place ≡ Some (Select truth right left to)
   pub is : q ≡ next p
 
--- A number is taken from 0, and the one of both that is not below 0 is assigned if it is a number of the type.
+-- A number is subtracted from 0, and the one of both that is not below 0 is assigned if it is a number of the type.
 pub record IsWithoutSign (f : Frame) (kinds : List Kind) (words : List ℕ) (t : Kind) (d to : ℕ) (p q : Point) : Type 0
   where
     pub word : ℕ
@@ -146,13 +146,13 @@ pub record IsWithoutSign (f : Frame) (kinds : List Kind) (words : List ℕ) (t :
     pub is_nought : IsNumberAt f t (pos 0) nought
     pub stands : slice_get f.code p.place ≡ Some (SubtractLint nought word d)
     pub last : Point
-    pub chosen : IsChosen f nought word word d (suc d) d (next p) last
+    pub chosen : IsPicked f nought word word d (suc d) d (next p) last
     pub moves : IsMovedWithin f t d to last.place
     pub is : q ≡ next last
 
 -- a standard function is computed, whose arguments are in words, and temporaries from a depth on are free; the value of
 -- this type is then in a word
-abbrev pub IsFunctionOf : Frame → Standard → List Kind → List ℕ → Kind → ℕ → ℕ → Part
+abbrev pub IsFunctionOf : Frame → Standard → List Kind → List ℕ → Kind → ℕ → ℕ → CodeRelation
 IsFunctionOf f (CONVERT from into) kinds words t d to p q = IsConverted f from into kinds words t to p q
 IsFunctionOf f SHR kinds words t d to p q = IsShifted f kinds words t to p q
 IsFunctionOf f MIN kinds words t d to p q = IsLesser f kinds words t d to p q
@@ -165,7 +165,7 @@ IsFunctionOf f ROL kinds words t d to p q = (n : ℕ) × IsTurnedBy f kinds word
 IsFunctionOf f ROR kinds words t d to p q = (n : ℕ) × IsTurnedBy f kinds words t n ((row_of t).bits - n) d to p q
 
 -- The arguments of a standard function are read, and it is computed.
-pub record IsEvaluated (f : Frame) (Arguments : List Kind → List ℕ → Part) (g : Standard) (t : Kind) (d to : ℕ)
+pub record IsEvaluated (f : Frame) (Arguments : List Kind → List ℕ → CodeRelation) (g : Standard) (t : Kind) (d to : ℕ)
     (p q : Point) : Type 0 where
   pub kinds : List Kind
   pub words : List ℕ
@@ -182,7 +182,7 @@ pub record IsComputedWithin (f : Frame) (Left Right : Reading) (op : BinaryOpera
   pub last : Point
   pub reads : AreRead Left Right left right p last
   pub there : d < f.size
-  pub stands : Stands f (instr_for op Lint left right d) last.place
+  pub stands : IsInstr f (instr_for op Lint left right d) last.place
   pub moves : IsMovedWithin f t d to (suc last.place)
   pub is : q ≡ next (next last)
 
@@ -195,6 +195,6 @@ pub record IsComputedByWithin (f : Frame) (Left : Reading) (op : BinaryOperator)
   pub reads : Left left p last
   pub number : IsNumber r t word
   pub there : d < f.size
-  pub stands : Stands f (instr_by op Lint left word d) last.place
+  pub stands : IsInstr f (instr_by op Lint left word d) last.place
   pub moves : IsMovedWithin f t d to (suc last.place)
   pub is : q ≡ next (next last)

@@ -2,13 +2,13 @@ pub mod Windows
 pub mod QuickMemory
 pub mod Notes
 pub mod Points
-pub mod Sites
+pub mod UnitValues
 pub mod Instructions
 pub mod Pieces
 pub mod Straight
 pub mod Functions
 pub mod Counting
-pub mod Standing
+pub mod TreeCode
 pub mod Calls
 pub mod Programs
 pub mod Example

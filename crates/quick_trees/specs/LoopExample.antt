@@ -7,7 +7,7 @@ use Rattle.machine_code.specs.Tracking.{Tracked, tracked}
 use Rattle.quick_code.specs.declared.quick_instr.QuickInstr.{QuickInstr}
 use Rattle.quick_code.specs.declared.quick_instr.QuickInstr.TheVariants.{AddInt, CountUpInt, End, Jump, LoadElement}
 use Rattle.quick_code.specs.declared.quick_instr.QuickInstr.TheVariants.{Move, NoteRead, NoteWritten, StoreElement}
-use Rattle.quick_code.specs.declared.quick_instr.QuickInstr.TheVariants.{WhenLess}
+use Rattle.quick_code.specs.declared.quick_instr.QuickInstr.TheVariants.{JumpIfLess}
 use Rattle.quick_code.specs.QuickSteps.{Memory}
 use Rattle.slot_trees.specs.SlotTrees.{Place, SlotStmts, assign, binary, FOR, load, no_stmts, no_subscripts, own, place}
 use Rattle.slot_trees.specs.SlotTrees.{stmt_then, subscript_then}
@@ -25,10 +25,10 @@ loop_body =
     (stmt_then (assign element (binary Add (load element) (variable 1)))
     (stmt_then (assign (place (own 1) no_subscripts) (load element)) no_stmts))) no_stmts
 
--- i is the word 0, s is 1, the elements are 2 to 4, the constants 1 and 3 are 5 and 6, and what is behind them is free
+-- i is the word 0, s is 1, the elements are 2 to 4, the constants 1 and 3 are 5 and 6, and the words after them are free
 abbrev pub loop_code : List QuickInstr
 loop_code =
-    Jump (way 1 1) ∷ NoteWritten 0 ∷ Move 5 0 ∷ WhenLess 6 0 (way 11 0) 2 ∷ NoteRead 1 ∷ NoteWritten 1
+    Jump (way 1 1) ∷ NoteWritten 0 ∷ Move 5 0 ∷ JumpIfLess 6 0 (way 11 0) 2 ∷ NoteRead 1 ∷ NoteWritten 1
     ∷ LoadElement 0 (negsuc 0) 9 2 3 ∷ AddInt 9 1 9 ∷ StoreElement 0 (negsuc 0) 9 2 3 ∷ LoadElement 0 (negsuc 0) 1 2 3
     ∷ CountUpInt 0 (pos 1) 6 (way 6 3) 1 ∷ End ∷ []
 

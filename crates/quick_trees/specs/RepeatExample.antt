@@ -4,7 +4,7 @@ use Rattle.st_types.specs.declared.kind.Kind.TheVariants.{Int}
 use Rattle.st_types.specs.declared.operator.BinaryOperator.TheVariants.{Add, Equal, Greater}
 use Rattle.quick_code.specs.declared.quick_instr.QuickInstr.{QuickInstr}
 use Rattle.quick_code.specs.declared.quick_instr.QuickInstr.TheVariants.{AddIntBy, End, Jump, NoteRead, NoteWritten}
-use Rattle.quick_code.specs.declared.quick_instr.QuickInstr.TheVariants.{WhenAtMost, WhenNotEqualTo}
+use Rattle.quick_code.specs.declared.quick_instr.QuickInstr.TheVariants.{JumpIfAtMost, JumpIfNotEqualConst}
 use Rattle.slot_trees.specs.SlotTrees.{SlotStmts, arm_then, assign, binary, EXIT, IF, no_arms, no_stmts, no_subscripts}
 use Rattle.slot_trees.specs.SlotTrees.{own, place, REPEAT, stmt_then}
 use Rattle.quick_trees.specs.Example.{number, variable, way}
@@ -22,8 +22,8 @@ repeat_body =
 -- x is the word 0 and y is 1
 abbrev pub repeat_code : List QuickInstr
 repeat_code =
-    Jump (way 1 3) ∷ NoteRead 0 ∷ NoteWritten 0 ∷ NoteRead 1 ∷ AddIntBy 0 (pos 1) 0 ∷ WhenAtMost 0 1 (way 7 0) 1
-    ∷ Jump (way 8 0) ∷ WhenNotEqualTo 0 (pos 5) (way 4 3) 0 ∷ End ∷ []
+    Jump (way 1 3) ∷ NoteRead 0 ∷ NoteWritten 0 ∷ NoteRead 1 ∷ AddIntBy 0 (pos 1) 0 ∷ JumpIfAtMost 0 1 (way 7 0) 1
+    ∷ Jump (way 8 0) ∷ JumpIfNotEqualConst 0 (pos 5) (way 4 3) 0 ∷ End ∷ []
 
 abbrev pub repeat_frame : Frame
 repeat_frame = record {

@@ -5,7 +5,7 @@ use Rattle.st_types.specs.declared.literal.Literal.TheVariants as literals
 use Rattle.st_types.specs.declared.operator.BinaryOperator.TheVariants.{Less}
 use Rattle.quick_code.specs.declared.quick_instr.QuickInstr.{QuickInstr}
 use Rattle.quick_code.specs.declared.quick_instr.QuickInstr.TheVariants.{CountDownInt, End, Jump, Move, NoteRead}
-use Rattle.quick_code.specs.declared.quick_instr.QuickInstr.TheVariants.{NoteWritten, Set, WhenFrom, WhenLess}
+use Rattle.quick_code.specs.declared.quick_instr.QuickInstr.TheVariants.{NoteWritten, Set, JumpIfAtLeastConst, JumpIfLess}
 use Rattle.quick_code.specs.QuickSteps.{Memory}
 use Rattle.slot_trees.specs.SlotTrees.{SlotExpr, SlotFunction, SlotLibrary, SlotStmts, arm_then, assign, binary, call}
 use Rattle.slot_trees.specs.SlotTrees.{constant, expr_then, FOR, IF, no_arms, no_exprs, no_stmts, no_subscripts, own}
@@ -40,8 +40,8 @@ return_body =
 -- x is the word 0, y is 1, and the constant 1 is 2; the function's result is 5 and i is 6
 abbrev pub return_code : List QuickInstr
 return_code =
-    Jump (way 1 2) ∷ NoteRead 0 ∷ NoteWritten 1 ∷ Set (pos 0) 5 ∷ Set (pos 0) 6 ∷ Move 0 6 ∷ WhenLess 6 2 (way 11 1) 1
-    ∷ WhenFrom 6 (pos 3) (way 10 0) 2 ∷ Move 6 5 ∷ Jump (way 12 0) ∷ CountDownInt 6 (negsuc 0) 2 (way 7 2) 2
+    Jump (way 1 2) ∷ NoteRead 0 ∷ NoteWritten 1 ∷ Set (pos 0) 5 ∷ Set (pos 0) 6 ∷ Move 0 6 ∷ JumpIfLess 6 2 (way 11 1) 1
+    ∷ JumpIfAtLeastConst 6 (pos 3) (way 10 0) 2 ∷ Move 6 5 ∷ Jump (way 12 0) ∷ CountDownInt 6 (negsuc 0) 2 (way 7 2) 2
     ∷ Set (pos 0) 5 ∷ Move 5 1 ∷ End ∷ []
 
 abbrev pub return_frame : Frame

@@ -24,7 +24,7 @@ shift_body =
     assign (element (binary Subtract (variable 0) (number 1))) (load (element (binary Add (number 1) (variable 0)))))
     no_stmts
 
--- i is the word 0, the elements are 1 to 3, and what is behind them is free
+-- i is the word 0, the elements are 1 to 3, and the words after them are free
 abbrev pub shift_code : List QuickInstr
 shift_code =
     Jump (way 1 1) ∷ NoteRead 0 ∷ LoadElement 0 (pos 0) 4 1 3 ∷ StoreElement 0 (negsuc 1) 4 1 3 ∷ End ∷ []

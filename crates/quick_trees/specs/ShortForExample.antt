@@ -1,4 +1,4 @@
--- A worked example of a FOR over a type of 8 bits, whose step is another than 1.
+-- A worked example of a FOR over a type of 8 bits, whose step is not 1.
 use Rattle.std.specs.Prelude.{ℕ, pos, List, [], ◌∷◌, Some}
 use Rattle.st_types.specs.declared.kind.Kind.TheVariants.{Usint}
 use Rattle.st_types.specs.declared.literal.Literal.TheVariants as literals
@@ -7,7 +7,7 @@ use Rattle.machine_code.specs.declared.mark.Mark.{Mark}
 use Rattle.machine_code.specs.Tracking.{Tracked, tracked}
 use Rattle.quick_code.specs.declared.quick_instr.QuickInstr.{QuickInstr}
 use Rattle.quick_code.specs.declared.quick_instr.QuickInstr.TheVariants.{AddLintBy, End, Jump, Move, MoveWithin}
-use Rattle.quick_code.specs.declared.quick_instr.QuickInstr.TheVariants.{NoteWritten, WhenAtMost, WhenLess}
+use Rattle.quick_code.specs.declared.quick_instr.QuickInstr.TheVariants.{NoteWritten, JumpIfAtMost, JumpIfLess}
 use Rattle.quick_code.specs.QuickSteps.{Memory}
 use Rattle.slot_trees.specs.SlotTrees.{SlotExpr, SlotStmts, assign, constant, FOR, no_stmts, no_subscripts, own, place}
 use Rattle.slot_trees.specs.SlotTrees.{stmt_then}
@@ -29,8 +29,8 @@ short_for_body =
 -- i is the word 0, s is 1, and the constants 1, 200, 0 and 255 are 2 to 5
 abbrev pub short_for_code : List QuickInstr
 short_for_code =
-    Jump (way 1 1) ∷ NoteWritten 0 ∷ Move 2 0 ∷ WhenLess 3 0 (way 9 0) 1 ∷ NoteWritten 1 ∷ Move 0 1
-    ∷ AddLintBy 0 (pos 100) 0 ∷ MoveWithin 0 4 5 0 ∷ WhenAtMost 0 3 (way 5 2) 1 ∷ End ∷ []
+    Jump (way 1 1) ∷ NoteWritten 0 ∷ Move 2 0 ∷ JumpIfLess 3 0 (way 9 0) 1 ∷ NoteWritten 1 ∷ Move 0 1
+    ∷ AddLintBy 0 (pos 100) 0 ∷ MoveWithin 0 4 5 0 ∷ JumpIfAtMost 0 3 (way 5 2) 1 ∷ End ∷ []
 
 abbrev pub short_for_frame : Frame
 short_for_frame = record {

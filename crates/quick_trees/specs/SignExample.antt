@@ -1,4 +1,4 @@
--- A worked example of a number with its sign turned, and of bits that are turned.
+-- A worked example of a number that is negated, and of bits that are flipped.
 use Rattle.std.specs.Prelude.{ℕ, ℤ, pos, List, [], ◌∷◌}
 use Rattle.st_types.specs.declared.kind.Kind.TheVariants.{Bool as Boolean, Dword, Int}
 use Rattle.st_types.specs.declared.operator.UnaryOperator.TheVariants.{Negate, Not}

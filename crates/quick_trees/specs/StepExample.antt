@@ -43,8 +43,8 @@ step_words x clk q m y notes = record {
   notes = notes;
 }
 
-abbrev pub truth : ℕ → Datum
-truth n = record { kind = Boolean; number = pos n }
+abbrev pub bool_value : ℕ → Datum
+bool_value n = record { kind = Boolean; number = pos n }
 
 abbrev pub step_slots : ℕ → ℕ → ℕ → ℕ → ℕ → List Mark → Tracked
-step_slots x clk q m y marks = tracked (truth x ∷ truth clk ∷ truth q ∷ truth m ∷ truth y ∷ []) marks
+step_slots x clk q m y marks = tracked (bool_value x ∷ bool_value clk ∷ bool_value q ∷ bool_value m ∷ bool_value y ∷ []) marks

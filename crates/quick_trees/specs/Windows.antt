@@ -2,7 +2,7 @@
 use Rattle.std.specs.Prelude.{◌≡◌, ◌<◌, ℕ, List, Some, slice_get}
 use Rattle.machine_code.specs.Tracking.{Tracked}
 
--- Slots in increasing order, among so many.
+-- Slots in increasing order, all below `count`.
 pub record IsWindow (count : ℕ) (window : List ℕ) : Type 0 where
   pub inside : (w k : ℕ) → slice_get window w ≡ Some k → k < count
   pub increasing : (u w j k : ℕ) → slice_get window u ≡ Some j → slice_get window w ≡ Some k → u < w → j < k

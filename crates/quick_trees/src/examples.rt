@@ -29,11 +29,11 @@ ghost use Rattle.quick_trees.specs.StepExample.{step_body, step_code, step_frame
 ghost use Rattle.quick_trees.specs.VariableStepExample.{variable_step_body, variable_step_code, variable_step_frame};
 ghost use Rattle.quick_trees.specs.VariableStepExample.{variable_step_slots, variable_step_words};
 ghost use Rattle.quick_trees.specs.Programs.{beginning, IsProgram};
-ghost use Rattle.quick_trees.specs.Sites.{IsMemory, whole};
+ghost use Rattle.quick_trees.specs.UnitValues.{IsMemory, whole};
 
-/// A program of a loop with a choice in it. Its code stands for it. From 0 and 3 both come to 10 and 3, and take 25
-/// ticks: one, and three for each of eight turns. The notes tell that x was looked up before it was assigned, and y
-/// looked up. With 24 ticks the code cannot tell.
+/// A program of a loop with a choice in it. Its code stands for it. From 0 and 3 both give 10 and 3, and take 25 ticks: one,
+/// and three for each of eight turns. The notes say that x was looked up before it was assigned, and y looked up. With 24
+/// ticks the code cannot tell.
 pub fn a_program_in_quick_code()
     ensures stands { IsProgram its_frame no_units 0 0 its_body }
     ensures words { IsMemory its_frame (whole 0) (beginning its_frame) (its_words (pos 0) (pos 3) 0 0)
@@ -45,8 +45,8 @@ pub fn a_program_in_quick_code()
     ensures short { exec its_code [] 0 50 0 (its_words (pos 0) (pos 3) 0 0) 24 ≡ None }
 {}
 
-/// An IF that assigns one of two values. Its code stands for it, and has no branch: it makes both. From 3, which is
-/// odd, both come to 6, and from 2 to 2. Each takes two ticks. With one tick the code cannot tell.
+/// An IF that assigns one of two values. Its code stands for it, and has no branch: it computes both. From 3, which is odd,
+/// both give 6, and from 2 they give 2. Each takes two ticks. With one tick the code cannot tell.
 pub fn a_choice_in_quick_code()
     ensures stands { IsProgram choice_frame no_units 0 0 choice_body }
     ensures odd { exec choice_code [] 0 50 0 (choice_words 3 0 0 0) 10 ≡ Some (left (choice_words 6 1 6 3) 8) }
@@ -71,8 +71,8 @@ pub fn a_loop_in_quick_code()
     ensures short { exec loop_code [] 0 50 0 (loop_words 0 10 1 2 3 7 0 0 0) 9 ≡ None }
 {}
 
-/// A FOR over a type of 8 bits, by 100. Its code stands for it: the sum is tested before the limit. From 0 both come to
-/// 201 and 101, and take five ticks: one, and two for each of two turns. With 4 ticks the code cannot tell.
+/// A FOR over a type of 8 bits, by 100. Its code stands for it: the sum is tested before the limit. From 0 both give 201 and
+/// 101, and take five ticks: one, and two for each of two turns. With 4 ticks the code cannot tell.
 pub fn a_short_for_in_quick_code()
     ensures stands { IsProgram short_for_frame no_units 0 0 short_for_body }
     ensures run { exec short_for_code [] 0 50 0 (short_for_words 0 0 0) 20
@@ -82,8 +82,8 @@ pub fn a_short_for_in_quick_code()
     ensures short { exec short_for_code [] 0 50 0 (short_for_words 0 0 0) 4 ≡ None }
 {}
 
-/// A FOR from 5 to 1 by a variable, which the body assigns. Its code stands for it. By -2 both come to -1 and 1, and
-/// take seven ticks: one, and two for each of three turns. By 2 there is no turn, and by 0 the code cannot tell.
+/// A FOR from 5 to 1 by a variable, which the body assigns. Its code stands for it. By -2 both give -1 and 1, and take seven
+/// ticks: one, and two for each of three turns. By 2 there is no turn, and by 0 the code cannot tell.
 pub fn a_variable_step_in_quick_code()
     ensures stands { IsProgram variable_step_frame no_units 0 0 variable_step_body }
     ensures run { exec variable_step_code [] 0 50 0
@@ -104,8 +104,8 @@ pub fn a_variable_step_in_quick_code()
         (variable_step_words (pos 0) (pos 0) (pos 0 ∷ pos 0 ∷ pos 0 ∷ pos 0 ∷ []) 0 0) 20 ≡ None }
 {}
 
-/// A WHILE whose turn is two instructions, with its constants in them, over the third of four slots, which is its only
-/// word. Its code stands for it. From 4 both come to 10, and take 13 ticks: one, and two for each of six turns.
+/// A WHILE whose turn is two instructions, with its constants in them, over the third of four slots, which is its only word.
+/// Its code stands for it. From 4 both give 10, and take 13 ticks: one, and two for each of six turns.
 pub fn a_count_in_quick_code()
     ensures stands { IsProgram count_frame no_units 2 0 count_body }
     ensures run { exec count_code [] 0 50 0 (count_words 4 0) 20 ≡ Some (left (count_words 10 3) 7) }
@@ -114,8 +114,8 @@ pub fn a_count_in_quick_code()
     ensures short { exec count_code [] 0 50 0 (count_words 4 0) 12 ≡ None }
 {}
 
-/// A call within a call. The input of the function stays where its argument is: a slot, and then the inner result. From
-/// 3 both come to 12, and take three ticks: one for the assignment, and one for that in each call.
+/// A call within a call. The input of the function stays where its argument is: a slot, and then the inner result. From 3
+/// both give 12, and take three ticks: one for the assignment, and one for that in each call.
 pub fn a_call_in_quick_code()
     ensures stands { IsProgram call_frame call_library 0 1 call_body }
     ensures run { exec call_code [] 0 50 0 (call_words 3 0 0 0 0 0) 20 ≡ Some (left (call_words 3 12 6 12 1 2) 17) }
@@ -124,7 +124,7 @@ pub fn a_call_in_quick_code()
     ensures short { exec call_code [] 0 50 0 (call_words 3 0 0 0 0 0) 2 ≡ None }
 {}
 
-/// A CASE by a table. From 3 both come to 20, and from 7, which no label holds, to 7. They take two ticks.
+/// A CASE by a table. From 3 both give 20, and from 7, which no label holds, they give 7. They take two ticks.
 pub fn a_case_in_quick_code()
     ensures stands { IsProgram case_frame no_units 0 0 case_body }
     ensures run { exec case_code case_ways 0 50 0 (case_words 3 0 0 0) 20 ≡ Some (left (case_words 3 20 1 2) 18) }
@@ -136,8 +136,8 @@ pub fn a_case_in_quick_code()
     ensures short { exec case_code case_ways 0 50 0 (case_words 3 0 0 0) 1 ≡ None }
 {}
 
-/// A REPEAT that an EXIT may leave. Its code stands for it. From 0 and 3 both leave it by EXIT with 4, after 13 ticks:
-/// one, three for each of three turns that go back, and three for the last. From 0 and 9 they come to 5.
+/// A REPEAT that an EXIT may leave. Its code stands for it. From 0 and 3 both leave it by EXIT with 4, after 13 ticks: one,
+/// three for each of three turns that go back, and three for the last. From 0 and 9 they give 5.
 pub fn a_repeat_in_quick_code()
     ensures stands { IsProgram repeat_frame no_units 0 0 repeat_body }
     ensures run { exec repeat_code [] 0 50 0 (case_words 0 3 0 0) 20 ≡ Some (left (case_words 4 3 3 1) 7) }
@@ -148,8 +148,8 @@ pub fn a_repeat_in_quick_code()
         ≡ Ok (goes_on (its_slots 5 9 (mark true true) (mark true false)), 5) }
 {}
 
-/// A function that counts down, and returns from within its loop. From 5 both come to 2, and take 11 ticks: for the
-/// assignment and the loop, four choices, three ways back, and the two statements that are chosen in the end.
+/// A function that counts down, and returns from within its loop. From 5 both give 2, and take 11 ticks: for the assignment
+/// and the loop, four choices, three ways back, and the two statements that are chosen in the end.
 pub fn a_return_in_quick_code()
     ensures stands { IsProgram return_frame return_library 0 1 return_body }
     ensures run { exec return_code [] 0 50 0 (return_words 5 0 0 0 0 0) 20
@@ -159,8 +159,8 @@ pub fn a_return_in_quick_code()
     ensures short { exec return_code [] 0 50 0 (return_words 5 0 0 0 0 0) 10 ≡ None }
 {}
 
-/// A block that sums up, called on an instance. Its input is x and one more, and its output is copied to x. From 4 and
-/// a sum of 10 both come to 15, and take two ticks: one for the call, and one for the block's assignment.
+/// A block that sums up, called on an instance. Its input is x + 1, and its output is copied to x. From 4 and a sum of 10
+/// both give 15, and take two ticks: one for the call, and one for the block's assignment.
 pub fn a_block_in_quick_code()
     ensures stands { IsProgram block_frame block_library 0 1 block_body }
     ensures run { exec block_code [] 0 50 0 (block_words 4 0 10 0 0 0 0) 20
@@ -171,8 +171,8 @@ pub fn a_block_in_quick_code()
     ensures short { exec block_code [] 0 50 0 (block_words 4 0 10 0 0 0 0) 1 ≡ None }
 {}
 
-/// A standard block that tells of a rise, called on an instance. Where x is TRUE and was not before, both set y, and
-/// take a tick. Members are looked up before they are assigned, but for the input, which the call assigned.
+/// A standard block that detects a rise, called on an instance. If x is TRUE and was not before, both set y, and take a
+/// tick. Members are looked up before they are assigned, but for the input, which the call assigned.
 pub fn a_standard_block_in_quick_code()
     ensures stands { IsProgram step_frame no_units 0 1 step_body }
     ensures run { exec step_code [] 0 50 0 (step_words 1 0 0 0 0 (0 ∷ 0 ∷ 0 ∷ 0 ∷ 0 ∷ [])) 20
@@ -187,8 +187,8 @@ pub fn a_standard_block_in_quick_code()
     ensures short { exec step_code [] 0 50 0 (step_words 1 0 0 0 0 (0 ∷ 0 ∷ 0 ∷ 0 ∷ 0 ∷ [])) 0 ≡ None }
 {}
 
-/// An element of an array with three subscripts is assigned to another one. With i = 2 and j = 1 both assign a[1, 2, 1]
-/// to a[2, 1, 2], and take a tick. That an element is looked up or assigned the instructions themselves note.
+/// An element of an array with three subscripts is assigned to another one. With i = 2 and j = 1 both assign a[1, 2, 1] to
+/// a[2, 1, 2], and take a tick. The instructions themselves note the look at an element or its assignment.
 pub fn an_array_in_quick_code()
     ensures stands { IsProgram array_frame no_units 0 0 array_body }
     ensures run { exec array_code [] 0 50 0 (array_words 2 1 7 0 0 0 0 0) 20
@@ -198,9 +198,9 @@ pub fn an_array_in_quick_code()
     ensures out_of_bounds { exec array_code [] 0 50 0 (array_words 3 1 7 0 0 0 0 0) 20 ≡ None }
 {}
 
-/// An element is assigned to the one two before it, by subscripts that are sums with a constant. With i = 2 both assign
-/// a[3] to a[1], and take a tick; the constants stand in the instructions alone. There is no a[4], so with i = 3 the
-/// code cannot tell.
+/// An element is assigned to the one two before it, by subscripts that are sums with a constant. With i = 2 both assign a[3]
+/// to a[1], and take a tick; the constants are in the instructions alone. There is no a[4], so with i = 3 the code cannot
+/// tell.
 pub fn shifted_subscripts_in_quick_code()
     ensures stands { IsProgram shift_frame no_units 0 0 shift_body }
     ensures run { exec shift_code [] 0 50 0 (shift_words 2 0 7 0 0 0 0) 20
@@ -210,7 +210,7 @@ pub fn shifted_subscripts_in_quick_code()
     ensures out_of_bounds { exec shift_code [] 0 50 0 (shift_words 3 0 7 0 0 0 0) 20 ≡ None }
 {}
 
-/// The sign of a number is turned, and each bit of a BOOL and of a DWORD. From 5, TRUE and 7 both come to -5, FALSE and
+/// A number is negated, and each bit of a BOOL and of a DWORD is flipped. From 5, TRUE and 7 both give -5, FALSE and
 /// 4294967288, and take three ticks. There is no INT that is 32768, so with -32768 the code cannot tell.
 pub fn a_sign_in_quick_code()
     ensures stands { IsProgram sign_frame no_units 0 0 sign_body }
@@ -221,8 +221,8 @@ pub fn a_sign_in_quick_code()
     ensures out_of_range { exec sign_code [] 0 50 0 (sign_words (negsuc 32767) 1 7 0) 20 ≡ None }
 {}
 
-/// Constants in the instructions of a difference, a product and a quotient. From 5 and 13 both come to 2 and 9, and
-/// take three ticks.
+/// Constants in the instructions of a difference, a product and a quotient. From 5 and 13 both give 2 and 9, and take three
+/// ticks.
 pub fn constants_in_quick_code()
     ensures stands { IsProgram constant_frame no_units 0 0 constant_body }
     ensures run { exec constant_code [] 0 50 0 (constant_words 5 13 0) 20 ≡ Some (left (constant_words 2 9 3) 17) }
@@ -231,8 +231,8 @@ pub fn constants_in_quick_code()
     ensures short { exec constant_code [] 0 50 0 (constant_words 5 13 0) 2 ≡ None }
 {}
 
-/// An INT is converted to a WORD, whose bits are moved down. From 13 both come to 6, and take a tick. No WORD is 65536,
-/// so from there the code cannot tell.
+/// An INT is converted to a WORD, whose bits are moved down. From 13 both give 6, and take a tick. No WORD is 65536, so from
+/// there the code cannot tell.
 pub fn functions_in_quick_code()
     ensures stands { IsProgram function_frame no_units 0 0 function_body }
     ensures run { exec function_code [] 0 50 0 (function_words 13 0 0 0 0) 20

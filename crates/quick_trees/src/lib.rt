@@ -1,15 +1,15 @@
-//! Which quick code stands for a slot tree, and that where a run of it ends well, the tree means what it leaves.
+//! Which quick code stands for a slot tree, and that if a run of it ends well, the tree means the result of the run.
 //!
-//! A compiler is to make code that stands for the program of a plan, and a run is to begin with the quick machine
-//! on it. The definition says of each form of code what it stands for, so a further form is a further clause. Of a run
-//! that does not end well nothing is said.
+//! A compiler makes code that stands for the program of a plan, and a run begins with the quick machine on it. The
+//! definition says for each form of code what it stands for, so a further form is a further clause. Nothing is said of a run
+//! that does not end well.
 //!
-//! Code leads from one point to another. A point is a place, with the ticks that the run has taken ahead of the tree,
-//! and with what is known there of the note of each slot: the machine keeps a note of what the program did with a word,
-//! and an instruction that notes a look or an assignment may stand before a loop that does it in each turn. The code of
-//! a function stands in the place of each call, on words of its own, and an input that the body never assigns stays
-//! where the argument is. The code of a block stands in the place of each call, too, on the slots of the instance, and
-//! a standard block is a single instruction.
+//! Code leads from one point to another. A point is a place, with the ticks that the run has taken ahead of the tree, and
+//! with the facts known there of the note of each slot: the machine keeps a note of how the program used a word, and an
+//! instruction that notes a look or an assignment may be before a loop that does it in each turn. The code of a function
+//! takes the place of each call, on words of its own, and an input that the body never assigns stays where the argument is.
+//! The code of a block takes the place of each call, too, on the slots of the instance, and a standard block is a single
+//! instruction.
 #![tactic(auto)]
 
 mod examples;

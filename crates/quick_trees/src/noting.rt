@@ -1,29 +1,29 @@
-//! What is known of a slot's note at a place of the code.
+//! The fact known of a slot's note at a place of the code.
 
 ghost use Rattle.std.specs.Prelude.{◌≡◌};
 ghost use Rattle.quick_trees.specs.Notes;
 
-/// What is known of the note of a slot wherever a run comes to a place of the code, beside what the program did.
+/// The fact known of the note of a slot wherever a run comes to a place of the code, beside what the program did.
 #[derive(Clone, Copy, PartialEq, Eq)]
 pub enum Noting {
-    /// The note tells what the program did.
+    /// The note says what the program did.
     Exact,
-    /// It tells of a look that comes, too.
+    /// It also says that a look comes.
     LookAhead,
-    /// It tells of an assignment that comes, too.
+    /// It also says that an assignment comes.
     AssignmentAhead,
-    /// It tells of a look that comes and of an assignment behind it, too.
+    /// It also says that a look comes and an assignment after it.
     BothAhead,
-    /// The note tells what the program did, and this looked the slot up or assigned it.
+    /// The note says what the program did, and this looked the slot up or assigned it.
     Looked,
-    /// The program looked the slot up or assigned it, and the note tells of an assignment that comes, too.
+    /// The program looked the slot up or assigned it, and the note also says that an assignment comes.
     LookedAssignmentAhead,
-    /// The note tells what the program did, and this assigned the slot.
+    /// The note says what the program did, and this assigned the slot.
     Assigned,
 }
 
 impl Noting {
-    /// What is known where the program looks the slot up; none where the note would not tell of it.
+    /// The fact known after the program looks the slot up; none if the note would miss that.
     pub fn at_look(self) -> Option<Noting>
         ensures { result ≡ Notes.at_look self }
     {
@@ -37,7 +37,7 @@ impl Noting {
         }
     }
 
-    /// What is known where the program assigns the slot; none where the note would not tell of it.
+    /// The fact known after the program assigns the slot; none if the note would miss that.
     pub fn at_assignment(self) -> Option<Noting>
         ensures { result ≡ Notes.at_assignment self }
     {
@@ -49,7 +49,7 @@ impl Noting {
         }
     }
 
-    /// What is known where an instruction notes a look that comes; none where it does not tell more.
+    /// The fact known after an instruction notes a look that comes; none if it says no more.
     pub fn with_look_ahead(self) -> Option<Noting>
         ensures { result ≡ Notes.with_look_ahead self }
     {
@@ -59,7 +59,7 @@ impl Noting {
         }
     }
 
-    /// What is known where an instruction notes an assignment that comes; none where it does not tell more.
+    /// The fact known after an instruction notes an assignment that comes; none if it says no more.
     pub fn with_assignment_ahead(self) -> Option<Noting>
         ensures { result ≡ Notes.with_assignment_ahead self }
     {
@@ -71,9 +71,9 @@ impl Noting {
         }
     }
 
-    /// Where this is known, so is the other.
-    pub fn tells(self, other: Noting) -> bool
-        ensures { result ≡ Notes.tells self other }
+    /// If this is known, so is the other.
+    pub fn implies(self, other: Noting) -> bool
+        ensures { result ≡ Notes.implies self other }
     {
         match (self, other) {
             (Noting::Assigned, _) => true,

@@ -1,4 +1,4 @@
--- What a row and a Done make of the list.
+-- The list after a row and after a Done.
 use Rattle.std.proofs.Common.{◌≡◌, ℕ, zero, suc, ◌+◌, ◌-◌, ◌<◌, ◌≤◌, ◌==◌, inl, inr, Bool, true, false, if◌then◌else◌}
 use Rattle.std.proofs.Common.{IsTrue, ◌↔◌, List, [], ◌∷◌, ◌++◌, length, slice_set, Option, Some, None, refl, sym, ap}
 use Rattle.std.proofs.Common.{subst, ◌∙◌, arith, length-append}
@@ -14,9 +14,9 @@ use Rattle.st_meaning.specs.Due.{due_count, Waits, HasOverruns, with_row, with_r
 use Rattle.st_meaning.proofs.DueLemmas.{due-past, due-old, due-new, is_due-new, due_count-new, served-add, run_count-add}
 use Rattle.st_meaning.proofs.DueLemmas.{row_now-old, row_now-new, Waits-same, Waits-there}
 use Rattle.st_meaning.proofs.OverrunLemmas.{waits_on}
-use Rattle.ready_list.specs.declared.standing.Standing.{Standing}
-use Rattle.ready_list.specs.declared.standing.NewRow.{NewRow}
-use Rattle.ready_list.specs.Ready.{Ready, stand_at, marked, marked_at, AreMarked, HasStanding, IsReadyOf}
+use Rattle.ready_list.specs.declared.program_state.ProgramState.{ProgramState}
+use Rattle.ready_list.specs.declared.program_state.NewRow.{NewRow}
+use Rattle.ready_list.specs.Ready.{Ready, state_at, marked, marked_at, AreMarked, IsProgramState, IsReadyOf}
 
 same_some : (j k : ℕ) → ◌≡◌ {A = Option ℕ} (Some j) (Some k) → j ≡ k
 same_some j k e = cc
@@ -48,9 +48,9 @@ module _ (schedules : List Schedule) (h : History) (p : ℕ) where
       ]
     ]
 
-    not_due : (s : Standing) → HasStanding schedules h p s
+    not_due : (s : ProgramState) → IsProgramState schedules h p s
         → due schedules p (h.sampled ++ record { moment = m; samples = ss } ∷ []) (length h.sampled) ≡ false
-        → HasStanding schedules (with_row h m ss) p s
+        → IsProgramState schedules (with_row h m ss) p s
     not_due s is e = record {
       some = λ k w. waits_on schedules h m ss p k (is.some k w);
       none = λ w k u. rests (is.none w) e k u;
@@ -58,9 +58,9 @@ module _ (schedules : List Schedule) (h : History) (p : ℕ) where
       within = omega (arith, is.within, longer);
     }
 
-    placed_when_due : (w : Option ℕ) (n : ℕ) → HasStanding schedules h p record { waiting = w; overruns = n }
+    placed_when_due : (w : Option ℕ) (n : ℕ) → IsProgramState schedules h p record { waiting = w; overruns = n }
         → due schedules p (h.sampled ++ record { moment = m; samples = ss } ∷ []) (length h.sampled) ≡ true
-        → HasStanding schedules (with_row h m ss) p (marked_at w n (length h.sampled))
+        → IsProgramState schedules (with_row h m ss) p (marked_at w n (length h.sampled))
     placed_when_due None n is e = record {
       some = λ k s. subst (λ i. Waits schedules (with_row h m ss) record { program = p; row = i })
           (same_some (length h.sampled) k s) record {
@@ -79,11 +79,11 @@ module _ (schedules : List Schedule) (h : History) (p : ℕ) where
       within = omega (arith, is.within, longer);
     }
 
-    pub HasStanding-row : (s : Standing) → HasStanding schedules h p s → (b : Bool)
+    pub IsProgramState-row : (s : ProgramState) → IsProgramState schedules h p s → (b : Bool)
         → due schedules p (h.sampled ++ record { moment = m; samples = ss } ∷ []) (length h.sampled) ≡ b
-        → HasStanding schedules (with_row h m ss) p (marked s b (length h.sampled))
-    HasStanding-row s is true e = placed_when_due s.waiting s.overruns is e
-    HasStanding-row s is false e = not_due s is e
+        → IsProgramState schedules (with_row h m ss) p (marked s b (length h.sampled))
+    IsProgramState-row s is true e = placed_when_due s.waiting s.overruns is e
+    IsProgramState-row s is false e = not_due s is e
 
   served-own : served p (h.runs ++ record { program = p; rows = length h.sampled } ∷ []) ≡ length h.sampled
   served-own = let t : (p == p) ≡ true = eq-eqb p p refl in
@@ -94,9 +94,9 @@ module _ (schedules : List Schedule) (h : History) (p : ℕ) where
       run_count-add p h.runs record { program = p; rows = length h.sampled } ∙ rw t refl
 
   -- a program that was run waits no more
-  pub HasStanding-own : (k n : ℕ) → HasStanding schedules h p record { waiting = Some k; overruns = n }
-      → HasStanding schedules (with_run h p) p record { waiting = None; overruns = n }
-  HasStanding-own k n is = record {
+  pub IsProgramState-own : (k n : ℕ) → IsProgramState schedules h p record { waiting = Some k; overruns = n }
+      → IsProgramState schedules (with_run h p) p record { waiting = None; overruns = n }
+  IsProgramState-own k n is = record {
     some = λ j s. cc;
     none = λ s j u. due-past schedules p h.sampled j (rw served-own at u);
     count = omega (arith, is.count, count-own);
@@ -110,8 +110,8 @@ module _ (schedules : List Schedule) (h : History) (p : ℕ) where
     count-other : run_count p (h.runs ++ record { program = q; rows = length h.sampled } ∷ []) ≡ run_count p h.runs
     count-other = run_count-add p h.runs record { program = q; rows = length h.sampled } ∙ rw other refl
 
-    pub HasStanding-other : (s : Standing) → HasStanding schedules h p s → HasStanding schedules (with_run h q) p s
-    HasStanding-other s is = record {
+    pub IsProgramState-other : (s : ProgramState) → IsProgramState schedules h p s → IsProgramState schedules (with_run h q) p s
+    IsProgramState-other s is = record {
       some = λ k w. let old = is.some k w in record {
         is = old.is;
         unserved = rw served-other old.unserved;
@@ -122,16 +122,16 @@ module _ (schedules : List Schedule) (h : History) (p : ℕ) where
       within = omega (arith, is.within, served-other);
     }
 
-  -- what waits is what stands there
-  pub HasStanding-all : (w : Option ℕ) (n k : ℕ) → HasStanding schedules h p record { waiting = w; overruns = n }
+  -- the activation that waits is the one in the state
+  pub IsProgramState-all : (w : Option ℕ) (n k : ℕ) → IsProgramState schedules h p record { waiting = w; overruns = n }
       → Waits schedules h record { program = p; row = k } → w ≡ Some k
-  HasStanding-all None n k is waits = let x = is.none refl k waits.unserved in let y = waits.is in cc
-  HasStanding-all (Some j) n k is waits = ap (λ i. Some i) (Waits-same schedules h p j k (is.some j refl) waits)
+  IsProgramState-all None n k is waits = let x = is.none refl k waits.unserved in let y = waits.is in cc
+  IsProgramState-all (Some j) n k is waits = ap (λ i. Some i) (Waits-same schedules h p j k (is.some j refl) waits)
 
-  overruns_at : (w : Option ℕ) (n : ℕ) → HasStanding schedules h p record { waiting = w; overruns = n }
+  overruns_at : (w : Option ℕ) (n : ℕ) → IsProgramState schedules h p record { waiting = w; overruns = n }
       → HasOverruns schedules h p n
   overruns_at None n is = record {
-    waiting = λ k waits. let x = HasStanding-all None n k is waits in cc;
+    waiting = λ k waits. let x = IsProgramState-all None n k is waits in cc;
     resting = λ none. omega (arith, is.count);
   }
   overruns_at (Some k) n is = record {
@@ -139,47 +139,47 @@ module _ (schedules : List Schedule) (h : History) (p : ℕ) where
     resting = λ none. absurd (none k (is.some k refl));
   }
 
-  pub HasStanding-overruns : (s : Standing) → HasStanding schedules h p s → HasOverruns schedules h p s.overruns
-  HasStanding-overruns s is = overruns_at s.waiting s.overruns is
+  pub IsProgramState-overruns : (s : ProgramState) → IsProgramState schedules h p s → HasOverruns schedules h p s.overruns
+  IsProgramState-overruns s is = overruns_at s.waiting s.overruns is
 
--- the new row, and what is kept of it
+-- the new row, and the facts kept of it
 module _ {h : History} {r : Ready} (is : IsReadyOf h r) where
   pub listed-waits : (a : Activation) → a.program < length r.schedules
-      → (stand_at r.standings a.program).waiting ≡ Some a.row → Waits r.schedules h a
+      → (state_at r.states a.program).waiting ≡ Some a.row → Waits r.schedules h a
   listed-waits a l e = (is.placed a.program l).some a.row e
 
   pub waits-listed : (a : Activation) → Waits r.schedules h a
-      → (a.program < length r.schedules) × ((stand_at r.standings a.program).waiting ≡ Some a.row)
+      → (a.program < length r.schedules) × ((state_at r.states a.program).waiting ≡ Some a.row)
   waits-listed a w =
       let there = Waits-there r.schedules h a w in (
         there.0,
-        HasStanding-all r.schedules h a.program (stand_at r.standings a.program).waiting
-            (stand_at r.standings a.program).overruns a.row (is.placed a.program there.0) w,
+        IsProgramState-all r.schedules h a.program (state_at r.states a.program).waiting
+            (state_at r.states a.program).overruns a.row (is.placed a.program there.0) w,
       )
 
-  -- what waits of a program is what stands there
-  pub waiting_told : (p : ℕ) (o : Option ℕ) → length r.standings ≡ length r.schedules
-      → (stand_at r.standings p).waiting ≡ o
+  -- the activation of a program that waits is the one in its state
+  pub waiting_told : (p : ℕ) (o : Option ℕ) → length r.states ≡ length r.schedules
+      → (state_at r.states p).waiting ≡ o
       → MatchOption o ((row : ℕ) → Waits r.schedules h record { program = p; row = row } → ⊥)
       (λ row. Waits r.schedules h record { program = p; row = row })
   waiting_told p None same e = λ row w. let l = waits-listed record { program = p; row = row } w in
       let x = l.1 in cc
-  waiting_told p (Some row) same e = elim (leb_tells (length r.standings) p) [
+  waiting_told p (Some row) same e = elim (leb_tells (length r.states) p) [
     | inl past ↦
-        let x = ap (λ (s : Standing). s.waiting)
-        (get_or_past r.standings p record { waiting = None; overruns = 0 } past.1) in absurd (cc)
+        let x = ap (λ (s : ProgramState). s.waiting)
+        (get_or_past r.states p record { waiting = None; overruns = 0 } past.1) in absurd (cc)
     | inr within ↦ listed-waits record { program = p; row = row } (omega (arith, within.1, same)) e
   ]
 
-  pub IsReadyOf-row : (row : NewRow) (ss : List Bool) (new : List Standing)
+  pub IsReadyOf-row : (row : NewRow) (ss : List Bool) (new : List ProgramState)
       → row.number ≡ r.rows
       → row.first ≡ (if r.rows == 0 then row.moment else r.first)
       → row.last ≡ (if r.rows == 0 then row.moment else r.last)
-      → AreMarked r.schedules r.standings new r.samples ss row
+      → AreMarked r.schedules r.states new r.samples ss row
       → IsReadyOf (with_row h row.moment ss) record {
         schedules = r.schedules;
         samples = ss;
-        standings = new;
+        states = new;
         first =
             row.first;
         last = row.moment;
@@ -196,7 +196,7 @@ module _ {h : History} {r : Ready} (is : IsReadyOf h r) where
         let d = due-new h.sampled row_now r.schedules p l ∙ is_due-new (schedule_at r.schedules p) h.sampled row_now
         (sample r.samples (schedule_at r.schedules p).task) row.first row.last
         (is.samples (schedule_at r.schedules p).task) at_first.0 at_first.1 at_last.0 at_last.1 in
-        let e = marks p l ∙ ap (λ (n : ℕ). marked (stand_at r.standings p) (rule (schedule_at r.schedules p).interval
+        let e = marks p l ∙ ap (λ (n : ℕ). marked (state_at r.states p) (rule (schedule_at r.schedules p).interval
         record {
           is_first = n == 0;
           single_before = sample r.samples (schedule_at r.schedules p).task;
@@ -207,8 +207,8 @@ module _ {h : History} {r : Ready} (is : IsReadyOf h r) where
           moment = row.moment;
         }) n)
         (number ∙ is.rows) in
-        subst (HasStanding r.schedules (with_row h row.moment ss) p) (sym e)
-        (HasStanding-row r.schedules h p row.moment ss (stand_at r.standings p) (is.placed p l) _ d);
+        subst (IsProgramState r.schedules (with_row h row.moment ss) p) (sym e)
+        (IsProgramState-row r.schedules h p row.moment ss (state_at r.states p) (is.placed p l) _ d);
   }
     where
       row_now : SampledRow
@@ -250,18 +250,18 @@ module _ {h : History} {r : Ready} (is : IsReadyOf h r) where
       first_is : row.first ≡ (sampled_at (h.sampled ++ row_now ∷ []) 0).moment
       first_is = first_at (length h.sampled) refl
 
-  -- the same, of what the code has
+  -- the same, for the code's values
   pub IsReadyOf-due :
-      (row : NewRow) (ss got : List Bool) (new : List Standing) (schedules : List Schedule) (before : List Bool)
+      (row : NewRow) (ss got : List Bool) (new : List ProgramState) (schedules : List Schedule) (before : List Bool)
       → got ≡ ss → schedules ≡ r.schedules → before ≡ r.samples
       → row.number ≡ r.rows
       → row.first ≡ (if r.rows == 0 then row.moment else r.first)
       → row.last ≡ (if r.rows == 0 then row.moment else r.last)
-      → AreMarked schedules r.standings new before ss row
+      → AreMarked schedules r.states new before ss row
       → IsReadyOf (with_row h row.moment ss) record {
         schedules = r.schedules;
         samples = got;
-        standings = new;
+        states = new;
         first =
             row.first;
         last = row.moment;
@@ -271,37 +271,37 @@ module _ {h : History} {r : Ready} (is : IsReadyOf h r) where
       subst (λ x. IsReadyOf (with_row h row.moment ss) record {
         schedules = r.schedules;
         samples = x;
-        standings = new;
+        states = new;
         first = row.first;
         last = row.moment;
         rows = r.rows + 1;
       }) (sym g)
-      (IsReadyOf-row row ss new number first last (subst (λ x. AreMarked r.schedules r.standings new x ss row) b
-      (subst (λ x. AreMarked x r.standings new before ss row) e marks)))
+      (IsReadyOf-row row ss new number first last (subst (λ x. AreMarked r.schedules r.states new x ss row) b
+      (subst (λ x. AreMarked x r.states new before ss row) e marks)))
 
-  -- the program's own standing, and what is left of it
-  module _ (a : Activation) (s left : Standing) (sized : length r.standings ≡ length r.schedules)
-      (l : a.program < length r.schedules) (same : s ≡ stand_at r.standings a.program)
+  -- the program's own state, and the rest of it
+  module _ (a : Activation) (s left : ProgramState) (sized : length r.states ≡ length r.schedules)
+      (l : a.program < length r.schedules) (same : s ≡ state_at r.states a.program)
       (taken : left ≡ record { waiting = None; overruns = s.overruns }) where
-    left_there : stand_at (slice_set r.standings a.program left) a.program
-        ≡ record { waiting = None; overruns = (stand_at r.standings a.program).overruns }
-    left_there = get_or-set_at r.standings a.program a.program left record { waiting = None; overruns = 0 } refl
-        (omega (arith, l, sized)) ∙ taken ∙ ap (λ (x : Standing). record { waiting = None; overruns = x.overruns }) same
+    left_there : state_at (slice_set r.states a.program left) a.program
+        ≡ record { waiting = None; overruns = (state_at r.states a.program).overruns }
+    left_there = get_or-set_at r.states a.program a.program left record { waiting = None; overruns = 0 } refl
+        (omega (arith, l, sized)) ∙ taken ∙ ap (λ (x : ProgramState). record { waiting = None; overruns = x.overruns }) same
 
-    own : (stand_at r.standings a.program).waiting ≡ Some a.row → HasStanding r.schedules (with_run h a.program)
-        a.program (stand_at (slice_set r.standings a.program left) a.program)
+    own : (state_at r.states a.program).waiting ≡ Some a.row → IsProgramState r.schedules (with_run h a.program)
+        a.program (state_at (slice_set r.states a.program left) a.program)
     own w =
-        let was = subst (λ o. HasStanding r.schedules h a.program
-        record { waiting = o; overruns = (stand_at r.standings a.program).overruns }) w (is.placed a.program l) in
-        subst (HasStanding r.schedules (with_run h a.program) a.program) (sym left_there)
-        (HasStanding-own r.schedules h a.program a.row (stand_at r.standings a.program).overruns was)
+        let was = subst (λ o. IsProgramState r.schedules h a.program
+        record { waiting = o; overruns = (state_at r.states a.program).overruns }) w (is.placed a.program l) in
+        subst (IsProgramState r.schedules (with_run h a.program) a.program) (sym left_there)
+        (IsProgramState-own r.schedules h a.program a.row (state_at r.states a.program).overruns was)
 
-    pub IsReadyOf-run : (stand_at r.standings a.program).waiting ≡ Some a.row
+    pub IsReadyOf-run : (state_at r.states a.program).waiting ≡ Some a.row
         → IsReadyOf (with_run h a.program) record {
           schedules = r.schedules;
           samples = r.samples;
-          standings =
-              slice_set r.standings a.program left;
+          states =
+              slice_set r.states a.program left;
           first = r.first;
           last = r.last;
           rows = r.rows;
@@ -313,20 +313,20 @@ module _ {h : History} {r : Ready} (is : IsReadyOf h r) where
       samples = is.samples;
       placed = λ p m. elim (eqb_tells a.program p) [
         | inl t ↦ subst
-            (λ q. HasStanding r.schedules (with_run h a.program) q (stand_at (slice_set r.standings a.program left) q))
+            (λ q. IsProgramState r.schedules (with_run h a.program) q (state_at (slice_set r.states a.program left) q))
             t.1 (own w)
-        | inr f ↦ subst (HasStanding r.schedules (with_run h a.program) p) (sym
-            (get_or-set_other r.standings a.program p left record { waiting = None; overruns = 0 } (λ e. f.1 (sym e))))
-            (HasStanding-other r.schedules h p a.program f.0 (stand_at r.standings p) (is.placed p m))
+        | inr f ↦ subst (IsProgramState r.schedules (with_run h a.program) p) (sym
+            (get_or-set_other r.states a.program p left record { waiting = None; overruns = 0 } (λ e. f.1 (sym e))))
+            (IsProgramState-other r.schedules h p a.program f.0 (state_at r.states p) (is.placed p m))
       ];
     }
 
-  module _ (a : Activation) (list : List Standing) (same : list ≡ r.standings)
-      (sized : length r.standings ≡ length r.schedules) (t : Bool)
-      (tells : IsTrue t ↔ ((a.program < length list) × ((stand_at list a.program).waiting ≡ Some a.row))) where
-    told : IsTrue t ↔ ((a.program < length r.standings) × ((stand_at r.standings a.program).waiting ≡ Some a.row))
+  module _ (a : Activation) (list : List ProgramState) (same : list ≡ r.states)
+      (sized : length r.states ≡ length r.schedules) (t : Bool)
+      (tells : IsTrue t ↔ ((a.program < length list) × ((state_at list a.program).waiting ≡ Some a.row))) where
+    told : IsTrue t ↔ ((a.program < length r.states) × ((state_at r.states a.program).waiting ≡ Some a.row))
     told = subst
-        (λ (l : List Standing). IsTrue t ↔ ((a.program < length l) × ((stand_at l a.program).waiting ≡ Some a.row)))
+        (λ (l : List ProgramState). IsTrue t ↔ ((a.program < length l) × ((state_at l a.program).waiting ≡ Some a.row)))
         same tells
 
     pub listed-iff-waits : IsTrue t ↔ Waits r.schedules h a
@@ -339,12 +339,12 @@ module _ {h : History} {r : Ready} (is : IsReadyOf h r) where
     listed-waits_not e w = let x = listed-iff-waits.1 w in cc
 
     pub listed-there : t ≡ true
-        → (a.program < length r.schedules) × ((stand_at r.standings a.program).waiting ≡ Some a.row)
+        → (a.program < length r.schedules) × ((state_at r.states a.program).waiting ≡ Some a.row)
     listed-there e = let x = told.0 e in (omega (arith, x.0, sized), x.1)
 
-pub overruns_there : (s : Standing) (standings : List Standing) (r : Ready) (p : ℕ) → s ≡ stand_at standings p
-    → standings ≡ r.standings
+pub overruns_there : (s : ProgramState) (states : List ProgramState) (r : Ready) (p : ℕ) → s ≡ state_at states p
+    → states ≡ r.states
     → (h : History) → IsReadyOf h r → p < length r.schedules → HasOverruns r.schedules h p s.overruns
-overruns_there s standings r p e f h is l =
-    subst (λ n. HasOverruns r.schedules h p n) (sym (ap (λ (s : Standing). s.overruns) (e ∙ ap (λ x. stand_at x p) f)))
-    (HasStanding-overruns r.schedules h p (stand_at r.standings p) (is.placed p l))
+overruns_there s states r p e f h is l =
+    subst (λ n. HasOverruns r.schedules h p n) (sym (ap (λ (s : ProgramState). s.overruns) (e ∙ ap (λ x. state_at x p) f)))
+    (IsProgramState-overruns r.schedules h p (state_at r.states p) (is.placed p l))

@@ -1,4 +1,4 @@
--- The schedules of the code's plan are those of the plan that it stands for.
+-- The schedules of the code's plan are those of its view.
 use Rattle.std.proofs.Common.{◌≡◌, ℕ, zero, suc, List, [], ◌∷◌, map, refl}
 use Rattle.st_types.specs.Sources.{Source}
 use Rattle.st_meaning.specs.declared.plan.PlanVariable.{PlanVariable}

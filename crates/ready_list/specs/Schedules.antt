@@ -8,7 +8,7 @@ use Rattle.plan.specs.declared.task.ProgramInstance.{ProgramInstance}
 abbrev pub code_task_at : List Task → ℕ → Task
 code_task_at tasks t = slice_index_or tasks t record { resource = 0; single = Absent; interval = 0; priority = 0 }
 
--- where and how often a program runs, its task's interval and priority 0 where the task isn't there
+-- where and how often a program runs, its task's interval and priority 0 if the task doesn't exist
 abbrev pub code_schedule : List Task → ProgramInstance → Schedule
 code_schedule tasks p = record {
   resource = p.resource;

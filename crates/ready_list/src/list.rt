@@ -6,11 +6,11 @@ ghost use Rattle.st_types.specs.declared.limits.TheConstants.{MOMENT_LIMIT};
 ghost use Rattle.st_meaning.specs.Due.{History, Waits, NoneWaits, IsBest, HasOverruns, with_row, no_history};
 ghost use Rattle.st_meaning.specs.Plans.{schedules_of as schedules_in};
 ghost use Rattle.plan.specs.PlanViews.{plan_view};
-ghost use Rattle.ready_list.specs.Ready.{stand_at, IsReadyOf, Removes};
+ghost use Rattle.ready_list.specs.Ready.{state_at, IsReadyOf, Removes};
 
 use crate::order::first_of;
+use crate::program_state::{NewRow, ProgramState, mark_all, taken};
 use crate::schedules::schedules_of;
-use crate::standing::{NewRow, Standing, mark_all, taken};
 use plan::Plan;
 use st_meaning::Schedule;
 use st_types::Activation;
@@ -22,7 +22,7 @@ pub struct ReadyList {
     schedules: Vec<Schedule>,
     /// SINGLE of each task at the last row; FALSE before the first.
     samples: Vec<bool>,
-    standings: Vec<Standing>,
+    states: Vec<ProgramState>,
     /// The moment of the first row in milliseconds; 0 before it.
     first: u64,
     /// The moment of the last row in milliseconds; 0 before the first.
@@ -36,7 +36,7 @@ impl Drop for ReadyList {
         let Self {
             schedules: _,
             samples: _,
-            standings: _,
+            states: _,
             first: _,
             last: _,
             rows: _,
@@ -54,33 +54,33 @@ impl Model for ReadyList {
     ghost view = { λ x. record {
       schedules = x.schedules.items;
       samples = x.samples.items;
-      standings = x.standings.items;
+      states = x.states.items;
       first = x.first;
       last = x.last;
       rows = x.rows;
     } };
 
     ghost invariant = { λ x.
-        (length x.standings.items ≡ length x.schedules.items)
+        (length x.states.items ≡ length x.schedules.items)
         × (x.rows ≤ x.last + 1)
         × (x.last < MOMENT_LIMIT)
-        × All (λ s. s.overruns ≤ x.rows) x.standings.items };
+        × All (λ s. s.overruns ≤ x.rows) x.states.items };
 }
 
-/// What is kept for a program; nothing where it isn't there.
-fn standing_at(standings: &[Standing], program: usize) -> Standing
-    ensures { result ≡ stand_at standings.now program }
+/// The state of a program; an empty one if there is no such program.
+fn program_state_at(states: &[ProgramState], program: usize) -> ProgramState
+    ensures { result ≡ state_at states.now program }
 {
-    match standings.get(program) {
+    match states.get(program) {
         Some(standing) => *standing,
-        None => Standing {
+        None => ProgramState {
             waiting: None,
             overruns: 0,
         },
     }
 }
 
-/// The moment where the row is the first, else the old one.
+/// The moment if the row is the first, else the old one.
 fn moment_or(start: bool, moment: u64, old: u64) -> u64
     ensures { result ≡ (if start then moment else old) }
 {
@@ -88,16 +88,16 @@ fn moment_or(start: bool, moment: u64, old: u64) -> u64
 }
 
 /// Whether the program is there and waits with that row.
-fn is_listed(standings: &[Standing], a: Activation) -> bool
+fn is_listed(states: &[ProgramState], a: Activation) -> bool
     ensures { IsTrue result
-        ↔ ((a.program < length standings.now) × ((stand_at standings.now a.program).waiting ≡ Some a.row)) }
+        ↔ ((a.program < length states.now) × ((state_at states.now a.program).waiting ≡ Some a.row)) }
 {
-    a.program < standings.len() && standings[a.program].waiting == Some(a.row)
+    a.program < states.len() && states[a.program].waiting == Some(a.row)
 }
 
 impl ReadyList {
-    /// The list before the first row, of programs at these schedules and this many tasks: nothing waits. It fails only
-    /// where memory is short.
+    /// The list before the first row, of programs at these schedules and this many tasks: nothing waits. It fails only if
+    /// memory is short.
     pub fn of_schedules(
         alloc: Global,
         schedules: Vec<Schedule>,
@@ -109,21 +109,21 @@ impl ReadyList {
         ensures new { IfOk result (λ r. IsReadyOf no_history r) }
     {
         let samples = vec![in alloc; false; tasks]?;
-        let standings = vec![in alloc; Standing {
+        let states = vec![in alloc; ProgramState {
             waiting: None,
             overruns: 0
         }; schedules.len()]?;
         Ok(ReadyList {
             schedules,
             samples,
-            standings,
+            states,
             first: 0,
             last: 0,
             rows: 0,
         })
     }
 
-    /// The list of a plan before its first row: nothing waits. It fails only where memory is short.
+    /// The list of a plan before its first row: nothing waits. It fails only if memory is short.
     pub fn new(alloc: Global, plan: &Plan) -> Result<ReadyList, AllocError>
         ensures schedules { IfOk result (λ r. r.schedules ≡ schedules_in (plan_view plan.now)) }
         ensures number { IfOk result (λ r. length r.samples ≡ length plan.now.tasks.items) }
@@ -134,8 +134,8 @@ impl ReadyList {
         ReadyList::of_schedules(alloc, schedules, plan.tasks.len())
     }
 
-    /// Takes a row: its moment in milliseconds, later than that of the row before and less than 2^62, and a sample of
-    /// SINGLE for each task, FALSE where it has none. It takes no memory.
+    /// Takes a row: its moment in milliseconds, later than that of the row before and less than 2^62, and a sample of SINGLE
+    /// for each task, FALSE if it has none. It takes no memory.
     pub fn due(&mut self, moment: u64, samples: &[bool])
         requires number { length samples.now ≡ length self.old.samples }
         requires later { 0 < self.old.rows → self.old.last < moment }
@@ -155,7 +155,7 @@ impl ReadyList {
         };
         mark_all(
             &self.schedules,
-            &mut self.standings,
+            &mut self.states,
             &self.samples,
             samples,
             row,
@@ -166,14 +166,14 @@ impl ReadyList {
         self.rows += 1;
     }
 
-    /// What is to run next on the resource, by its number from 0: of what waits there the lowest PRIORITY number, then
-    /// the lowest row, then the program that was declared first. None where nothing waits.
+    /// The next activation to run on the resource, by its number from 0: of those that wait there the lowest PRIORITY
+    /// number, then the lowest row, then the program that was declared first. None if nothing waits.
     #[tactic(auto, using(crate::proofs::BestLemmas::best_first))]
     pub fn best(&self, resource: usize) -> Option<Activation>
         ensures { (h : History) → IsReadyOf h self.now
             → MatchOption result (NoneWaits self.now.schedules h resource) (IsBest self.now.schedules h resource) }
     {
-        first_of(&self.schedules, &self.standings, resource)
+        first_of(&self.schedules, &self.states, resource)
     }
 
     /// Whether something of the resource waits. It takes no memory.
@@ -191,19 +191,19 @@ impl ReadyList {
     pub fn waits(&self, a: Activation) -> bool
         ensures { (h : History) → IsReadyOf h self.now → IsTrue result ↔ Waits self.now.schedules h a }
     {
-        is_listed(&self.standings, a)
+        is_listed(&self.states, a)
     }
 
-    /// The number of the row with which the program waits, by its number from 0; none where nothing of it waits.
+    /// The number of the row with which the program waits, by its number from 0; none if nothing of it waits.
     pub fn waiting(&self, program: usize) -> Option<u64>
         ensures { (h : History) → IsReadyOf h self.now → MatchOption result
             ((row : ℕ) → Waits self.now.schedules h record { program = program; row = row } → ⊥)
             (λ row. Waits self.now.schedules h record { program = program; row = row }) }
     {
-        standing_at(&self.standings, program).waiting
+        program_state_at(&self.states, program).waiting
     }
 
-    /// Takes the activation away and gives true, where it waits; else it changes nothing.
+    /// Takes the activation away and gives true, if it waits; else it changes nothing.
     pub fn remove(&mut self, a: Activation) -> bool
         ensures schedules { self.new.schedules ≡ self.old.schedules }
         ensures number { length self.new.samples ≡ length self.old.samples }
@@ -211,10 +211,10 @@ impl ReadyList {
         ensures rows { self.new.rows ≡ self.old.rows }
         ensures remove { (h : History) → IsReadyOf h self.old → Removes h self.old a result self.new }
     {
-        if !is_listed(&self.standings, a) {
+        if !is_listed(&self.states, a) {
             return false;
         }
-        self.standings[a.program] = taken(self.standings[a.program]);
+        self.states[a.program] = taken(self.states[a.program]);
         true
     }
 
@@ -225,6 +225,6 @@ impl ReadyList {
         ensures overruns { (h : History) → IsReadyOf h self.now → program < length self.now.schedules
             → HasOverruns self.now.schedules h program result }
     {
-        standing_at(&self.standings, program).overruns
+        program_state_at(&self.states, program).overruns
     }
 }

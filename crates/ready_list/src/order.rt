@@ -1,17 +1,17 @@
-//! What comes first of what waits.
+//! The order of the activations that wait.
 
 ghost use Rattle.std.specs.Prelude.{◌≡◌, length};
 ghost use Rattle.st_meaning.specs.Due.{schedule_at as place_in, sooner as sooner_in};
 ghost use Rattle.ready_list.specs.Ready.{offered as offered_of, sooner_of as sooner_among, IsFirst};
 
-use crate::standing::Standing;
+use crate::program_state::ProgramState;
 use st_meaning::Schedule;
 use st_types::Activation;
 
-/// What waits of the program, if it runs on the resource.
+/// The activation of the program that waits, if it runs on the resource.
 fn offered(
     schedule: Schedule,
-    standing: Standing,
+    standing: ProgramState,
     resource: usize,
     program: usize,
 ) -> Option<Activation>
@@ -26,7 +26,7 @@ fn offered(
     }
 }
 
-/// The schedule of a program; one of zeros where there is none.
+/// The schedule of a program; one of zeros if there is none.
 fn schedule_at(schedules: &[Schedule], program: usize) -> Schedule
     ensures { result ≡ place_in schedules.now program }
 {
@@ -71,18 +71,18 @@ fn sooner_of(
     }
 }
 
-/// What is to run first on the resource.
+/// The first activation to run on the resource.
 pub fn first_of(
     schedules: &[Schedule],
-    standings: &[Standing],
+    states: &[ProgramState],
     resource: usize,
 ) -> Option<Activation>
-    requires { length standings.now ≡ length schedules.now }
-    ensures { IsFirst schedules.now standings.now resource (length schedules.now) result }
+    requires { length states.now ≡ length schedules.now }
+    ensures { IsFirst schedules.now states.now resource (length schedules.now) result }
 {
     let mut first: Option<Activation> = None;
     for program in 0..schedules.len() {
-        let waiting = offered(schedules[program], standings[program], resource, program);
+        let waiting = offered(schedules[program], states[program], resource, program);
         first = sooner_of(schedules, first, waiting);
     }
     first

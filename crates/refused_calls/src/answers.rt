@@ -1,4 +1,4 @@
-//! What calls answer, in words that take no memory.
+//! The answers of calls, in words that take no memory.
 
 use crate::trial::Answer;
 use commit_lock::Reply as Told;
@@ -45,7 +45,7 @@ pub fn write_replies(answer: &mut Answer, replies: &[Told]) -> fmt::Result {
     Ok(())
 }
 
-/// Writes what calls have left of a core: its values, how much is acknowledged, and the overruns of each program.
+/// Writes a core after its calls: its values, how much is acknowledged, and the overruns of each program.
 pub fn write_core<D: Disk>(answer: &mut Answer, core: &Core<D>) -> fmt::Result {
     write_values(answer, core.values())?;
     let (acked, len) = (core.acked(), core.len());

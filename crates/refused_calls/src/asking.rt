@@ -1,9 +1,9 @@
-//! What is asked of the allocator that refuses.
+//! Requests to the allocator that refuses.
 
 use std::alloc::{AllocError, Global};
 use std::rt::Env;
 
-/// What became of the requests of all threads since the count began.
+/// The requests of all threads since the count began.
 #[derive(Clone, Copy, Debug, PartialEq, Eq)]
 pub struct Asked {
     pub requests: u64,
@@ -16,7 +16,7 @@ fn ask<R: Env>(rt: &R, name: &str) {
     let _ = rt.var(name, &mut unused);
 }
 
-/// Counts anew, and refuses the request of that number alone, from 1 on.
+/// Counts anew, and refuses the request of this number alone, from 1 on.
 pub fn refuse<R: Env>(alloc: Global, rt: &R, number: u64) -> Result<(), AllocError> {
     let name = format!(in alloc; "REFUSE:NTH:{number}")?;
     ask(rt, name.as_str());
@@ -37,7 +37,7 @@ fn asked_in(text: &str) -> Option<Asked> {
     })
 }
 
-/// Refuses nothing from now on; none where there is no such allocator.
+/// Refuses nothing from now on; none if there is no such allocator.
 pub fn refuse_no_more<R: Env>(rt: &R) -> Option<Asked> {
     let mut answer = [0u8; 48];
     let len = rt.var("REFUSE:END", &mut answer).ok()?;

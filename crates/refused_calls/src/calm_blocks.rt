@@ -12,7 +12,7 @@ use std::{fmt, io};
 use std_blocks::step;
 use symbols::StandardBlock;
 
-/// A member of an instance: its type, and what it is before a step.
+/// A member of an instance: its type, and its value before a step.
 type Member = (Kind, i128);
 
 const TRUE: Member = (Kind::Bool, 1);
@@ -25,14 +25,14 @@ const ZERO: Member = (Kind::Int, 0);
 
 const NO_TIME: Member = (Kind::Time, 0);
 
-/// An instance of a block before its first step. Its members stand in this order.
+/// An instance of a block before its first step. Its members are in this order.
 #[derive(Clone, Copy)]
 struct Instance {
     name: &'static str,
     block: StandardBlock,
     inputs: &'static [Member],
     outputs: &'static [Member],
-    /// Those that texts can't reach.
+    /// The members that texts can't reach.
     hidden: &'static [Member],
 }
 
@@ -103,7 +103,7 @@ fn instances() -> [Instance; 10] {
     ]
 }
 
-/// What each block's outputs are after its step.
+/// The outputs of each block after its step.
 const WANTED: &str =
     "SR 1, RS 0, R_TRIG 1, F_TRIG 0, CTU 1 1, CTD 1 -1, CTUD 1 0 1, TON 1 0, TOF 1 0, TP 0 0";
 
@@ -144,7 +144,7 @@ fn write_step(answer: &mut Answer, instance: Instance, slots: &mut [Value]) -> f
     Ok(())
 }
 
-/// What is found of the steps of all blocks.
+/// The finding on the steps of all blocks.
 fn steps(findings: &Findings<'_>) -> Option<Finding> {
     let mut all = all_slots(findings.alloc())?;
     let instances = instances();
@@ -159,8 +159,8 @@ fn steps(findings: &Findings<'_>) -> Option<Finding> {
     found_calm(findings.alloc(), findings.rt(), answer.as_str(), WANTED)
 }
 
-/// Tells what is found of the steps of the standard blocks.
+/// Reports the finding on the steps of the standard blocks.
 pub fn try_all(findings: &mut Findings<'_>) -> io::Result<()> {
     let found = steps(findings);
-    findings.tell("step", found)
+    findings.report("step", found)
 }

@@ -16,7 +16,7 @@ use std::alloc::Global;
 use std::fmt::Write;
 use std::{fmt, io};
 
-/// A core at a first row, and what it is given next.
+/// A core at a first row, and its next row.
 #[derive(Drop)]
 struct Ready {
     core: Core<SimDisk>,
@@ -38,7 +38,7 @@ fn made_ready(alloc: Global) -> Option<Ready> {
     })
 }
 
-/// Writes what is answered to a latch, a commit and two flushes.
+/// Writes the answers to a latch, a commit and two flushes.
 fn write_changes(
     answer: &mut Answer,
     core: &mut Core<SimDisk>,
@@ -50,7 +50,7 @@ fn write_changes(
     write!(answer, "{:?}, {:?}", core.flush(), core.flush())
 }
 
-/// Writes what a core tells.
+/// Writes what the reading calls of a core give.
 fn write_looks(answer: &mut Answer, core: &Core<SimDisk>, path: &Path) -> fmt::Result {
     let (acked, len, overruns) = (core.acked(), core.len(), core.overruns(0));
     write!(answer, "; acked {acked} of {len}, overruns {overruns}")?;
@@ -92,8 +92,8 @@ fn calls(findings: &Findings<'_>) -> Option<Finding> {
     found
 }
 
-/// Tells what is found of a core's calls.
+/// Reports the findings on a core's calls.
 pub fn try_all(findings: &mut Findings<'_>) -> io::Result<()> {
     let found = calls(findings);
-    findings.tell("core", found)
+    findings.report("core", found)
 }

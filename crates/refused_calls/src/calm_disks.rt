@@ -42,7 +42,7 @@ fn disk_calls(findings: &Findings<'_>) -> Option<Finding> {
     )
 }
 
-/// Saves a record of nothing.
+/// Saves an empty record.
 fn save_nothing(store: &mut Store<SimDisk>) -> Result<(), StoreFault>
     requires room { store.old.room ≡ MAX_RECORD_BODY }
     ensures room { store.new.room ≡ store.old.room }
@@ -50,7 +50,7 @@ fn save_nothing(store: &mut Store<SimDisk>) -> Result<(), StoreFault>
     store.save(None, &[], &[])
 }
 
-/// Writes what is answered to two saves, and what the store tells after them.
+/// Writes the answers to two saves, and the state of the store after them.
 fn write_saves(answer: &mut Answer, store: &mut Store<SimDisk>) -> fmt::Result
     requires room { store.old.room ≡ MAX_RECORD_BODY }
 {
@@ -79,10 +79,10 @@ fn store_calls(findings: &Findings<'_>) -> Option<Finding> {
     )
 }
 
-/// Tells what is found of the calls of a disk and of a store.
+/// Reports the findings on the calls of a disk and of a store.
 pub fn try_all(findings: &mut Findings<'_>) -> io::Result<()> {
     let found = disk_calls(findings);
-    findings.tell("disk", found)?;
+    findings.report("disk", found)?;
     let found = store_calls(findings);
-    findings.tell("store", found)
+    findings.report("store", found)
 }

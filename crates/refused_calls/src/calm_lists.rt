@@ -14,7 +14,7 @@ use std::alloc::Global;
 use std::fmt::Write;
 use std::{fmt, io};
 
-/// Writes what waits, takes it away, and writes it again.
+/// Writes the activations that wait, takes them away, and writes the list again.
 fn write_taken(answer: &mut Answer, list: &mut ReadyList) -> fmt::Result {
     let Some(best) = list.best(0) else {
         return answer.write_str("nothing waits; ");
@@ -75,8 +75,8 @@ fn calls(findings: &Findings<'_>) -> Option<Finding> {
     )
 }
 
-/// Tells what is found of a ready list's calls.
+/// Reports the findings on a ready list's calls.
 pub fn try_all(findings: &mut Findings<'_>) -> io::Result<()> {
     let found = calls(findings);
-    findings.tell("ready list", found)
+    findings.report("ready list", found)
 }

@@ -24,8 +24,8 @@ fn calls(findings: &Findings<'_>) -> Option<Finding> {
     found_calm(findings.alloc(), findings.rt(), answer.as_str(), "0 7 7")
 }
 
-/// Tells what is found of a mark's calls.
+/// Reports the findings on a mark's calls.
 pub fn try_all(findings: &mut Findings<'_>) -> io::Result<()> {
     let found = calls(findings);
-    findings.tell("mark", found)
+    findings.report("mark", found)
 }

@@ -11,7 +11,7 @@ use std::alloc::Global;
 use std::fmt::Write;
 use std::io;
 
-fn taken_told(snapshot: &Snapshot) -> Answer {
+fn snapshot_reply(snapshot: &Snapshot) -> Answer {
     let mut answer = Answer::new();
     let (program, row) = (snapshot.activation.program, snapshot.activation.row);
     let slots = snapshot.slots.len();
@@ -33,7 +33,7 @@ impl<'a> Trial for Taking<'a> {
 
     fn call(&self, alloc: Global, given: Core<SimDisk>) -> Reply {
         match given.take(alloc, 0) {
-            Ok(Some(snapshot)) => Reply::Done(taken_told(&snapshot)),
+            Ok(Some(snapshot)) => Reply::Done(snapshot_reply(&snapshot)),
             Ok(None) => Reply::done("nothing"),
             Err(refusal) => Reply::refused(refusal),
         }
@@ -68,14 +68,14 @@ impl<'a> Trial for TakingQuick<'a> {
                 let _ = write!(answer, "program {program} of row {row} over {words} words");
                 Reply::Done(answer)
             }
-            Ok(Some(Taken::Whole(snapshot))) => Reply::Done(taken_told(&snapshot)),
+            Ok(Some(Taken::Whole(snapshot))) => Reply::Done(snapshot_reply(&snapshot)),
             Ok(None) => Reply::done("nothing"),
             Err(refusal) => Reply::refused(refusal),
         }
     }
 }
 
-/// Runs what was taken by quick code.
+/// Runs a snapshot by quick code.
 #[derive(Drop)]
 struct RunningQuick<'a> {
     stage: &'a Stage<'a>,
@@ -120,7 +120,7 @@ impl<'a> Trial for Running<'a> {
     }
 }
 
-/// Commits in one step. A call that was refused is made again on the same core, which is as it was.
+/// Commits in one step. A call that was refused is made again on the same core, which is unchanged.
 #[derive(Drop)]
 struct CommittingHere<'a> {
     stage: &'a Stage<'a>,

@@ -1,36 +1,36 @@
-//! What was found of a call.
+//! The finding on a call.
 
 use crate::trial::Reply;
 use std::alloc::{AllocError, Global};
 use std::fmt::Write;
 
-/// What was found of a call whose requests were refused.
+/// The finding on a call whose requests were refused.
 #[derive(Drop)]
 pub struct Finding {
-    /// How often it gave each reply, one after another, as `S5 7, N2 11`, or how often it asked where all were refused;
-    /// then its answer, and what is wrong.
+    /// How often it gave each reply, one after another, as `S5 7, N2 11`, or how often it asked if all were refused; then
+    /// its answer, and the faults found.
     pub text: String,
-    /// Whether nothing is wrong.
+    /// Whether no fault was found.
     pub is_right: bool,
 }
 
-/// What is found of a call, while it is tried.
+/// The findings on a call, while it is tried.
 #[derive(Drop)]
 pub struct Spells<'a> {
-    /// The answer that it has to give with memory.
+    /// The answer that the call has to give with memory.
     wanted: &'a str,
     text: String,
     last: Option<Reply>,
-    /// How often the last reply was given, one time after another.
+    /// How often the last reply was given in a row.
     count: u64,
-    /// How often it gave another answer than the wanted one though it had met a refusal.
+    /// How often the call gave another answer than the wanted one though a request was refused.
     others: u64,
-    /// How often it was made again with memory, and did not give the wanted answer.
+    /// How often the call was made again with memory, and did not give the wanted answer.
     again: u64,
 }
 
 impl<'a> Spells<'a> {
-    /// Nothing is found so far. With memory the call has to give this answer.
+    /// No findings yet. With memory the call has to give this answer.
     pub fn new(alloc: Global, wanted: &'a str) -> Spells<'a> {
         Spells {
             wanted,
@@ -57,7 +57,7 @@ impl<'a> Spells<'a> {
         write!(self.text, " {}", self.count)
     }
 
-    /// Takes the reply of a call that has met a refusal.
+    /// Takes the reply of a call of which a request was refused.
     pub fn note(&mut self, reply: Reply) -> Result<(), AllocError> {
         if self.last != Some(reply) {
             self.close()?;
@@ -85,7 +85,7 @@ impl<'a> Spells<'a> {
         write!(self.text, " {what} {count}")
     }
 
-    /// Ends with the reply of a call of which nothing was refused.
+    /// Ends with the reply of a call of which no request was refused.
     pub fn end(self, reply: Reply) -> Result<Finding, AllocError> {
         let mut spells = self;
         spells.close()?;

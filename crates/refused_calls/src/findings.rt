@@ -1,4 +1,4 @@
-//! What was found of all calls.
+//! The findings on all calls.
 
 use crate::finding::Finding;
 use crate::trial::Trial;
@@ -6,14 +6,14 @@ use crate::trying::try_each;
 use std::alloc::Global;
 use std::io;
 
-/// What was found so far.
+/// The findings so far.
 #[derive(Drop)]
 pub struct Findings<'a> {
     rt: &'a HostRuntime,
     /// The name of the scene.
     scene: &'static str,
     calls: u64,
-    /// How many calls something is wrong of.
+    /// How many calls are at fault.
     wrong: u64,
 }
 
@@ -40,13 +40,13 @@ impl<'a> Findings<'a> {
         self.scene = scene;
     }
 
-    /// Tells that a call could not be tried.
-    pub fn tell_untried(&mut self, call: &str) -> io::Result<()> {
-        self.tell(call, None)
+    /// Reports that a call could not be tried.
+    pub fn report_untried(&mut self, call: &str) -> io::Result<()> {
+        self.report(call, None)
     }
 
-    /// Tells what was found of a call; none where it could not be tried.
-    pub fn tell(&mut self, call: &str, found: Option<Finding>) -> io::Result<()> {
+    /// Reports the finding on a call; none if it could not be tried.
+    pub fn report(&mut self, call: &str, found: Option<Finding>) -> io::Result<()> {
         let rt = self.rt;
         let scene = self.scene;
         self.calls = self.calls.saturating_add(1);
@@ -61,14 +61,14 @@ impl<'a> Findings<'a> {
         println!(rt; "{scene}, {call}: {text}")
     }
 
-    /// Refuses the requests of a call one after another, and tells what was found. With memory it has to give this
+    /// Refuses the requests of a call one after another, and reports the finding. With memory the call has to give this
     /// answer.
     pub fn try_call<T: Trial>(&mut self, call: &str, trial: &T, wanted: &str) -> io::Result<()> {
         let found = try_each(self.alloc(), self.rt, trial, wanted);
-        self.tell(call, found)
+        self.report(call, found)
     }
 
-    /// Tells how many calls there were.
+    /// Reports how many calls there were.
     pub fn end(self) -> io::Result<()> {
         let Findings {
             rt,

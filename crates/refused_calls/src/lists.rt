@@ -24,7 +24,7 @@ fn write_course(answer: &mut Answer, core: &Core<SimDisk>, replies: &[Told]) -> 
     write_core(answer, core)
 }
 
-/// What a list of calls gives. Its last call acknowledges all, also where one before it was refused.
+/// The reply of a list of calls. Its last call acknowledges all, even if one before it was refused.
 fn driven(core: &Core<SimDisk>, replies: &[Told]) -> Reply {
     if core.acked() != core.len() {
         return Reply::done("a log that is not acknowledged");
@@ -80,7 +80,7 @@ fn write_life(answer: &mut Answer, course: &Course) -> fmt::Result {
     write!(answer, "acked {acked} of {len}")
 }
 
-/// What the first life meets that is refused for want of memory.
+/// The reply of the first life that was refused memory.
 fn refused_among(ends: &[LifeEnd]) -> Option<Reply> {
     for end in ends {
         match &end.course {
@@ -134,7 +134,7 @@ impl<'a> Trial for Living<'a> {
                 Some(refused) => refused,
                 None => Reply::Done(lived(&ends)),
             },
-            // It gives no end at all.
+            // The list gives no end at all.
             Err(_) => Reply::out_of_memory(),
         }
     }

@@ -1,9 +1,8 @@
-//! Each call of a layer, with its requests for memory refused one after another, and the calls that take no memory,
-//! with all requests refused. It prints a line a call.
+//! Each call of a layer, with its requests for memory refused one after another, and the calls that take no memory, with all
+//! requests refused. The program prints a line for each call.
 //!
-//! It asks the allocator of tests/refuse.c, which a script loads before that of the C library, by names of the
-//! environment. Nothing here takes memory while requests are counted. Without that allocator it says that there is
-//! none.
+//! It asks the allocator of tests/refuse.c, which a script loads before that of the C library, by names of the environment.
+//! Nothing here takes memory while requests are counted. Without that allocator it says that there is none.
 #![tactic(auto)]
 
 mod answers;
@@ -42,7 +41,7 @@ fn try_scene(findings: &mut Findings<'_>, scene: &Scene) -> io::Result<()> {
     findings.begin(scene.name);
     language::try_all(findings, scene)?;
     let Some(stage) = Stage::new(findings.alloc(), scene) else {
-        return findings.tell_untried("plan");
+        return findings.report_untried("plan");
     };
     plans::try_all(findings, &stage)?;
     cores::try_all(findings, &stage)?;
@@ -54,7 +53,7 @@ fn try_scene(findings: &mut Findings<'_>, scene: &Scene) -> io::Result<()> {
 fn try_starts(findings: &mut Findings<'_>, scene: &Scene) -> io::Result<()> {
     findings.begin(scene.name);
     let Some(stage) = Stage::new(findings.alloc(), scene) else {
-        return findings.tell_untried("plan");
+        return findings.report_untried("plan");
     };
     starts::try_all(findings, &stage)
 }

@@ -1,4 +1,4 @@
-//! Plans, and what stands on a plan alone.
+//! Plans, and the parts that are made from a plan alone.
 
 use crate::findings::Findings;
 use crate::stage::Stage;
@@ -13,7 +13,7 @@ use std::fmt::Write;
 use std::io;
 use std::sync::Arc;
 
-/// The sizes of a plan, as `plant check` tells them.
+/// The sizes of a plan, as `plant check` prints them.
 fn sizes_of(plan: &Plan) -> Answer {
     let mut answer = Answer::new();
     let (resources, tasks, programs) = (plan.resources(), plan.tasks(), plan.programs());
@@ -67,7 +67,7 @@ impl<'a> Trial for Listing<'a> {
 }
 
 /// How many rows there are, and the moment of the last one.
-fn rows_told(rows: &[Row]) -> Answer {
+fn rows_reply(rows: &[Row]) -> Answer {
     let mut answer = Answer::new();
     let count = rows.len();
     let moment = rows.last().map_or(0, |row| row.moment());
@@ -90,7 +90,7 @@ impl<'a> Trial for Reading<'a> {
 
     fn call(&self, alloc: Global, _given: ()) -> Reply {
         match read_plant(alloc, self.plant.as_bytes(), self.plan) {
-            Ok(rows) => Reply::Done(rows_told(&rows)),
+            Ok(rows) => Reply::Done(rows_reply(&rows)),
             Err(error) => Reply::refused(error),
         }
     }

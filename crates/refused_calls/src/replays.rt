@@ -62,7 +62,7 @@ fn trace_of(alloc: Global, stage: &Stage<'_>) -> Option<Vec<u8>> {
 pub fn try_all(findings: &mut Findings<'_>, stage: &Stage<'_>) -> io::Result<()> {
     let alloc = findings.alloc();
     let (Some(trace), Some(rows)) = (trace_of(alloc, stage), stage.rows(alloc)) else {
-        return findings.tell_untried("replay");
+        return findings.report_untried("replay");
     };
     let replaying = Replaying {
         plan: &stage.plan,

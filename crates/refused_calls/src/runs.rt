@@ -38,7 +38,7 @@ impl Trial for Marking {
     }
 }
 
-/// Lets all pass.
+/// Lets everything pass.
 struct Open;
 
 impl Gate for Open {
@@ -47,8 +47,8 @@ impl Gate for Open {
     fn answered(&self, _resource: usize, _activation: Activation, _answer: Committed) {}
 }
 
-/// Whether a core that came back can go on: its log is one of whole executions, each of which has counted one, and all
-/// of it can be acknowledged.
+/// Whether a core that came back can go on: its log is one of whole executions, each of which has counted one, and all of it
+/// can be acknowledged.
 fn is_whole<D: Disk>(core: &mut Core<D>) -> bool {
     let acked = core.acked();
     let len = core.len();
@@ -60,7 +60,7 @@ fn is_whole<D: Disk>(core: &mut Core<D>) -> bool {
     acked <= len && sum == done as i128 && core.flush() == Ok(len)
 }
 
-fn run_told(ended: Result<Report<SimDisk>, RunError<SimDisk>>) -> Reply {
+fn run_reply(ended: Result<Report<SimDisk>, RunError<SimDisk>>) -> Reply {
     match ended {
         Ok(Report { core, .. }) => {
             let mut answer = Answer::new();
@@ -77,7 +77,7 @@ fn run_told(ended: Result<Report<SimDisk>, RunError<SimDisk>>) -> Reply {
     }
 }
 
-/// A run of so many rows. Its programs count.
+/// A run of `rows` rows. Its programs count.
 #[derive(Drop)]
 struct Run<'a> {
     plan: &'a Arc<Plan>,
@@ -99,11 +99,11 @@ fn given(alloc: Global, run: &Run<'_>) -> Option<(Core<SimDisk>, Vec<Row>)> {
 /// The run with memory.
 fn made<R: Threads + Wait + Sync>(threads: &R, alloc: Global, run: &Run<'_>) -> Option<Reply> {
     let (core, rows) = given(alloc, run)?;
-    Some(run_told(run_plant(threads, alloc, core, rows, run.pace, &Open)))
+    Some(run_reply(run_plant(threads, alloc, core, rows, run.pace, &Open)))
 }
 
-/// Refuses the requests of a run in turn, as `try_each` does those of a trial: the method of a trial could not say that
-/// its runtime is one that threads share.
+/// Refuses the requests of a run in turn, as `try_each` does those of a trial: a method of a trial could not state that its
+/// runtime is one that threads share.
 fn run_each<R: Threads + Wait + Sync>(
     findings: &Findings<'_>,
     threads: &R,
@@ -116,7 +116,7 @@ fn run_each<R: Threads + Wait + Sync>(
     for number in 1..MOST_REQUESTS {
         let (core, rows) = given(alloc, run)?;
         refuse(alloc, rt, number).ok()?;
-        let reply = run_told(run_plant(threads, alloc, core, rows, run.pace, &Open));
+        let reply = run_reply(run_plant(threads, alloc, core, rows, run.pace, &Open));
         let asked = refuse_no_more(rt)?;
         if asked.refused == 0 {
             return spells.end(reply).ok();
@@ -136,7 +136,7 @@ fn try_run<R: Threads + Wait + Sync>(
     wanted: &str,
 ) -> io::Result<()> {
     let Some(plan) = plan_of(findings.alloc(), text) else {
-        return findings.tell_untried(call);
+        return findings.report_untried(call);
     };
     let run = Run {
         plan: &plan,
@@ -144,7 +144,7 @@ fn try_run<R: Threads + Wait + Sync>(
         pace,
     };
     let found = run_each(findings, threads, &run, wanted);
-    findings.tell(call, found)
+    findings.report(call, found)
 }
 
 /// Tries a mark, and runs of one resource and of two that touch different variables.

@@ -1,4 +1,4 @@
-//! Scenes: a text, calls of a core of its plan, and what each layer has to answer with memory.
+//! Scenes: a text, calls of a core of its plan, and the answer that each layer has to give with memory.
 
 use crate::texts::{COUNTER, DIVIDING, STEERING, THREE_COUNTERS, THREE_TASKS, WIDE};
 
@@ -8,15 +8,15 @@ pub enum Call {
     /// Latches a row at a moment in milliseconds, with this value for each input.
     Latch(u64, bool),
     Take(usize),
-    /// Commits what the take of this number gave.
+    /// Commits the snapshot of the take of this number.
     Commit(usize),
     CommitHere(usize),
     Flush,
 }
 
-/// What the layers answer to a scene with memory.
+/// The answers of the layers to a scene with memory.
 #[derive(Clone, Copy)]
-pub struct Wanted {
+pub struct Expected {
     /// How many tokens the text has.
     pub tokens: &'static str,
     /// How many units and configurations it has.
@@ -27,19 +27,19 @@ pub struct Wanted {
     pub sizes: &'static str,
     /// How many rows its plant has, and the moment of the last one.
     pub rows: &'static str,
-    /// What is taken after the first row.
+    /// The snapshot taken after the first row.
     pub taken: &'static str,
-    /// What is taken there for a run by quick code.
+    /// The snapshot taken there for a run by quick code.
     pub taken_quick: &'static str,
-    /// What the run of that reads and writes.
+    /// The reads and writes of its run.
     pub ran: &'static str,
-    /// What its run by quick code answers.
+    /// The answer of its run by quick code.
     pub ran_quick: &'static str,
-    /// What the calls are answered, and what they leave.
+    /// The answers to the calls, and the core after them.
     pub replies: &'static str,
-    /// What the lives are answered: one of these calls, and a warm one after it without calls.
+    /// The answers of the lives: one of these calls, and a warm one after it without calls.
     pub lived: &'static str,
-    /// What a replay of the trace of these calls finds.
+    /// The findings of a replay of the trace of these calls.
     pub replayed: &'static str,
 }
 
@@ -51,7 +51,7 @@ pub struct Scene {
     pub plant: &'static str,
     pub log_room: usize,
     pub calls: &'static [Call],
-    pub wanted: Wanted,
+    pub wanted: Expected,
 }
 
 /// A counter over three rows.
@@ -70,7 +70,7 @@ pub const THREE_ROWS: Scene = Scene {
         Call::CommitHere(0),
         Call::Flush,
     ],
-    wanted: Wanted {
+    wanted: Expected {
         tokens: "49 tokens",
         parts: "2 parts",
         slots: "1 slots",
@@ -105,7 +105,7 @@ const TASKS: Scene = Scene {
         Call::CommitHere(0),
         Call::Flush,
     ],
-    wanted: Wanted {
+    wanted: Expected {
         tokens: "135 tokens",
         parts: "4 parts",
         slots: "2 slots",
@@ -138,7 +138,7 @@ const FULL_LOG: Scene = Scene {
         Call::Latch(10, false),
         Call::Flush,
     ],
-    wanted: Wanted {
+    wanted: Expected {
         tokens: "63 tokens",
         parts: "2 parts",
         slots: "1 slots",
@@ -154,7 +154,7 @@ const FULL_LOG: Scene = Scene {
     },
 };
 
-/// A take that is stale where the other resource has committed before it, and a second one that is not.
+/// A take that is stale since the other resource has committed before it, and a second one that is not.
 const STALE: &[Call] = &[
     Call::Latch(0, false),
     Call::Take(0),
@@ -165,14 +165,14 @@ const STALE: &[Call] = &[
     Call::Flush,
 ];
 
-/// An execution that is stale, since what steered it has another value.
+/// An execution that is stale, since a value that steered it has changed.
 const STEERED: Scene = Scene {
     name: "steering",
     text: STEERING,
     plant: "t\n0\n",
     log_room: 100,
     calls: STALE,
-    wanted: Wanted {
+    wanted: Expected {
         tokens: "110 tokens",
         parts: "3 parts",
         slots: "3 slots",
@@ -190,14 +190,14 @@ const STEERED: Scene = Scene {
     },
 };
 
-/// The same where what the program looked up makes it fault.
+/// The same if a value that the program looked up makes it fault.
 const FAULTING: Scene = Scene {
     name: "fault",
     text: DIVIDING,
     plant: "t\n0\n",
     log_room: 100,
     calls: STALE,
-    wanted: Wanted {
+    wanted: Expected {
         tokens: "89 tokens",
         parts: "3 parts",
         slots: "2 slots",
@@ -229,7 +229,7 @@ const WIDE_SNAPSHOTS: Scene = Scene {
         Call::CommitHere(0),
         Call::Flush,
     ],
-    wanted: Wanted {
+    wanted: Expected {
         tokens: "76 tokens",
         parts: "2 parts",
         slots: "250 slots",

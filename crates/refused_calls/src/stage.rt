@@ -25,12 +25,12 @@ pub fn plan_of(alloc: Global, text: &str) -> Option<Arc<Plan>> {
 pub fn row_of(alloc: Global, plan: &Plan, moment: u64, value: bool) -> Option<Row> {
     let mut image = Vec::new(alloc);
     for _ in plan.inputs() {
-        image.push(Value::truth(value)).ok()?;
+        image.push(Value::from_bool(value)).ok()?;
     }
     Some(Row::new(moment, image))
 }
 
-/// A core of the plan over an empty disk, with room for so many entries of its log.
+/// A core of the plan over an empty disk, with room for `log_room` entries of its log.
 pub fn core_of(alloc: Global, plan: &Arc<Plan>, log_room: usize) -> Option<Core<SimDisk>> {
     let plan = Arc::clone(plan).ok()?;
     let disk = empty_disk(alloc)?;

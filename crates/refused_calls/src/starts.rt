@@ -1,7 +1,6 @@
 //! Stores that are opened and cores that are started, over disks whose first device step fails or not.
 //!
-//! Where it fails, as many requests have to be made as where it does not: all memory is taken before the first device
-//! call.
+//! If it fails, as many requests have to be made as if it does not: all memory is taken before the first device call.
 
 use crate::answers::write_values;
 use crate::disks::disk_with;
@@ -20,8 +19,8 @@ use std::fmt::{Display, Write};
 use std::sync::Arc;
 use std::{fmt, io};
 
-/// What is told of a fault: want of memory only where no device call has failed.
-fn fault_told<E: Display + Drop>(fault: E, disk: &SimDisk) -> Reply {
+/// The reply to a fault: out of memory only if no device call has failed.
+fn fault_reply<E: Display + Drop>(fault: E, disk: &SimDisk) -> Reply {
     if disk.failures() > 0 {
         return Reply::done(fault);
     }
@@ -49,7 +48,7 @@ impl<'a> Trial for Opening<'a> {
                 let _ = write!(answer, "generation {generation}");
                 Reply::Done(answer)
             }
-            Err((fault, disk)) => fault_told(StartFault::Store(fault), &disk),
+            Err((fault, disk)) => fault_reply(StartFault::Store(fault), &disk),
         }
     }
 }
@@ -76,7 +75,7 @@ fn write_start(answer: &mut Answer, core: &Core<SimDisk>) -> fmt::Result {
     }
 }
 
-/// What a core starts with, and whether it has saved that.
+/// The values with which a core starts, and whether it has saved them.
 fn started(core: Core<SimDisk>, before: &[u8]) -> Reply {
     let mut answer = Answer::new();
     let _ = write_start(&mut answer, &core);
@@ -99,12 +98,12 @@ impl<'a> Trial for Starting<'a> {
         let (plan, disk) = given;
         match Core::start(alloc, plan, disk, self.start.mode, 100) {
             Ok(core) => started(core, self.start.file),
-            Err((fault, disk)) => fault_told(fault, &disk),
+            Err((fault, disk)) => fault_reply(fault, &disk),
         }
     }
 }
 
-/// The file that the calls of the scene leave.
+/// The file after the calls of the scene.
 fn file_of(alloc: Global, stage: &Stage<'_>) -> Option<Vec<u8>> {
     let mut core = stage.core(alloc)?;
     drive(&mut core, alloc, stage.events(alloc)?).ok()?;
@@ -157,7 +156,7 @@ fn try_starting(findings: &mut Findings<'_>, plan: &Arc<Plan>, file: &[u8]) -> i
     try_start(findings, calls, warm, "values 0=3 after 20 ms")
 }
 
-/// Tries a warm start of a plan of another layout over this file, which saves what is carried over.
+/// Tries a warm start of a plan of another layout over this file, which saves the values carried over.
 fn try_starting_over(findings: &mut Findings<'_>, plan: &Arc<Plan>, file: &[u8]) -> io::Result<()> {
     let over = Start {
         plan,
@@ -171,12 +170,12 @@ fn try_starting_over(findings: &mut Findings<'_>, plan: &Arc<Plan>, file: &[u8])
     try_start(findings, calls, over, "values 0=7 1=3 after 20 ms, saved")
 }
 
-/// Tries stores and starts over an empty file and over the record that the calls of the scene leave, by its own plan
-/// and by one of another layout.
+/// Tries stores and starts over an empty file and over the record after the calls of the scene, by its own plan and by one
+/// of another layout.
 pub fn try_all(findings: &mut Findings<'_>, stage: &Stage<'_>) -> io::Result<()> {
     let alloc = findings.alloc();
     let (Some(file), Some(other)) = (file_of(alloc, stage), plan_of(alloc, TWO_COUNTERS)) else {
-        return findings.tell_untried("start");
+        return findings.report_untried("start");
     };
     try_opening(findings, &file)?;
     try_starting(findings, &stage.plan, &file)?;

@@ -1,4 +1,4 @@
-//! Calls over an allocator that is none: they ask it in place of taking memory.
+//! Calls over a mock allocator: they ask it in place of taking memory.
 
 use crate::asking::refuse_all;
 use crate::trial::{Reply, Trial};
@@ -15,7 +15,7 @@ struct Counting {
     refused: AtomicU64,
     /// The number of the request that is refused; 0 for none.
     nth: AtomicU64,
-    /// Whether all are: 1 where they are.
+    /// Whether all are refused: 1 if so.
     all: AtomicU64,
 }
 
@@ -92,15 +92,15 @@ impl Env for Counting {
 #[derive(Clone, Copy, PartialEq, Eq)]
 enum Way {
     Right,
-    /// It wants memory, whatever it is given.
+    /// It reports out of memory, whatever it is given.
     Wants,
     /// It gives another answer in place of the fault.
     Hides,
-    /// It goes on without what it was refused.
+    /// It goes on without the memory that it was refused.
     GoesOn,
 }
 
-/// A call that makes so many requests.
+/// A call that makes `requests` requests.
 #[derive(Drop)]
 struct Asking<'a> {
     rt: &'a Counting,

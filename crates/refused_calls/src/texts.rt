@@ -37,7 +37,7 @@ pub const STEERING: &str =
     RESOURCE R1 ON CPU TASK T (INTERVAL := T#10ms, PRIORITY := 0); PROGRAM P1 WITH T : Second; END_RESOURCE \
     END_CONFIGURATION";
 
-/// A program that divides by what a program of another resource assigns, 0 at first.
+/// A program that divides by a value that a program of another resource assigns, 0 at first.
 pub const DIVIDING: &str =
     "PROGRAM First VAR_EXTERNAL y, d : INT; END_VAR y := 10 / d; END_PROGRAM \
     PROGRAM Second VAR_EXTERNAL d : INT; END_VAR d := 5; END_PROGRAM CONFIGURATION C \

@@ -4,15 +4,15 @@ use arrayvec::ArrayString;
 use std::alloc::Global;
 use std::fmt::{Display, Write};
 
-/// A short text that takes no memory. What would go over its room is left out.
+/// A short text that takes no memory. Text over its capacity is left out.
 pub type Answer = ArrayString<224>;
 
-/// What a call gave.
+/// The reply of a call.
 #[derive(Clone, Copy, Debug, PartialEq, Eq)]
 pub enum Reply {
-    /// An answer that wants nothing.
+    /// An answer other than out of memory.
     Done(Answer),
-    /// A fault for want of memory, as it shows.
+    /// A fault for lack of memory, as it shows.
     Refused(Answer),
 }
 
@@ -22,12 +22,12 @@ impl Reply {
         Reply::Done(spelled(shown))
     }
 
-    /// Where the call answers an `AllocError`.
+    /// The reply of a call that gives an `AllocError`.
     pub fn out_of_memory() -> Reply {
         Reply::refused("AllocError")
     }
 
-    /// A fault for want of memory.
+    /// A fault for lack of memory.
     pub fn refused<D: Display + Drop>(fault: D) -> Reply {
         Reply::Refused(spelled(fault))
     }
@@ -54,14 +54,14 @@ fn spelled<D: Display + Drop>(shown: D) -> Answer {
     answer
 }
 
-/// A call, with what it consumes made anew each time.
+/// A call, with its input made anew each time.
 pub trait Trial {
-    /// What the call consumes.
+    /// The input that the call consumes.
     type Given: Drop;
 
-    /// It is made with memory; none where it could not be.
+    /// Its input, made with memory; none if it could not be.
     fn given(&self, alloc: Global) -> Option<Self::Given>;
 
-    /// The call itself. It takes no memory but what the call takes that is tried.
+    /// The call itself. It takes only the memory that the tried call takes.
     fn call(&self, alloc: Global, given: Self::Given) -> Reply;
 }

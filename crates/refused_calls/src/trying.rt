@@ -6,7 +6,7 @@ use crate::trial::{Reply, Trial};
 use std::alloc::Global;
 use std::rt::Env;
 
-/// No call makes so many requests.
+/// No call makes this many requests.
 pub const MOST_REQUESTS: u64 = 100_000;
 
 /// The reply with memory.
@@ -15,8 +15,8 @@ fn made<T: Trial>(alloc: Global, trial: &T) -> Option<Reply> {
     Some(trial.call(alloc, given))
 }
 
-/// Refuses each request of a call in turn, and makes the call again with memory each time, which has to give this
-/// answer. None where the call could not be tried.
+/// Refuses each request of a call in turn, and makes the call again with memory each time, which has to give this answer.
+/// None if the call could not be tried.
 pub fn try_each<R: Env, T: Trial>(
     alloc: Global,
     rt: &R,
@@ -24,7 +24,7 @@ pub fn try_each<R: Env, T: Trial>(
     wanted: &str,
 ) -> Option<Finding> {
     let mut spells = Spells::new(alloc, wanted);
-    // What is taken once in the life of the process is taken here.
+    // Memory that is taken once in the life of the process is taken here.
     spells.note_again(made(alloc, trial)?);
     for number in 1..MOST_REQUESTS {
         let given = trial.given(alloc)?;
@@ -40,8 +40,8 @@ pub fn try_each<R: Env, T: Trial>(
     None
 }
 
-/// Refuses nothing any more, and tells of calls that were made while all requests were refused: they have to have asked
-/// for nothing, and to have given this answer. None where it could not be told.
+/// Refuses nothing any more, and gives the finding on calls that were made while all requests were refused: they must not
+/// have asked for anything, and must have given this answer. None if there is no such finding.
 pub fn found_calm<R: Env>(alloc: Global, rt: &R, answer: &str, wanted: &str) -> Option<Finding> {
     let Asked { requests, .. } = refuse_no_more(rt)?;
     let is_right = requests == 0 && answer == wanted;

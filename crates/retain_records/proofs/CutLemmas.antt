@@ -1,13 +1,13 @@
--- Bytes that are cut as the code cuts them.
+-- Splitting bytes as the code does it.
 use Rattle.std.proofs.Common.{◌≡◌, ℕ, suc, ◌+◌, ◌-◌, ◌<◌, true, false, cond, ltb, List, [], ◌∷◌, length, take, drop}
 use Rattle.std.proofs.Common.{Option, Some, None, refl, sym, ap, ◌∙◌, arith, inl, inr}
 use Rattle.std.specs.Prelude.{◌==◌, position}
 use Rattle.std.specs.List.{position_or_len}
 use Rattle.std.proofs.lemmas.Bool.{lt-ltb, le-ltb, cases_lt, cases_Bool}
 use Rattle.std.proofs.lemmas.List.{take_rest, length-append}
-use Rattle.std.proofs.lemmas.Option.{none-some}
-use Rattle.retain_records.specs.Cuts.{◌>>=◌, cut, parted}
-use Rattle.retain_records.specs.CutLaws.{bind_some, some_is, chosen, when_some, cut_takes}
+use Rattle.std.proofs.lemmas.Option.{none-some, same_Some, cond_some}
+use Rattle.retain_records.specs.Splits.{◌>>=◌, split_at, parted}
+use Rattle.retain_records.specs.SplitLaws.{bind_some, chosen, split_takes}
 
 -- the parts at an offset
 abbrev pub parts_at_place : List ℕ → ℕ → List ℕ × List ℕ
@@ -30,14 +30,14 @@ placed_more b bytes n = elim (cases_lt n (length bytes)) [
       rw (u, t) refl
 ]
 
-cut_placed : (mark : ℕ) (bytes : List ℕ) → cut mark bytes ≡ placed bytes (position_or_len (λ b. b == mark) bytes)
+cut_placed : (mark : ℕ) (bytes : List ℕ) → split_at mark bytes ≡ placed bytes (position_or_len (λ b. b == mark) bytes)
 cut_placed mark [] = refl
 cut_placed mark (b ∷ bytes) = elim (cases_Bool (b == mark)) [
   | inl here ↦ rw (here, lt-ltb 0 (length (b ∷ bytes)) (omega arith)) refl
   | inr later ↦ rw (later, placed_more b bytes (position_or_len (λ c. c == mark) bytes), cut_placed mark bytes) refl
 ]
 
-pub cut_none : (mark : ℕ) (bytes : List ℕ) → position (λ b. b == mark) bytes ≡ None → cut mark bytes ≡ None
+pub cut_none : (mark : ℕ) (bytes : List ℕ) → position (λ b. b == mark) bytes ≡ None → split_at mark bytes ≡ None
 cut_none mark bytes e = elim (chosen (ltb (position_or_len (λ b. b == mark) bytes) (length bytes))
     (Some (position_or_len (λ b. b == mark) bytes)) None None e) [
       | inl found ↦ let bad = found.1 in absurd (none-some (position_or_len (λ b. b == mark) bytes) (sym bad))
@@ -45,21 +45,21 @@ cut_none mark bytes e = elim (chosen (ltb (position_or_len (λ b. b == mark) byt
     ]
 
 pub cut_some : (mark : ℕ) (bytes : List ℕ) (n : ℕ) → position (λ b. b == mark) bytes ≡ Some n
-    → cut mark bytes ≡ Some (take n bytes, take (length bytes - (n + 1)) (drop (n + 1) bytes))
+    → split_at mark bytes ≡ Some (take n bytes, take (length bytes - (n + 1)) (drop (n + 1) bytes))
 cut_some mark bytes n e =
-    let f = when_some (ltb (position_or_len (λ b. b == mark) bytes) (length bytes))
+    let f = cond_some (ltb (position_or_len (λ b. b == mark) bytes) (length bytes))
     (position_or_len (λ b. b == mark) bytes) n e in
     let m : n + 1 ≡ suc n = omega arith in
     let whole : take (length bytes - suc n) (drop (suc n) bytes) ≡ drop (suc n) bytes = take_rest bytes (suc n) in
     cut_placed mark bytes ∙ rw (f.0, f.1, m, whole) refl
 
--- what stands before the first mark is the first part
-pub parted_at_none : (mark : ℕ) (bytes : List ℕ) → cut mark bytes ≡ None → parted mark bytes ≡ bytes ∷ []
+-- the bytes before the first mark are the first part
+pub parted_at_none : (mark : ℕ) (bytes : List ℕ) → split_at mark bytes ≡ None → parted mark bytes ≡ bytes ∷ []
 parted_at_none mark [] e = refl
 parted_at_none mark (b ∷ bytes) e =
-    elim (chosen (b == mark) (Some ([], bytes)) (cut mark bytes >>= λ p. Some (b ∷ p.0, p.1)) None e) [
+    elim (chosen (b == mark) (Some ([], bytes)) (split_at mark bytes >>= λ p. Some (b ∷ p.0, p.1)) None e) [
       | inl here ↦ let bad = here.1 in absurd cc
-      | inr later ↦ rw (later.0, parted_at_none mark bytes (none_before (cut mark bytes) later.1)) refl
+      | inr later ↦ rw (later.0, parted_at_none mark bytes (none_before (split_at mark bytes) later.1)) refl
     ]
   where
     one_more : List ℕ × List ℕ → Option (List ℕ × List ℕ)
@@ -69,26 +69,26 @@ parted_at_none mark (b ∷ bytes) e =
     none_before None e = refl
     none_before (Some p) e = absurd cc
 
-pub parted_at : (mark : ℕ) (bytes front behind : List ℕ) → cut mark bytes ≡ Some (front, behind)
+pub parted_at : (mark : ℕ) (bytes front behind : List ℕ) → split_at mark bytes ≡ Some (front, behind)
     → parted mark bytes ≡ front ∷ parted mark behind
 parted_at mark [] front behind e = absurd cc
 parted_at mark (b ∷ bytes) front behind e =
-    elim (chosen (b == mark) (Some ([], bytes)) (cut mark bytes >>= λ p. Some (
+    elim (chosen (b == mark) (Some ([], bytes)) (split_at mark bytes >>= λ p. Some (
       b
           ∷ p.0,
       p.1,
     )) (Some (front, behind)) e) [
       | inl here ↦
-          let same = some_is ([], bytes) (front, behind) here.1 in
+          let same = same_Some ([], bytes) (front, behind) here.1 in
           rw here.0 (ap (λ (p : List ℕ × List ℕ). p.0 ∷ parted mark p.1) same)
       | inr later ↦
-          let a = bind_some (cut mark bytes) (λ p. Some (b ∷ p.0, p.1)) (front, behind) later.1 in
-          let same = some_is (b ∷ a.0.0, a.0.1) (front, behind) a.2 in
+          let a = bind_some (split_at mark bytes) (λ p. Some (b ∷ p.0, p.1)) (front, behind) later.1 in
+          let same = same_Some (b ∷ a.0.0, a.0.1) (front, behind) a.2 in
           rw (later.0, parted_at mark bytes a.0.0 a.0.1 a.1)
           (ap (λ (p : List ℕ × List ℕ). p.0 ∷ parted mark p.1) same)
     ]
 
--- what stands behind a comma is shorter
-pub shorter_behind : (rest x behind : List ℕ) → cut 44 rest ≡ Some (x, behind) → length behind < length rest
+-- the rest after a comma is shorter
+pub shorter_behind : (rest x behind : List ℕ) → split_at 44 rest ≡ Some (x, behind) → length behind < length rest
 shorter_behind rest x behind e =
-    omega (arith, ap length (cut_takes 44 rest (x, behind) e), length-append x (44 ∷ behind))
+    omega (arith, ap length (split_takes 44 rest (x, behind) e), length-append x (44 ∷ behind))

@@ -2,7 +2,7 @@
 use Rattle.std.proofs.Common.{◌≡◌, ℕ, Bool, true, false, List, [], ◌∷◌, ◌++◌, Some, None, refl, ◌∙◌}
 use Rattle.std.specs.Prelude.{◌==◌, if◌then◌else◌}
 use Rattle.std.proofs.lemmas.Bool.{eq-eqb, ne_eqb}
-use Rattle.retain_records.specs.Cuts.{◌>>=◌}
+use Rattle.retain_records.specs.Splits.{◌>>=◌}
 use Rattle.retain_records.specs.Enumerations.{before_last}
 
 -- the last byte

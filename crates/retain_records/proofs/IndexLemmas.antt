@@ -29,7 +29,7 @@ placed line (k ∷ keys) =
     place_by (bytes_eq line (vec_items k)) (position_or_len (λ x. bytes_eq line (vec_items x)) keys) (length keys)
     ∙ ap (λ o. if bytes_eq line (vec_items k) then Some 0 else option_map suc o) (placed line keys)
 
--- ---- a line more
+-- ---- one more line
 
 unlike : (x y : List ℕ) (xs rest : List (List ℕ)) → AllByRecursion (λ z. bytes_eq x z ≡ false) (xs ++ y ∷ rest)
     → bytes_eq y x ≡ false
@@ -50,7 +50,7 @@ map_push : {Z : Type 0} (keys : List (Vec ℕ Z)) (v : Vec ℕ Z)
 map_push [] v = refl
 map_push (k ∷ keys) v = ap (λ (xs : List (List ℕ)). vec_items k ∷ xs) (map_push keys v)
 
--- a line of another text is put behind the others
+-- a line of another text is appended to the others
 pub put_behind : {Z : Type 0} (keys : List (Vec ℕ Z)) (v : Vec ℕ Z) (line : List ℕ) (rest all : List (List ℕ))
     → vec_items v ≡ line → map vec_items keys ++ line ∷ rest ≡ all → IsDistinct bytes_eq all
     → map vec_items (insert_key (λ x y. bytes_eq (vec_items x) (vec_items y)) keys v) ++ rest ≡ all

@@ -5,24 +5,24 @@ use Rattle.std.specs.List.{AllByRecursion, IsDistinct}
 use Rattle.st_types.specs.declared.kind.Kind.{Kind}
 use Rattle.retain_records.specs.Records.{Line, line_text, text_of, IsLine, IsLayoutText}
 use Rattle.retain_records.specs.LineLaws.{line_parts, path_has_no_space, spelling_in_line}
-use Rattle.retain_records.specs.CutLaws.{cut_again}
-use Rattle.retain_records.specs.Told.{words_at}
-use Rattle.retain_records.specs.Lines.{written, lines_of}
+use Rattle.retain_records.specs.SplitLaws.{split_again}
+use Rattle.retain_records.specs.ContentLines.{words_at}
+use Rattle.retain_records.specs.Lines.{layout_line, lines_of}
 use Rattle.retain_records.proofs.LineLemmas.{lines_step, lines_stop}
 use Rattle.retain_records.proofs.MarkedLemmas.{same_words}
 
 abbrev as_written : Line → List ℕ
-as_written l = written l.path l.spelling
+as_written l = layout_line l.path l.spelling
 
 pub words_again : (l : Line) (rest : List ℕ) → IsLine l → words_at (line_text l ++ rest)
     ≡ Some (record { path = l.path; spelling = l.spelling; behind = rest })
 words_again l rest sound = ap words_at (line_parts l rest)
     ∙ rw (
-      cut_again 32 l.path (l.spelling ++ 10 ∷ rest) (path_has_no_space l.path sound.path),
-      cut_again 10 l.spelling rest (spelling_in_line l.spelling l.kind sound.spells),
+      split_again 32 l.path (l.spelling ++ 10 ∷ rest) (path_has_no_space l.path sound.path),
+      split_again 10 l.spelling rest (spelling_in_line l.spelling l.kind sound.spells),
     ) refl
 
--- they are those of which it is made
+-- they are those of which the text consists
 lines_again : (ls : List Line) → AllByRecursion IsLine ls → lines_of (text_of ls) ≡ map as_written ls
 lines_again [] sound = lines_stop [] refl
 lines_again (l ∷ ls) sound =

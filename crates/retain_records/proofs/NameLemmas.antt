@@ -1,14 +1,14 @@
--- Names with commas between them as the code counts them.
+-- Names separated by commas, as the code counts them.
 use Rattle.std.proofs.Common.{◌≡◌, ℕ, suc, ◌+◌, ◌<◌, ◌≤◌, Bool, true, false, List, [], ◌∷◌, length}
 use Rattle.std.proofs.Common.{Option, Some, None, refl, ap, ◌∙◌, arith}
 use Rattle.std.specs.Prelude.{◌&&◌, nat_le, if◌then◌else◌}
 use Rattle.std.specs.List.{list_all}
 use Rattle.std.proofs.lemmas.Bool.{le-leb, lt-leb}
 use Rattle.st_types.specs.UpperNames.{is_upper_name}
-use Rattle.retain_records.specs.Cuts.{cut, parted, names_counted}
+use Rattle.retain_records.specs.Splits.{split_at, parted, names_counted}
 use Rattle.retain_records.proofs.CutLemmas.{parted_at, parted_at_none}
 
--- names behind so many that are counted
+-- names after `n` that are counted
 abbrev pub counted_on : ℕ → List (List ℕ) → Option ℕ
 counted_on n names =
     if list_all is_upper_name names && nat_le (n + length names) 65535 then Some (n + length names) else None
@@ -41,28 +41,28 @@ counted_all n h =
     let e : n + 0 ≡ n = omega arith in rw (e, le-leb n 65535 h) refl
 
 -- a turn of the loop over names
-pub no_name_here : (n : ℕ) (rest x behind : List ℕ) → cut 44 rest ≡ Some (x, behind) → is_upper_name x ≡ false
+pub no_name_here : (n : ℕ) (rest x behind : List ℕ) → split_at 44 rest ≡ Some (x, behind) → is_upper_name x ≡ false
     → counted_on n (parted 44 rest) ≡ None
 no_name_here n rest x behind e h = ap (counted_on n) (parted_at 44 rest x behind e)
     ∙ not_counted n x (parted 44 behind) h
 
-pub no_room_here : (n : ℕ) (rest x behind : List ℕ) → cut 44 rest ≡ Some (x, behind) → n ≡ 65535
+pub no_room_here : (n : ℕ) (rest x behind : List ℕ) → split_at 44 rest ≡ Some (x, behind) → n ≡ 65535
     → counted_on n (parted 44 rest) ≡ None
 no_room_here n rest x behind e h = ap (counted_on n) (parted_at 44 rest x behind e)
     ∙ beyond n x (parted 44 behind) (omega arith)
 
-pub name_here : (n : ℕ) (rest x behind : List ℕ) → cut 44 rest ≡ Some (x, behind) → is_upper_name x ≡ true
+pub name_here : (n : ℕ) (rest x behind : List ℕ) → split_at 44 rest ≡ Some (x, behind) → is_upper_name x ≡ true
     → counted_on n (parted 44 rest) ≡ counted_on (n + 1) (parted 44 behind)
 name_here n rest x behind e h = ap (counted_on n) (parted_at 44 rest x behind e) ∙ counted_one n x (parted 44 behind) h
 
-pub no_name_left : (n : ℕ) (rest : List ℕ) → cut 44 rest ≡ None → is_upper_name rest ≡ false
+pub no_name_left : (n : ℕ) (rest : List ℕ) → split_at 44 rest ≡ None → is_upper_name rest ≡ false
     → counted_on n (parted 44 rest) ≡ None
 no_name_left n rest e h = ap (counted_on n) (parted_at_none 44 rest e) ∙ not_counted n rest [] h
 
-pub no_room_left : (n : ℕ) (rest : List ℕ) → cut 44 rest ≡ None → n ≡ 65535 → counted_on n (parted 44 rest) ≡ None
+pub no_room_left : (n : ℕ) (rest : List ℕ) → split_at 44 rest ≡ None → n ≡ 65535 → counted_on n (parted 44 rest) ≡ None
 no_room_left n rest e h = ap (counted_on n) (parted_at_none 44 rest e) ∙ beyond n rest [] (omega arith)
 
-pub name_left : (n : ℕ) (rest : List ℕ) → cut 44 rest ≡ None → is_upper_name rest ≡ true → n < 65535
+pub name_left : (n : ℕ) (rest : List ℕ) → split_at 44 rest ≡ None → is_upper_name rest ≡ true → n < 65535
     → counted_on n (parted 44 rest) ≡ Some (n + 1)
 name_left n rest e h lt =
     ap (counted_on n) (parted_at_none 44 rest e) ∙ counted_one n rest [] h ∙ counted_all (n + 1) (omega arith)

@@ -24,7 +24,7 @@ abbrev pub differ_after : Option (List ℕ) → List (List ℕ) → Bool
 differ_after None xs = neighbours_differ xs
 differ_after (Some x) xs = differs_from x xs
 
--- ---- how often a path stands in a list
+-- ---- how often a path occurs in a list
 
 abbrev times : List ℕ → List (List ℕ) → ℕ
 times x xs = sum_by (λ y. cond (bytes_eq x y) 1 0) xs
@@ -154,7 +154,7 @@ same_tests true b there back = sym (there refl)
 same_tests false true there back = back refl
 same_tests false false there back = refl
 
--- after a sort the neighbours tell
+-- after a sort a comparison of neighbours is enough
 pub sorted_distinct : (f : ℕ → List ℕ) (xs ys : List ℕ) → IsPermutation xs ys → IsSortedByKey f (slice_cmp nat_cmp) ys
     → neighbours_differ (map f ys) ≡ are_distinct (map f xs)
 sorted_distinct f xs ys moved up =

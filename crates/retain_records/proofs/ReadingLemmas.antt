@@ -1,4 +1,4 @@
--- What a loop over the lines and their values keeps.
+-- The invariant of a loop over the lines and their values.
 use Rattle.std.proofs.Common.{◌≡◌, ℕ, zero, suc, ◌+◌, ◌-◌, ◌*◌, ◌<◌, ◌≤◌, Bool, true, false, List, [], ◌∷◌, ◌++◌}
 use Rattle.std.proofs.lemmas.Bool.{and_parts}
 use Rattle.std.proofs.Common.{length, map, drop, Option, Some, None, refl, sym, ap, ◌∙◌, arith, append_assoc, lit≤}
@@ -12,14 +12,15 @@ use Rattle.st_types.specs.declared.kind.Kind.TheVariants.{Sint, Int, Dint, Lint,
 use Rattle.st_types.specs.declared.kind.Kind.TheVariants.{Dword, Lword, Time, Bool as Boolean, Enumerated}
 use Rattle.st_types.specs.Kinds.{row_of}
 use Rattle.st_types.specs.Values.{Datum}
-use Rattle.retain_records.specs.Records.{Line, line_text, is_path_text, has_keyword, IsLine, Spells, by_keyword}
+use Rattle.retain_records.specs.Records.{Line, line_text, is_path_text, has_keyword, IsLine, SpellsKind, by_keyword}
 use Rattle.st_types.specs.UpperNames.{is_upper_name, joined}
 use Rattle.retain_records.specs.Records.{by_names}
-use Rattle.retain_records.specs.Cuts.{◌>>=◌, cut}
+use Rattle.retain_records.specs.Splits.{◌>>=◌, split_at}
 use Rattle.retain_records.specs.Reading.{line_at, value_at, RecordedVariable, variable_at, variables_in}
 use Rattle.retain_records.specs.Reading.{path_from, first_word, AreVariables}
-use Rattle.retain_records.specs.CutLaws.{bind_some, some_is, cut_again}
-use Rattle.retain_records.specs.LineLaws.{line_parts, line_takes, path_has_no_space, made}
+use Rattle.retain_records.specs.SplitLaws.{bind_some, split_again}
+use Rattle.retain_records.specs.LineLaws.{line_parts, line_takes, path_has_no_space, recorded_variable}
+use Rattle.std.proofs.lemmas.Option.{same_Some}
 
 -- variables before, and those that are read
 abbrev pub with_front : List RecordedVariable → Option (List RecordedVariable) → Option (List RecordedVariable)
@@ -66,7 +67,7 @@ joined_long ([] ∷ names) each some = let bad : false
 joined_long ((b ∷ x) ∷ []) each some = omega arith
 joined_long ((b ∷ x) ∷ y ∷ ys) each some = omega arith
 
-spelling_long : (word : List ℕ) (k : Kind) → Spells word k → 3 ≤ length word
+spelling_long : (word : List ℕ) (k : Kind) → SpellsKind word k → 3 ≤ length word
 spelling_long word k (by_keyword named is) = omega (arith, keyword_long k named, ap length is)
 spelling_long word k (by_names n is e) = omega (
   arith,
@@ -92,12 +93,12 @@ pub variable_line : (text bytes : List ℕ) (p : RecordedVariable × List ℕ ×
 unfolding variable_at
 variable_line text bytes p e =
     let a = bind_some (line_at text) (λ line. value_at line.0.kind bytes >>=
-    λ value. Some (made line.0 value.0, line.1, value.1)) p e in
+    λ value. Some (recorded_variable line.0 value.0, line.1, value.1)) p e in
     let b = bind_some (value_at a.0.0.kind bytes)
-    (λ value. Some (made a.0.0 value.0, a.0.1, value.1)) p a.2 in
+    (λ value. Some (recorded_variable a.0.0 value.0, a.0.1, value.1)) p a.2 in
     let l = line_takes text a.0 a.1 in
-    let is : (made a.0.0 b.0.0, a.0.1, b.0.1) ≡ p =
-    some_is (made a.0.0 b.0.0, a.0.1, b.0.1) p b.2 in (
+    let is : (recorded_variable a.0.0 b.0.0, a.0.1, b.0.1) ≡ p =
+    same_Some (recorded_variable a.0.0 b.0.0, a.0.1, b.0.1) p b.2 in (
       a.0.0,
       l.0 ∙ ap (λ (q : RecordedVariable × List ℕ × List ℕ). line_text a.0.0 ++ q.1) is,
       l.1,
@@ -110,8 +111,8 @@ path_there : (text left behind : List ℕ) (start : ℕ) (l : Line) → left ≡
 path_there text left behind start l offset is sound =
     let line : drop start text ≡ l.path ++ 32 ∷ (l.spelling ++ 10 ∷ behind) = sym offset ∙ is
     ∙ line_parts l behind in
-    ap (λ (t : List ℕ). first_word (cut 32 t)) line
-    ∙ ap first_word (cut_again 32 l.path (l.spelling ++ 10 ∷ behind) (path_has_no_space l.path sound.path))
+    ap (λ (t : List ℕ). first_word (split_at 32 t)) line
+    ∙ ap first_word (split_again 32 l.path (l.spelling ++ 10 ∷ behind) (path_has_no_space l.path sound.path))
 
 with_nothing : (o : Option (List RecordedVariable)) → with_front [] o ≡ o
 with_nothing None = refl
@@ -122,7 +123,7 @@ regroup : (front : List RecordedVariable) (v : RecordedVariable) (o : Option (Li
 regroup front v None = refl
 regroup front v (Some vs) = ap (λ (ws : List RecordedVariable). Some ws) (sym (append_assoc front (v ∷ []) vs))
 
--- one variable more
+-- one more variable
 more_so_far : (most : ℕ) (left rest : List ℕ) (done : List RecordedVariable) (total : Option (List RecordedVariable))
     (p : RecordedVariable × List ℕ × List ℕ) → 0 < length left → length left ≤ most → variable_at left rest ≡ Some p
     → with_front done (variables_in most left rest) ≡ total
@@ -244,7 +245,7 @@ pub reads_over : (text bytes left rest starts : List ℕ) (values : List Datum) 
 reads_over text bytes left rest starts values r end some =
     over_so_far r.most left rest r.done (variables_in (length text) text bytes) end some r.so_far
 
--- what a test of a list's length says
+-- the result of a test of a list's length
 pub some_left : {X : Type 0} (xs : List X) (b : Bool) → b ≡ (length xs == 0) → b ≡ false → 0 < length xs
 some_left xs b is none = let ne : length xs ≡ 0 → ⊥ = eqb-false (length xs) 0 (sym is ∙ none) in omega arith
 

@@ -65,7 +65,7 @@ values_split values i d lt =
       length-append (value_bytes (get_or values i d)) (flat_map value_bytes (drop (i + 1) values)),
     )
 
--- one value more
+-- one more value
 pub values_more : (values : List Datum) (i : ℕ) (d : Datum) → i < length values
     → flat_map value_bytes (take (i + 1) values) ≡ flat_map value_bytes (take i values)
     ++ value_bytes (get_or values i d)

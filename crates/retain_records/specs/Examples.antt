@@ -1,4 +1,4 @@
--- Words for worked examples of a restart with another text: each text has the RETAIN globals that its plan says.
+-- Words for worked examples of a restart with another text: each text has the RETAIN globals of its plan.
 use Rattle.std.specs.Prelude.{ℤ, ℕ, List, [], ◌∷◌, Bool, Some, pos, true, false, codes}
 use Rattle.st_types.specs.declared.kind.Kind.TheVariants.{Dint, Enumerated}
 use Rattle.st_types.specs.Values.{Datum}
@@ -60,6 +60,6 @@ of_three_names = of_globals (stopped_running_fault ∷ []) (global (codes "M") (
 abbrev pub of_four_names : Plan
 of_four_names = of_globals (with_fourth ∷ []) (global (codes "M") (place 4 (pos 0)) true ∷ [])
 
--- a start of the third plan, after one of the second that came after a life of the first
+-- a start of the third plan, after a start of the second that followed a life of the first
 abbrev pub started_then : Plan → Plan → Plan → Store → Start
 started_then first second third s = started_after second third (started_after first second s (Some 20)).store (Some 20)

@@ -1,5 +1,5 @@
-pub mod CutLaws
-pub mod Cuts
+pub mod SplitLaws
+pub mod Splits
 pub mod Enumerations
 pub mod FieldLaws
 pub mod LineLaws
@@ -7,7 +7,7 @@ pub mod Reading
 pub mod RecordLaws
 pub mod Records
 pub mod Rooms
-pub mod Told
+pub mod ContentLines
 pub mod Lines
 pub mod Matching
 pub mod Marked

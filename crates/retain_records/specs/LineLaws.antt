@@ -1,4 +1,4 @@
--- A line and its value that are read are those that were written, and what was written is read again.
+-- A line and its value that are read are those that were written, and those that were written can be read again.
 use Rattle.std.proofs.Common.{◌≡◌, ℕ, zero, suc, ◌-◌, ◌^◌, ◌<◌, ◌≤◌, Bool, true, false, cond, List, [], ◌∷◌, ◌++◌}
 use Rattle.std.proofs.Common.{length, map, Some, None, refl, sym, ap, subst, ◌∙◌, append_assoc, arith, inl, inr}
 use Rattle.std.specs.Prelude.{◌==◌, ◌&&◌, ◌||◌, not, if◌then◌else◌, ℤ, pos, negsuc, bytes_eq, nat_le, Option}
@@ -21,25 +21,27 @@ use Rattle.st_types.specs.Kinds.{row_of, holds, width_of}
 use Rattle.st_types.specs.Values.{Datum, IsHeld}
 use Rattle.retain_records.specs.Records.{Line, line_text, text_of, is_visible, is_path_text, has_keyword, IsLine}
 use Rattle.st_types.specs.UpperNames.{is_upper_name, is_letter, joined}
-use Rattle.retain_records.specs.Records.{Spells, by_keyword, by_names, IsEnumeration, is_byte_place}
+use Rattle.retain_records.specs.Records.{SpellsKind, by_keyword, by_names, IsEnumeration, is_byte_place}
 use Rattle.st_types.specs.UpperNames.{is_letter_or_digit, is_spaced}
-use Rattle.retain_records.specs.Cuts.{parted, onto_first, names_counted, ◌>>=◌, cut}
+use Rattle.retain_records.specs.Splits.{parted, onto_first, names_counted, ◌>>=◌, split_at}
 use Rattle.retain_records.specs.Enumerations.{before_last, enumeration_in}
-use Rattle.retain_records.specs.Reading.{or_kind, type_told}
+use Rattle.retain_records.specs.Reading.{kind_spelled}
 use Rattle.retain_records.specs.Records.{wide_of, value_bytes}
 use Rattle.retain_records.specs.Reading.{number_at, all_kinds, kind_of, line_at, number_of, value_at}
 use Rattle.retain_records.specs.Reading.{RecordedVariable, variable_at, variables_in}
 use Rattle.retain_records.specs.FieldLaws.{IsBytes, TakesBytes, IsWide, wide8, wide16}
-use Rattle.retain_records.specs.CutLaws.{bind_some, some_is, when_some, when_kept, has_no, cut_takes, cut_again, chosen}
+use Rattle.retain_records.specs.SplitLaws.{bind_some, when_kept, has_no, split_takes, split_again, chosen}
 use Rattle.retain_records.specs.FieldLaws.{wide32, wide64, number_takes, number_again}
+use Rattle.std.proofs.lemmas.Option.{same_Some, cond_some}
+use Rattle.st_meaning.specs.Operators.{or_kind}
 
 -- ---- types
 
--- what is found passes the test
+-- a result of a search passes the test
 found_passes : {X : Type 0} (test : X → Bool) (xs : List X) (x : X) → find test xs ≡ Some x → test x ≡ true
 found_passes test [] x e = absurd cc
 found_passes {X} test (y ∷ ys) x e = elim (chosen (test y) (Some y) (find test ys) (Some x) e) [
-  | inl here ↦ subst (λ (z : X). test z ≡ true) (some_is y x here.1) here.0
+  | inl here ↦ subst (λ (z : X). test z ≡ true) (same_Some y x here.1) here.0
   | inr later ↦ found_passes test ys x later.1
 ]
 
@@ -66,12 +68,12 @@ unfolding kind_of
 kind_of_takes word k e = sym
     ((bytes_eq-Decides (row_of k).keyword word).0 (found_passes (λ l. bytes_eq (row_of l).keyword word) all_kinds k e))
 
--- what is found is one of the list
+-- a result of a search is in the list
 found_among : {X : Type 0} (P : X → Type 0) (test : X → Bool) (xs : List X) (x : X) → AllByRecursion P xs
     → find test xs ≡ Some x → P x
 found_among P test [] x all e = absurd cc
 found_among {X} P test (y ∷ ys) x all e = elim (chosen (test y) (Some y) (find test ys) (Some x) e) [
-  | inl here ↦ subst P (some_is y x here.1) all.0
+  | inl here ↦ subst P (same_Some y x here.1) all.0
   | inr later ↦ found_among P test ys x all.1 later.1
 ]
 
@@ -81,7 +83,7 @@ kind_of_named word k e =
     found_among (λ (l : Kind). has_keyword l ≡ true) (λ l. bytes_eq (row_of l).keyword word) all_kinds k
     (refl, (refl, (refl, (refl, (refl, (refl, (refl, (refl, (refl, (refl, (refl, (refl, (refl, (refl, tt)))))))))))))) e
 
--- a letter or a digit is no mark
+-- a letter or a digit isn't a mark
 letter_is_high : (b : ℕ) → is_letter b ≡ true → 48 ≤ b
 letter_is_high b h = grind (arith, nat_tests, eqb-true)
 
@@ -117,7 +119,7 @@ parts_are_some mark (b ∷ bytes) = by_mark (b == mark) (parts_are_some mark byt
     by_mark true p = ([], parted mark bytes, refl)
     by_mark false p = (b ∷ p.0, p.1, ap (onto_first b) p.2)
 
--- what is parted and joined again is what it was
+-- a text that is split and joined again is as it was
 joined_first : (b : ℕ) (x : List ℕ) (xs : List (List ℕ)) → joined ((b ∷ x) ∷ xs) ≡ b ∷ joined (x ∷ xs)
 joined_first b x [] = refl
 joined_first b x (y ∷ ys) = refl
@@ -137,7 +139,7 @@ joined_again (b ∷ bytes) = by_mark (b == 44) refl (parts_are_some 44 bytes) (j
         ap (λ ys. joined (onto_first b ys)) p.2 ∙ joined_first b p.0 p.1
         ∙ ap (λ (x : List ℕ). b ∷ x) (ap joined (sym p.2) ∙ h)
 
--- names have no commas, so what is joined is parted to them
+-- names have no commas, so their joined text is split into them
 parted_alone : (x : List ℕ) → has_no 44 x ≡ true → parted 44 x ≡ x ∷ []
 parted_alone [] h = refl
 parted_alone (b ∷ x) h =
@@ -157,15 +159,15 @@ parted_again x (y ∷ ys) h =
     let p = and_parts (has_no 44 x) (list_all (has_no 44) (y ∷ ys)) h in
     parted_then x (joined (y ∷ ys)) p.0 ∙ ap (λ (zs : List (List ℕ)). x ∷ zs) (parted_again y ys p.1)
 
--- the last byte, and what stands before it
+-- the last byte, and the bytes before it
 before_last_takes : (mark : ℕ) (bytes x : List ℕ) → before_last mark bytes ≡ Some x → bytes ≡ x ++ mark ∷ []
 before_last_takes mark [] x e = absurd cc
 before_last_takes mark (b ∷ []) x e =
-    let h = when_some (b == mark) [] x e in
+    let h = cond_some (b == mark) [] x e in
     subst (λ (y : List ℕ). b ∷ [] ≡ y ++ mark ∷ []) h.1 (ap (λ (n : ℕ). n ∷ []) (eqb-true b mark h.0))
 before_last_takes mark (b ∷ c ∷ bytes) x e =
     let a = bind_some (before_last mark (c ∷ bytes)) (λ y. Some (b ∷ y)) x e in
-    subst (λ (y : List ℕ). b ∷ c ∷ bytes ≡ y ++ mark ∷ []) (some_is (b ∷ a.0) x a.2)
+    subst (λ (y : List ℕ). b ∷ c ∷ bytes ≡ y ++ mark ∷ []) (same_Some (b ∷ a.0) x a.2)
     (ap (λ (y : List ℕ). b ∷ y) (before_last_takes mark (c ∷ bytes) a.0 a.1))
 
 before_last_again : (mark : ℕ) (x : List ℕ) → before_last mark (x ++ mark ∷ []) ≡ Some x
@@ -173,7 +175,7 @@ before_last_again mark [] = let same : (mark == mark) ≡ true = eq-eqb mark mar
 before_last_again mark (b ∷ []) = let same : (mark == mark) ≡ true = eq-eqb mark mark refl in rw same refl
 before_last_again mark (b ∷ c ∷ x) = rw (before_last_again mark (c ∷ x)) refl
 
--- a byte of a name is none of the marks
+-- a byte of a name isn't one of the marks
 name_has_no : (mark : ℕ) → (mark < 48) → (x : List ℕ) → is_upper_name x ≡ true → has_no mark x ≡ true
 name_has_no mark low [] h = absurd cc
 name_has_no mark low (b ∷ x) h =
@@ -196,7 +198,7 @@ name_has_no mark low (b ∷ x) h =
 enumeration_made : (bytes x : List ℕ) (n : ℕ) → bytes ≡ x ++ 41 ∷ [] → names_counted (parted 44 x) ≡ Some n
     → IsEnumeration (40 ∷ bytes) n
 enumeration_made bytes x n last counted =
-    let h = when_some (list_all is_upper_name (parted 44 x) && nat_le (length (parted 44 x)) 65535)
+    let h = cond_some (list_all is_upper_name (parted 44 x) && nat_le (length (parted 44 x)) 65535)
     (length (parted 44 x)) n counted in
     let p = and_parts (list_all is_upper_name (parted 44 x)) (nat_le (length (parted 44 x)) 65535) h.0 in
     let some = parts_are_some 44 x in
@@ -209,7 +211,7 @@ enumeration_made bytes x n last counted =
       count = h.1;
     }
 
-enumeration_spells : (word : List ℕ) (k : Kind) → enumeration_in word ≡ Some k → Spells word k
+enumeration_spells : (word : List ℕ) (k : Kind) → enumeration_in word ≡ Some k → SpellsKind word k
 enumeration_spells [] k e = absurd cc
 enumeration_spells (b ∷ bytes) k e =
     let h = when_kept (b == 40)
@@ -218,18 +220,18 @@ enumeration_spells (b ∷ bytes) k e =
     (λ x. names_counted (parted 44 x) >>= λ n. Some (Enumerated n 0)) k h.1 in
     let n = bind_some (names_counted (parted 44 x.0)) (λ n. Some (Enumerated n 0)) k x.2 in
     let first : b ≡ 40 = eqb-true b 40 h.0 in
-    let made = enumeration_made bytes x.0 n.0 (before_last_takes 41 bytes x.0 x.1) n.1 in
-    by_names n.0 (sym (some_is (Enumerated n.0 0) k n.2))
-    (subst (λ (c : ℕ). IsEnumeration (c ∷ bytes) n.0) (sym first) made)
+    let recorded_variable = enumeration_made bytes x.0 n.0 (before_last_takes 41 bytes x.0 x.1) n.1 in
+    by_names n.0 (sym (same_Some (Enumerated n.0 0) k n.2))
+    (subst (λ (c : ℕ). IsEnumeration (c ∷ bytes) n.0) (sym first) recorded_variable)
 
 -- ---- types as they are spelled
 
-pub type_told_spells : (word : List ℕ) (k : Kind) → type_told word ≡ Some k → Spells word k
-unfolding type_told
-type_told_spells word k e = by_kind (kind_of word) refl e
+pub kind_spelled_spells : (word : List ℕ) (k : Kind) → kind_spelled word ≡ Some k → SpellsKind word k
+unfolding kind_spelled
+kind_spelled_spells word k e = by_kind (kind_of word) refl e
   where
-    by_kind : (o : Option Kind) → kind_of word ≡ o → or_kind o (enumeration_in word) ≡ Some k → Spells word k
-    by_kind (Some l) p e = subst (λ (j : Kind). Spells word j) (some_is l k e)
+    by_kind : (o : Option Kind) → kind_of word ≡ o → or_kind o (enumeration_in word) ≡ Some k → SpellsKind word k
+    by_kind (Some l) p e = subst (λ (j : Kind). SpellsKind word j) (same_Some l k e)
         (by_keyword (kind_of_named word l p) (kind_of_takes word l p))
     by_kind None p e = enumeration_spells word k e
 
@@ -255,10 +257,10 @@ enumeration_again (x ∷ xs) each some most =
       le-leb (length (x ∷ xs)) 65535 most,
     ) refl
 
-pub type_told_again : (word : List ℕ) (k : Kind) → Spells word k → type_told word ≡ Some k
-unfolding type_told
-type_told_again word k (by_keyword named is) = rw (is, kind_of_keyword k named) refl
-type_told_again word k (by_names n is e) =
+pub kind_spelled_again : (word : List ℕ) (k : Kind) → SpellsKind word k → kind_spelled word ≡ Some k
+unfolding kind_spelled
+kind_spelled_again word k (by_keyword named is) = rw (is, kind_of_keyword k named) refl
+kind_spelled_again word k (by_names n is e) =
     rw (
       e.spelled,
       no_keyword (joined e.names ++ 41
@@ -269,7 +271,7 @@ type_told_again word k (by_names n is e) =
     ) refl
 
 -- a name has no line feed, and neither have names with commas
-has_no_in_both : (mark : ℕ) (x y : List ℕ) → has_no mark x ≡ true → has_no mark y ≡ true → has_no mark (x ++ y) ≡ true
+pub has_no_in_both : (mark : ℕ) (x y : List ℕ) → has_no mark x ≡ true → has_no mark y ≡ true → has_no mark (x ++ y) ≡ true
 has_no_in_both mark [] y h k = k
 has_no_in_both mark (b ∷ x) y h k =
     let p = and_parts (not (b == mark)) (has_no mark x) h in
@@ -282,7 +284,7 @@ joined_in_line (x ∷ y ∷ ys) h =
     let p = and_parts (is_upper_name x) (list_all is_upper_name (y ∷ ys)) h in
     has_no_in_both 10 x (44 ∷ joined (y ∷ ys)) (name_has_no 10 (lit< tt) x p.0) (joined_in_line (y ∷ ys) p.1)
 
-pub spelling_in_line : (word : List ℕ) (k : Kind) → Spells word k → has_no 10 word ≡ true
+pub spelling_in_line : (word : List ℕ) (k : Kind) → SpellsKind word k → has_no 10 word ≡ true
 spelling_in_line word k (by_keyword named is) = ap (has_no 10) is ∙ keyword_in_line k
 spelling_in_line word k (by_names n is e) =
     ap (has_no 10) e.spelled
@@ -310,28 +312,28 @@ line_parts l rest = simp append_assoc
 abbrev line_so : List ℕ → List ℕ → Kind → Line
 line_so path word k = record { path = path; spelling = word; kind = k }
 
-line_made : (text path after word rest : List ℕ) (k : Kind) (p : Line × List ℕ) → cut 32 text ≡ Some (path, after)
-    → cut 10 after ≡ Some (word, rest) → type_told word ≡ Some k → is_path_text path ≡ true
+line_made : (text path after word rest : List ℕ) (k : Kind) (p : Line × List ℕ) → split_at 32 text ≡ Some (path, after)
+    → split_at 10 after ≡ Some (word, rest) → kind_spelled word ≡ Some k → is_path_text path ≡ true
     → (line_so path word k, rest) ≡ p
     → (text ≡ line_text p.0 ++ p.1) × IsLine p.0
 line_made text path after word rest k p first second named sound is =
-    let whole : text ≡ line_text (line_so path word k) ++ rest = cut_takes 32 text (path, after) first
-    ∙ ap (λ (r : List ℕ). path ++ 32 ∷ r) (cut_takes 10 after (word, rest) second)
+    let whole : text ≡ line_text (line_so path word k) ++ rest = split_takes 32 text (path, after) first
+    ∙ ap (λ (r : List ℕ). path ++ 32 ∷ r) (split_takes 10 after (word, rest) second)
     ∙ sym (line_parts (line_so path word k) rest) in
     subst (λ (q : Line × List ℕ). (text ≡ line_text q.0 ++ q.1) × IsLine q.0) is
-    (whole, record { path = sound; spells = type_told_spells word k named })
+    (whole, record { path = sound; spells = kind_spelled_spells word k named })
 
 pub line_takes : (text : List ℕ) (p : Line × List ℕ) → line_at text ≡ Some p
     → (text ≡ line_text p.0 ++ p.1) × IsLine p.0
 unfolding line_at
 line_takes text p e =
-    let a = bind_some (cut 32 text) (λ word. cut 10 word.1 >>= λ line. type_told line.0 >>=
+    let a = bind_some (split_at 32 text) (λ word. split_at 10 word.1 >>= λ line. kind_spelled line.0 >>=
     λ k. cond (is_path_text word.0) (Some (line_so word.0 line.0 k, line.1)) None) p e in
-    let b = bind_some (cut 10 a.0.1) (λ line. type_told line.0 >>=
+    let b = bind_some (split_at 10 a.0.1) (λ line. kind_spelled line.0 >>=
     λ k. cond (is_path_text a.0.0) (Some (line_so a.0.0 line.0 k, line.1)) None) p a.2 in
-    let c = bind_some (type_told b.0.0)
+    let c = bind_some (kind_spelled b.0.0)
     (λ k. cond (is_path_text a.0.0) (Some (line_so a.0.0 b.0.0 k, b.0.1)) None) p b.2 in
-    let d = when_some (is_path_text a.0.0) (line_so a.0.0 b.0.0 c.0, b.0.1) p c.2 in
+    let d = cond_some (is_path_text a.0.0) (line_so a.0.0 b.0.0 c.0, b.0.1) p c.2 in
     line_made text a.0.0 a.0.1 b.0.0 b.0.1 c.0 p a.1 b.1 c.1 d.0 d.1
 
 pub line_again : (l : Line) (rest : List ℕ) → IsLine l → line_at (line_text l ++ rest) ≡ Some (l, rest)
@@ -339,9 +341,9 @@ unfolding line_at
 line_again l rest sound =
     ap line_at (line_parts l rest)
     ∙ rw (
-      cut_again 32 l.path (l.spelling ++ 10 ∷ rest) (path_has_no_space l.path sound.path),
-      cut_again 10 l.spelling rest (spelling_in_line l.spelling l.kind sound.spells),
-      type_told_again l.spelling l.kind sound.spells,
+      split_again 32 l.path (l.spelling ++ 10 ∷ rest) (path_has_no_space l.path sound.path),
+      split_again 10 l.spelling rest (spelling_in_line l.spelling l.kind sound.spells),
+      kind_spelled_again l.spelling l.kind sound.spells,
       sound.path,
     ) refl
 
@@ -350,7 +352,7 @@ line_again l rest sound =
 abbrev pub datum : Kind → ℤ → Datum
 datum k z = record { kind = k; number = z }
 
--- what the bytes of a type's values are
+-- the spelling of a type's values as bytes
 pub record IsSpelledType (k : Kind) : Type 0 where
   pub limit : ℕ
   pub wide : IsWide (wide_of k) limit
@@ -363,7 +365,7 @@ pub record IsSpelledType (k : Kind) : Type 0 where
   pub back : (n : ℕ) → n < limit → cast_unsigned (wide_of k) (number_of k n) ≡ n
   pub near : (z : ℤ) → holds k z ≡ true → is_byte_place (datum k z) ≡ true → mag z < 2 ^ bits (wide_of k)
 
--- what the range of a type says
+-- the range of a type, as bounds
 signed_magnitude : (n : ℕ) (z : ℤ) → (int_le (negsuc n) z && int_le z (pos n)) ≡ true → mag z ≤ n
 signed_magnitude n (pos m) h = leb-true m n (and_parts (int_le (negsuc n) (pos m)) (int_le (pos m) (pos n)) h).1
 signed_magnitude n (negsuc m) h =
@@ -387,7 +389,7 @@ natural_there w n z p = rw p.1 refl
 natural_near : (n limit size : ℕ) (z : ℤ) → n < limit → size ≡ limit → (m : ℕ) × (z ≡ pos m) × (m ≤ n) → mag z < size
 natural_near n limit size z lt same p = rw p.1 (omega (arith, p.2))
 
--- a type that is signed, and one that is not
+-- a signed type, and an unsigned one
 signed_type : (k : Kind) (w : Width) (n limit : ℕ) → wide_of k ≡ w → IsWide w limit → byte_len w ≡ width_of k
     → 2 ^ bits w ≡ limit → n < limit → n < 2 ^ hbits w
     → ((z : ℤ) → holds k z ≡ (int_le (negsuc n) z && int_le z (pos n))) → ((m : ℕ) → number_of k m ≡ cast_signed w m)
@@ -457,7 +459,7 @@ type_of Boolean named = unsigned_type Boolean w8 1 (2 ^ 8) refl wide8 refl refl 
     z. refl)
 type_of (Enumerated names number) named = absurd cc
 
--- a place that is one byte
+-- a place that takes one byte
 byte_is : (n : ℕ) (z : ℤ) → 0 < n → is_byte_place (datum (Enumerated n 0) z) ≡ true → int_lt z (pos 256) ≡ true
 byte_is n z some h =
     let names : (n == 0) ≡ false = ne_eqb n 0 (λ e. omega (arith, e)) in rw names at h
@@ -496,7 +498,7 @@ enumerated_type n some = record {
   near = λ z h placed. natural_small n z some (unsigned_natural (n - 1) z h) placed;
 }
 
-pub type_spelled : (word : List ℕ) (k : Kind) → Spells word k → IsSpelledType k
+pub type_spelled : (word : List ℕ) (k : Kind) → SpellsKind word k → IsSpelledType k
 type_spelled word k (by_keyword named is) = type_of k named
 type_spelled word k (by_names n is e) =
     subst IsSpelledType (sym is) (enumerated_type n (omega (arith, e.some, e.count)))
@@ -547,12 +549,12 @@ unfolding value_at
 value_takes k bytes p t fits e =
     let a = bind_some (number_at (wide_of k) bytes)
     (λ n. cond (holds k (number_of k n.0)) (Some (record { kind = k; number = number_of k n.0 }, n.1)) None) p e in
-    let b = when_some (holds k (number_of k a.0.0)) (record { kind = k; number = number_of k a.0.0 }, a.0.1) p a.2 in
+    let b = cond_some (holds k (number_of k a.0.0)) (record { kind = k; number = number_of k a.0.0 }, a.0.1) p a.2 in
     let n = number_takes (wide_of k) t.limit t.wide bytes a.0 fits a.1 in
-    let made : TakesBytes bytes (to_be_bytes (wide_of k) (cast_unsigned (wide_of k) (number_of k a.0.0))) a.0.1 =
+    let recorded_variable : TakesBytes bytes (to_be_bytes (wide_of k) (cast_unsigned (wide_of k) (number_of k a.0.0))) a.0.1 =
     rw (t.back a.0.0 n.1) n.0 in
     subst (λ (q : Datum × List ℕ). TakesBytes bytes (value_bytes q.0) q.1 × (q.0.kind ≡ k) × IsHeld q.0
-    × (is_byte_place q.0 ≡ true)) b.1 (made, refl, b.0, t.placed a.0.0 n.1)
+    × (is_byte_place q.0 ≡ true)) b.1 (recorded_variable, refl, b.0, t.placed a.0.0 n.1)
 
 pub value_again : (d : Datum) (rest : List ℕ) → IsSpelledType d.kind → IsHeld d → is_byte_place d ≡ true
     → value_at d.kind (value_bytes d ++ rest) ≡ Some (d, rest)
@@ -571,21 +573,21 @@ value_again d rest t held placed =
 abbrev pub line_of : RecordedVariable → Line
 line_of v = line_so v.path v.spelling v.value.kind
 
--- what a variable of a record may be
+-- the conditions on a variable of a record
 pub record IsSoundVariable (v : RecordedVariable) : Type 0 where
   pub line : IsLine (line_of v)
   pub value : IsHeld v.value
   pub place : is_byte_place v.value ≡ true
 
-abbrev pub made : Line → Datum → RecordedVariable
-made l d = record { path = l.path; spelling = l.spelling; value = d }
+abbrev pub recorded_variable : Line → Datum → RecordedVariable
+recorded_variable l d = record { path = l.path; spelling = l.spelling; value = d }
 
 variable_made : (l : Line) (d : Datum) → IsLine l → d.kind ≡ l.kind → IsHeld d → is_byte_place d ≡ true
-    → IsSoundVariable (made l d)
+    → IsSoundVariable (recorded_variable l d)
 variable_made l d sound same held placed = record {
   line = record {
     path = sound.path;
-    spells = subst (λ (k : Kind). Spells l.spelling k) (sym same) sound.spells;
+    spells = subst (λ (k : Kind). SpellsKind l.spelling k) (sym same) sound.spells;
   };
   value = held;
   place = placed;
@@ -597,23 +599,23 @@ pub variable_takes : (text bytes : List ℕ) (p : RecordedVariable × List ℕ �
 unfolding variable_at
 variable_takes text bytes p fits e =
     let a = bind_some (line_at text) (λ line. value_at line.0.kind bytes >>=
-    λ value. Some (made line.0 value.0, line.1, value.1)) p e in
+    λ value. Some (recorded_variable line.0 value.0, line.1, value.1)) p e in
     let b = bind_some (value_at a.0.0.kind bytes)
-    (λ value. Some (made a.0.0 value.0, a.0.1, value.1)) p a.2 in
+    (λ value. Some (recorded_variable a.0.0 value.0, a.0.1, value.1)) p a.2 in
     let l = line_takes text a.0 a.1 in
     let v = value_takes a.0.0.kind bytes b.0 (type_spelled a.0.0.spelling a.0.0.kind l.1.spells) fits b.1 in
     subst (λ (q : RecordedVariable × List ℕ × List ℕ). (text ≡ line_text (line_of q.0) ++ q.1)
     × TakesBytes bytes (value_bytes q.0.value) q.2 × IsSoundVariable q.0)
-    (some_is (made a.0.0 b.0.0, a.0.1, b.0.1) p b.2) (l.0, v.0, variable_made a.0.0 b.0.0 l.1 v.1 v.2 v.3)
+    (same_Some (recorded_variable a.0.0 b.0.0, a.0.1, b.0.1) p b.2) (l.0, v.0, variable_made a.0.0 b.0.0 l.1 v.1 v.2 v.3)
 
 pub variable_again : (l : Line) (d : Datum) (text bytes : List ℕ) → IsLine l → IsHeld d → is_byte_place d ≡ true
-    → l.kind ≡ d.kind → variable_at (line_text l ++ text) (value_bytes d ++ bytes) ≡ Some (made l d, text, bytes)
+    → l.kind ≡ d.kind → variable_at (line_text l ++ text) (value_bytes d ++ bytes) ≡ Some (recorded_variable l d, text, bytes)
 unfolding variable_at
 variable_again l d text bytes sound held placed same =
     let t = subst IsSpelledType same (type_spelled l.spelling l.kind sound.spells) in
     rw (line_again l text sound, same, value_again d bytes t held placed) refl
 
--- a line is not empty: what is after it is shorter than the text
+-- a line is not empty: the text after it is shorter than the whole
 line_is_some : (l : Line) (rest : List ℕ)
     → (c : ℕ) × (text : List ℕ) × (line_text l ++ rest ≡ c ∷ text) × (length rest ≤ length text)
 line_is_some l rest = from l.path refl
@@ -652,7 +654,7 @@ pub variables_take : (most : ℕ) (text bytes : List ℕ) (vs : List RecordedVar
 unfolding variables_in
 variables_take most [] [] vs fits e =
     subst (λ (ws : List RecordedVariable). ([] ≡ texts ws) × ([] ≡ values_bytes ws) × AllByRecursion IsSoundVariable ws)
-    (some_is [] vs e) (refl, refl, tt)
+    (same_Some [] vs e) (refl, refl, tt)
 variables_take most [] (b ∷ bytes) vs fits e = absurd cc
 variables_take zero (c ∷ text) bytes vs fits e = absurd cc
 variables_take (suc most) (c ∷ text) bytes vs fits e =
@@ -665,12 +667,12 @@ variables_take (suc most) (c ∷ text) bytes vs fits e =
     let all : bytes ≡ values_bytes (a.0.0 ∷ b.0) = f.1.parts ∙ ap (λ (x : List ℕ). value_bytes a.0.0.value ++ x) r.1 in
     subst (λ (ws : List RecordedVariable). (c ∷ text ≡ texts ws) × (bytes ≡ values_bytes ws)
     × AllByRecursion IsSoundVariable ws)
-    (some_is (a.0.0 ∷ b.0) vs b.2) (whole, all, (f.2, r.2))
+    (same_Some (a.0.0 ∷ b.0) vs b.2) (whole, all, (f.2, r.2))
 
 abbrev pub paths_of : List RecordedVariable → List (List ℕ)
 paths_of vs = map (λ v. v.path) vs
 
--- what lines and values of the same types spell
+-- the lines and values of the same types, as they are read
 pub record AreRead (most : ℕ) (lines : List Line) (values : List Datum) : Type 0 where
   pub vs : List RecordedVariable
   pub read : variables_in most (text_of lines) (flat_map value_bytes values) ≡ Some vs
@@ -687,11 +689,11 @@ unfolding variables_in
 variables_again_at l d lines values most sound held placed same rest =
     let s = line_is_some l (text_of lines) in
     let here : variable_at (s.0 ∷ s.1) (value_bytes d ++ flat_map value_bytes values)
-    ≡ Some (made l d, text_of lines, flat_map value_bytes values) =
+    ≡ Some (recorded_variable l d, text_of lines, flat_map value_bytes values) =
     ap (λ (x : List ℕ). variable_at x (value_bytes d ++ flat_map value_bytes values)) (sym s.2)
     ∙ variable_again l d (text_of lines) (flat_map value_bytes values) sound held placed same in
     record {
-      vs = made l d ∷ rest.vs;
+      vs = recorded_variable l d ∷ rest.vs;
       read = ap (λ (x : List ℕ). variables_in (suc most) x (value_bytes d ++ flat_map value_bytes values)) s.2
           ∙ rw (here, rest.read) refl;
       paths = ap (λ (ps : List (List ℕ)). l.path ∷ ps) rest.paths;

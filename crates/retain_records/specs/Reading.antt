@@ -9,9 +9,10 @@ use Rattle.st_types.specs.declared.kind.Kind.TheVariants.{Sint, Int, Dint, Lint,
 use Rattle.st_types.specs.declared.kind.Kind.TheVariants.{Dword, Lword, Time, Bool as Boolean}
 use Rattle.st_types.specs.Kinds.{row_of, is_signed, holds}
 use Rattle.st_types.specs.Values.{Datum}
-use Rattle.retain_records.specs.Cuts.{◌>>=◌, cut}
+use Rattle.retain_records.specs.Splits.{◌>>=◌, split_at}
 use Rattle.retain_records.specs.Enumerations.{enumeration_in}
 use Rattle.retain_records.specs.Records.{Content, Line, is_path_text, wide_of}
+use Rattle.st_meaning.specs.Operators.{or_kind}
 
 -- the number in the first bytes, and the bytes after it
 abbrev pub number_at : Width → List ℕ → Option (ℕ × List ℕ)
@@ -25,20 +26,15 @@ all_kinds = Sint ∷ Int ∷ Dint ∷ Lint ∷ Usint ∷ Uint ∷ Udint ∷ Ulin
 unfoldable pub kind_of : List ℕ → Option Kind
 kind_of word = find (λ k. bytes_eq (row_of k).keyword word) all_kinds
 
--- the type that is spelled so
-abbrev pub or_kind : Option Kind → Option Kind → Option Kind
-or_kind (Some k) other = Some k
-or_kind None other = other
-
-unfoldable pub type_told : List ℕ → Option Kind
-type_told word = or_kind (kind_of word) (enumeration_in word)
+unfoldable pub kind_spelled : List ℕ → Option Kind
+kind_spelled word = or_kind (kind_of word) (enumeration_in word)
 
 -- a line, and the text after it
 unfoldable pub line_at : List ℕ → Option (Line × List ℕ)
 line_at text = do
-  word ← cut 32 text
-  line ← cut 10 word.1
-  kind ← type_told line.0
+  word ← split_at 32 text
+  line ← split_at 10 word.1
+  kind ← kind_spelled line.0
   if is_path_text word.0 then Some (record { path = word.0; spelling = line.0; kind = kind }, line.1) else None
 
 -- the number that these bits stand for
@@ -57,14 +53,14 @@ pub record RecordedVariable : Type 0 where
   pub spelling : List ℕ
   pub value : Datum
 
--- a line and a value at the front of the two, and what is after them
+-- a line and a value at the front of the two, and the rest of both
 unfoldable pub variable_at : List ℕ → List ℕ → Option (RecordedVariable × List ℕ × List ℕ)
 variable_at text bytes = do
   line ← line_at text
   value ← value_at line.0.kind bytes
   Some (record { path = line.0.path; spelling = line.0.spelling; value = value.0 }, line.1, value.1)
 
--- the lines and their values to the end of both; no more than so many
+-- the lines and their values to the end of both; at most `most` of them
 unfoldable pub variables_in : ℕ → List ℕ → List ℕ → Option (List RecordedVariable)
 variables_in most [] [] = Some []
 variables_in most [] (b ∷ bytes) = None
@@ -105,13 +101,13 @@ decoded body = if nat_le (length body) MAX_RECORD_BODY then (do
 
 -- ---- paths by their offsets
 
--- the path that begins at an offset of a text: what stands there before the first space, or nothing
+-- the path that begins at an offset of a text: the bytes there up to the first space, or nothing
 abbrev pub first_word : Option (List ℕ × List ℕ) → List ℕ
 first_word None = []
 first_word (Some p) = p.0
 
 abbrev pub path_from : List ℕ → ℕ → List ℕ
-path_from text start = first_word (cut 32 (drop start text))
+path_from text start = first_word (split_at 32 (drop start text))
 
 -- the variables that a text and bytes spell, by the offsets of their lines and by their values
 pub record AreVariables (text bytes starts : List ℕ) (values : List Datum) : Type 0 where

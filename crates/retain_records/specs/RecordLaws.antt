@@ -1,5 +1,5 @@
--- A body that is decoded is the record that it spells, and a record is decoded: one spelling a content, and one
--- content a spelling.
+-- A body that is decoded is the record that it spells, and a record is decoded: a content has one spelling, and a
+-- spelling has one content.
 use Rattle.std.proofs.Common.{◌≡◌, ℕ, ◌+◌, ◌^◌, ◌<◌, ◌≤◌, true, false, cond, not, List, [], ◌∷◌, ◌++◌, length, map}
 use Rattle.std.proofs.Common.{take, drop, Option, Some, None, refl, sym, ap, subst, ◌∙◌, append_assoc, arith, inl, inr}
 use Rattle.std.specs.Prelude.{◌==◌, ◌&&◌, IfSome, bytes_eq, nat_le}
@@ -13,13 +13,14 @@ use Rattle.st_types.specs.declared.kind.Kind.{Kind}
 use Rattle.st_types.specs.Values.{IsHeld}
 use Rattle.retain_records.specs.Records.{Content, line_text, text_of, IsLine, is_byte_place, IsLayoutText, moment_code}
 use Rattle.retain_records.specs.Records.{value_bytes, record_bytes, IsRecord}
-use Rattle.retain_records.specs.Cuts.{◌>>=◌}
+use Rattle.retain_records.specs.Splits.{◌>>=◌}
 use Rattle.retain_records.specs.Reading.{number_at, RecordedVariable, variables_in, are_distinct, moment_of, Parts}
 use Rattle.retain_records.specs.Reading.{parts_at, decoded}
 use Rattle.retain_records.specs.FieldLaws.{IsBytes, IsBytes-drop, wide32, wide64, number_takes, number_again}
-use Rattle.retain_records.specs.CutLaws.{bind_some, some_is, when_some, when_kept}
+use Rattle.retain_records.specs.SplitLaws.{bind_some, when_kept}
 use Rattle.retain_records.specs.LineLaws.{line_of, IsSoundVariable, texts, values_bytes, paths_of, variables_take}
 use Rattle.retain_records.specs.LineLaws.{variables_again}
+use Rattle.std.proofs.lemmas.Option.{same_Some, cond_some}
 
 -- ---- paths that differ
 
@@ -105,7 +106,7 @@ parts_take body p fits e =
     let b = bind_some (number_at w32 a.0.1) (λ size. cond (nat_le a.0.0 MOMENT_LIMIT && nat_le size.0 (length size.1))
     (Some (record { moment = moment_of a.0.0; layout = take size.0 size.1; rest = drop size.0 size.1 })) None) p a.2
     in
-    let g = when_some (nat_le a.0.0 MOMENT_LIMIT && nat_le b.0.0 (length b.0.1))
+    let g = cond_some (nat_le a.0.0 MOMENT_LIMIT && nat_le b.0.0 (length b.0.1))
     (record { moment = moment_of a.0.0; layout = take b.0.0 b.0.1; rest = drop b.0.0 b.0.1 }) p b.2 in
     parts_made body a.0.0 a.0.1 b.0.0 b.0.1 p fits a.1 b.1 g.0 g.1
 
@@ -204,7 +205,7 @@ record_made body p vs c short fits first second once is =
       spelled = spelled;
     })
 
--- what is decoded is a record of this content
+-- a decoded body is a record of this content
 pub of_decoded : (body : List ℕ) (c : Content) → IsBytes body → decoded body ≡ Some c → IsRecord body c
 unfolding decoded
 of_decoded body c fits e =
@@ -217,7 +218,7 @@ of_decoded body c fits e =
     let b = bind_some (variables_in (length a.0.layout) a.0.layout a.0.rest)
     (λ all. cond (are_distinct (map (λ v. v.path) all))
     (Some (record { moment = a.0.moment; layout = a.0.layout; values = map (λ v. v.value) all })) None) c a.2 in
-    let g = when_some (are_distinct (paths_of b.0))
+    let g = cond_some (are_distinct (paths_of b.0))
     (record { moment = a.0.moment; layout = a.0.layout; values = map (λ v. v.value) b.0 }) c b.2 in
     record_made body a.0 b.0 c (leb-true (length body) MAX_RECORD_BODY s.0) fits a.1 b.1 g.0 g.1
 
@@ -242,9 +243,9 @@ decoded_of body c h =
     rw all.paths (is_distinct (map (λ l. l.path) layout.lines) layout.once) in
     rw (short, first, second, once, all.found) refl
 
--- one spelling a value, and one value a spelling
+-- a value has one spelling, and a spelling has one value
 pub one_spelling : (a b : List ℕ) (c : Content) → IsRecord a c → IsRecord b c → a ≡ b
 one_spelling a b c h k = h.spelled ∙ sym k.spelled
 
 pub one_content : (body : List ℕ) (c d : Content) → IsRecord body c → IsRecord body d → c ≡ d
-one_content body c d h k = some_is c d (sym (decoded_of body c h) ∙ decoded_of body d k)
+one_content body c d h k = same_Some c d (sym (decoded_of body c h) ∙ decoded_of body d k)

@@ -1,4 +1,4 @@
--- Records: what a body of an area holds, and the bytes that spell it.
+-- Records: the content of an area's body, and the bytes that spell it.
 use Rattle.std.specs.Prelude.{◌≡◌, ◌+◌, ◌<◌, ◌≤◌, nat_le, ◌==◌, ℕ, pos, int_lt, Bool, false, true, ◌&&◌, ◌||◌}
 use Rattle.std.specs.Prelude.{if◌then◌else◌, Option, Some, None}
 use Rattle.std.specs.Prelude.{IfSome, List, [], ◌∷◌, ◌++◌, length, map, bytes_eq, codes}
@@ -11,13 +11,13 @@ use Rattle.st_types.specs.Kinds.{row_of, names_in}
 use Rattle.st_types.specs.UpperNames.{is_upper_name, joined}
 use Rattle.st_types.specs.Values.{Datum, IsHeld}
 
--- what a record holds: the moment of the last row in milliseconds, the layout text, and the values in order
+-- the content of a record: the moment of the last row in milliseconds, the layout text, and the values in order
 pub record Content : Type 0 where
   pub moment : Option ℕ
   pub layout : List ℕ
   pub values : List Datum
 
--- an enumerated type of so many names as it is spelled: its names between parentheses
+-- an enumerated type of `n` names as it is spelled: its names between parentheses
 pub record IsEnumeration (word : List ℕ) (n : ℕ) : Type 0 where
   pub names : List (List ℕ)
   pub spelled : word ≡ 40 ∷ joined names ++ 41 ∷ []
@@ -39,10 +39,10 @@ abbrev pub has_keyword : Kind → Bool
 has_keyword k = is_path_text (row_of k).keyword
 
 -- A type as a layout text spells it: an elementary one by its keyword, an enumerated one by its names. A record knows
--- the types of its text no further, so each enumerated type is the first one.
-pub data Spells (word : List ℕ) (k : Kind) : Type 0 where
-  by_keyword : has_keyword k ≡ true → word ≡ (row_of k).keyword → Spells word k
-  by_names : (n : ℕ) → k ≡ Enumerated n 0 → IsEnumeration word n → Spells word k
+-- no more about the types of its text, so each enumerated type has number 0.
+pub data SpellsKind (word : List ℕ) (k : Kind) : Type 0 where
+  by_keyword : has_keyword k ≡ true → word ≡ (row_of k).keyword → SpellsKind word k
+  by_names : (n : ℕ) → k ≡ Enumerated n 0 → IsEnumeration word n → SpellsKind word k
 
 -- a line of a layout text, with the type that it spells
 pub record Line : Type 0 where
@@ -60,9 +60,9 @@ text_of lines = flat_map line_text lines
 -- a line that a layout text may have
 pub record IsLine (l : Line) : Type 0 where
   pub path : is_path_text l.path ≡ true
-  pub spells : Spells l.spelling l.kind
+  pub spells : SpellsKind l.spelling l.kind
 
--- a text that is lines for variables of these types: each line is sound, and no path stands twice
+-- a text that consists of lines for variables of these types: each line is sound, and no path occurs twice
 pub record IsLayoutText (text : List ℕ) (kinds : List Kind) : Type 0 where
   pub lines : List Line
   pub sound : AllByRecursion IsLine lines
@@ -93,7 +93,7 @@ record_bytes c = to_be_bytes w64 (moment_code c.moment) ++ to_be_bytes w32 (leng
 abbrev pub is_byte_place : Datum → Bool
 is_byte_place d = (names_in d.kind == 0) || int_lt d.number (pos 256)
 
--- what a record may hold: a moment below its limit, values that their types hold, and a line for each of them
+-- the conditions on a record: a moment below its limit, values that their types hold, and a line for each of them
 pub record IsRecordable (c : Content) : Type 0 where
   pub moment : IfSome c.moment (λ t. t < MOMENT_LIMIT)
   pub layout : IsLayoutText c.layout (map (λ d. d.kind) c.values)

@@ -6,7 +6,7 @@ ghost use Rattle.retain_records.specs.Enumerations.{before_last, enumeration_in}
 use crate::names::names_counted;
 use st_types::Kind;
 
-/// What stands before a last byte, where it is this one.
+/// The bytes before the last one, if that is this one.
 fn before_last(mark: u8, bytes: &[u8]) -> Option<&[u8]>
     ensures { option_map (λ x. x.now) result ≡ before_last mark bytes.now }
 {
@@ -14,9 +14,9 @@ fn before_last(mark: u8, bytes: &[u8]) -> Option<&[u8]>
     if *last == mark { Some(before) } else { None }
 }
 
-/// The enumerated type that is spelled so: names between parentheses, with commas between them. Each is an identifier
-/// in upper case of at most 64 characters, and they are at most 65,535. A record knows the type by its names alone, so
-/// it is the first of so many.
+/// The enumerated type with this spelling: names between parentheses, separated by commas. Each is an identifier in
+/// upper case of at most 64 characters, and there are at most 65,535 of them. A record knows the type by its names
+/// alone, so its number is 0.
 pub fn enumeration_in(word: &[u8]) -> Option<Kind>
     ensures { result ≡ enumeration_in word.now }
 {

@@ -7,7 +7,7 @@ ghost use Rattle.retain_records.specs.Records.{Content, IsRecord, value_bytes};
 ghost use Rattle.retain_records.specs.Reading.{decoded};
 ghost use Rattle.retain_records.specs.FieldLaws.{IsBytes};
 
-/// Bytes are decoded to a content exactly where they are a record of it. So a content has one spelling, and a spelling
+/// Bytes are decoded to a content exactly when they are a record of it. So a content has one spelling, and a spelling
 /// has one content.
 pub fn records_have_one_spelling()
     ensures decoded { (body : List ℕ) (c : Content) → IsRecord body c → decoded body ≡ Some c }

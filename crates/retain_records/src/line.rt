@@ -3,10 +3,10 @@
 ghost use Rattle.std.specs.Prelude.{◌≡◌, option_map};
 ghost use Rattle.std.specs.List.{list_all};
 ghost use Rattle.retain_records.specs.Records.{is_path_text, is_visible};
-ghost use Rattle.retain_records.specs.Reading.{kind_of, line_at, type_told};
+ghost use Rattle.retain_records.specs.Reading.{kind_of, line_at, kind_spelled};
 
-use crate::cutting::cut;
 use crate::enumeration::enumeration_in;
+use crate::splitting::split_at;
 use st_types::Kind;
 
 /// A line of a layout text: a path, the spelling of its type, and this type.
@@ -22,9 +22,9 @@ pub(crate) struct Line<'a> {
 pub(crate) fn line_at(text: &[u8]) -> Option<(Line<'_>, &[u8])>
     ensures { option_map (λ p. (record { path = p.0.path.now; spelling = p.0.spelling.now; kind = p.0.kind }, p.1.now)) result ≡ line_at text.now }
 {
-    let (path, behind_path) = cut(b' ', text)?;
-    let (spelling, behind) = cut(b'\n', behind_path)?;
-    let kind = type_told(spelling)?;
+    let (path, behind_path) = split_at(b' ', text)?;
+    let (spelling, behind) = split_at(b'\n', behind_path)?;
+    let kind = kind_spelled(spelling)?;
     if !is_path_text(path) {
         return None;
     }
@@ -47,10 +47,10 @@ fn kind_of(word: &[u8]) -> Option<Kind>
         .find(|kind| kind.row().keyword.as_bytes() == word)
 }
 
-/// The type that is spelled so: an elementary one by its keyword, an enumerated one by its names.
-#[tactic(auto, unfolding(crate::specs::Reading::type_told))]
-fn type_told(word: &[u8]) -> Option<Kind>
-    ensures { result ≡ type_told word.now }
+/// The type with this spelling: an elementary one by its keyword, an enumerated one by its names.
+#[tactic(auto, unfolding(crate::specs::Reading::kind_spelled))]
+fn kind_spelled(word: &[u8]) -> Option<Kind>
+    ensures { result ≡ kind_spelled word.now }
 {
     match kind_of(word) {
         Some(kind) => Some(kind),

@@ -1,4 +1,4 @@
-//! The lines of a layout text by what is written there.
+//! The lines of a layout text by their spelling.
 
 ghost use Rattle.std.specs.Prelude.{◌≡◌, ◌<◌, List, ℕ, length, map, vec_items, IfOk, IfSome};
 ghost use Rattle.std.specs.List.{IsDistinct};
@@ -10,8 +10,8 @@ use indexmap::IndexSet;
 use std::alloc::{AllocError, Global};
 use std::marker::Model;
 
-/// The lines of a layout text by what is written there, with a mark for each, so that a record's lines are found among
-/// them at once and with no memory. Contracts see the lines, in their order.
+/// The lines of a layout text by their spelling, with a mark for each, so that a record's lines are found among them at
+/// once and without memory. Contracts see the lines, in their order.
 #[derive(Drop)]
 pub struct LineIndex {
     pub(crate) lines: IndexSet<Vec<u8>>,
@@ -34,7 +34,7 @@ impl Model for LineIndex {
 }
 
 impl LineIndex {
-    /// The lines of a layout text in which no two are the same.
+    /// The lines of a layout text in which no line occurs twice.
     pub fn new(alloc: Global, layout: &[u8]) -> Result<LineIndex, AllocError>
         requires different { IsDistinct bytes_eq (lines_of layout.now) }
         ensures { IfOk result (λ lines. lines ≡ lines_of layout.now) }
@@ -59,7 +59,7 @@ fn indexed(alloc: Global, layout: &[u8]) -> Result<IndexSet<Vec<u8>>, AllocError
     Ok(lines)
 }
 
-/// The place of the line that is written so.
+/// The place of the line that is written like this.
 pub(crate) fn place_of(lines: &IndexSet<Vec<u8>>, written: &[u8]) -> Option<usize>
     ensures place { result ≡ place_of (map vec_items lines.now.keys) written.now }
     ensures within { IfSome result (λ place. place < length lines.now.keys) }

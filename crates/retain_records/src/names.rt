@@ -1,11 +1,11 @@
-//! Names with commas between them.
+//! Names separated by commas.
 
 ghost use Rattle.std.specs.Prelude.{◌≡◌, ◌&&◌, not};
 ghost use Rattle.std.specs.List.{list_all};
 ghost use Rattle.st_types.specs.UpperNames.{is_letter, is_letter_or_digit, is_upper_name};
-ghost use Rattle.retain_records.specs.Cuts.{names_counted, parted};
+ghost use Rattle.retain_records.specs.Splits.{names_counted, parted};
 
-use crate::cutting::cut;
+use crate::splitting::split_at;
 use st_types::is_spaced;
 use st_types::limits::MAX_NAME_LENGTH;
 
@@ -42,15 +42,15 @@ fn is_upper_name(word: &[u8]) -> bool
     }
 }
 
-/// How many names stand there with commas between them, where each is an identifier in upper case of at most 64
-/// characters, and they are at most 65,535; `None` where they are not so.
+/// How many names these are, separated by commas, if each is an identifier in upper case of at most 64 characters and
+/// there are at most 65,535 of them; `None` otherwise.
 #[tactic(auto, using(crate::proofs::NameLemmas::no_name_here, crate::proofs::NameLemmas::no_room_here, crate::proofs::NameLemmas::name_here, crate::proofs::NameLemmas::no_name_left, crate::proofs::NameLemmas::no_room_left, crate::proofs::NameLemmas::name_left, crate::proofs::CutLemmas::shorter_behind))]
 pub fn names_counted(text: &[u8]) -> Option<u16>
     ensures { result ≡ names_counted (parted 44 text.now) }
 {
     let mut rest = text;
     let mut count: u16 = 0;
-    while let Some((name, behind)) = cut(b',', rest) {
+    while let Some((name, behind)) = split_at(b',', rest) {
         if count == u16::MAX {
             return None;
         }

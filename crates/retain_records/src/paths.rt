@@ -8,12 +8,12 @@ ghost use Rattle.std.specs.Ordering.{nat_cmp};
 ghost use Rattle.retain_records.specs.declared.sizes.TheConstants.{MAX_LINES};
 ghost use Rattle.retain_records.specs.Reading.{are_distinct, neighbours_differ, path_from};
 
-use crate::cutting::cut;
 use crate::sizes::MAX_LINES;
+use crate::splitting::split_at;
 use std::alloc::{AllocError, Global};
 
-/// Room for the offsets of the lines of any layout text, in bytes. A record is read with it, and what it held before
-/// doesn't count.
+/// Room for the offsets of the lines of any layout text, in bytes. It serves for reading a record, and its content
+/// before that doesn't count.
 #[derive(Drop)]
 pub struct LineRoom {
     pub(crate) starts: Vec<u32>,
@@ -22,7 +22,7 @@ pub struct LineRoom {
 }
 
 impl LineRoom {
-    /// It takes memory once; `AllocError` where there is none.
+    /// It allocates once; `AllocError` if that fails.
     pub fn new(alloc: Global) -> Result<LineRoom, AllocError> {
         Ok(LineRoom {
             starts: Vec::with_capacity(alloc, MAX_LINES)?,
@@ -30,8 +30,8 @@ impl LineRoom {
     }
 }
 
-/// Whether no two of the lines that begin at these offsets have one path. It sorts the offsets by their paths, in n log
-/// n steps for n lines, and takes no memory.
+/// Whether no two of the lines that begin at these offsets have the same path. It sorts the offsets by their paths, in
+/// n log n steps for n lines, and allocates nothing.
 pub(crate) fn are_distinct(text: &[u8], starts: &mut [u32]) -> bool
     ensures { result ≡ are_distinct (map (path_from text.now) starts.old) }
 {
@@ -60,12 +60,12 @@ fn neighbours_differ(text: &[u8], starts: &[u32]) -> bool
     true
 }
 
-/// The path of the line that begins at this offset, or nothing where there is none.
+/// The path of the line that begins at this offset, or nothing if there is none.
 fn path_from(text: &[u8], start: u32) -> &[u8]
     ensures { result.now ≡ path_from text.now start }
 {
     let line = text.get(start as usize..).unwrap_or(&[]);
-    match cut(b' ', line) {
+    match split_at(b' ', line) {
         Some((path, _)) => path,
         None => &[],
     }

@@ -17,8 +17,8 @@ struct RecordedVariable<'a> {
     value: Value,
 }
 
-/// Reads lines and their values to the end of both: where the lines begin, and the values. False where these are no
-/// lines with their values; the two lists are left open then. It takes no memory.
+/// Reads lines and their values to the end of both: the offsets of the lines, and the values. False if these aren't
+/// lines with their values; the two lists are unspecified then. It allocates nothing.
 pub(crate) fn read_variables(
     text: &[u8],
     bytes: &[u8],
@@ -50,7 +50,7 @@ pub(crate) fn read_variables(
     bytes_left.is_empty()
 }
 
-/// The line at the front of the text and the value at the front of the bytes, and what stands after them.
+/// The line at the front of the text and the value at the front of the bytes, and the rest after them.
 #[tactic(auto, unfolding(crate::specs::Reading::variable_at))]
 fn variable_at<'a>(
     text: &'a [u8],
@@ -74,7 +74,7 @@ fn variable_at<'a>(
     Some((variable, text_behind, bytes_behind))
 }
 
-/// Adds an item where there is room for it.
+/// Adds an item if there is room for it.
 fn add<T: Copy>(items: &mut Vec<T>, item: T)
     requires { vec_len items.old < vec_capacity items.old }
     ensures added { items.new.items ≡ items.old.items ++ item ∷ [] }

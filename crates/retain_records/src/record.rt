@@ -1,4 +1,4 @@
-//! Records: what is kept of a life.
+//! Records: the variables of a life that are kept.
 
 ghost use Rattle.std.specs.Prelude.{◌≡◌, ◌≤◌, [], length, nat_lt, IfOk, IsTrue, false, None, Some};
 ghost use Rattle.std.specs.Vec.{vec_capacity};
@@ -15,8 +15,8 @@ use st_types::limits::MAX_RECORD_BODY;
 use std::alloc::{AllocError, Global};
 use std::marker::Model;
 
-/// What a record holds: the moment of the last row, the layout text, and the values in its order. It has room for every
-/// record.
+/// The content of a record: the moment of the last row, the layout text, and the values in its order. It has room for
+/// every record.
 pub struct Record {
     moment: Option<u64>,
     layout: Vec<u8>,
@@ -66,8 +66,8 @@ impl Record {
         &self.values
     }
 
-    /// No moment, no layout text and no values, and room for every record; `AllocError` where there is no memory for
-    /// it. No other call of a record takes memory.
+    /// No moment, no layout text and no values, and room for every record; `AllocError` if an allocation fails. No
+    /// other call of a record allocates.
     pub fn with_room(alloc: Global) -> Result<Record, AllocError>
         ensures { IfOk result (λ r. r ≡ record { moment = None; layout = []; values = [] }) }
     {
@@ -78,7 +78,7 @@ impl Record {
         })
     }
 
-    /// Makes it hold these. It takes no memory.
+    /// Makes it hold these. It allocates nothing.
     pub fn set(&mut self, moment: Option<u64>, layout: &[u8], values: &[Value])
         requires sound { IsRecordable (record { moment = moment; layout = layout.now; values = values.now }) }
         requires short { length (record_bytes (record { moment = moment; layout = layout.now; values = values.now }))
@@ -90,7 +90,7 @@ impl Record {
         fill(&mut self.values, values);
     }
 
-    /// Reads a body: false where it is no record, and what this record holds is left open then. It takes no memory.
+    /// Reads a body: false if it isn't a record, and the content of this record is unspecified then. It allocates nothing.
     pub fn read(&mut self, body: &[u8], lines: &mut LineRoom) -> bool
         ensures yes { IsTrue result → decoded body.now ≡ Some self.new }
         ensures no { result ≡ false → decoded body.now ≡ None }
@@ -126,7 +126,7 @@ fn is_too_long(body: &[u8]) -> bool
     MAX_RECORD_BODY < body.len()
 }
 
-/// Puts these items in place of the ones that were there.
+/// Replaces the old items with these.
 fn fill<T: Copy>(items: &mut Vec<T>, from: &[T])
     requires { length from.now ≤ vec_capacity items.old }
     ensures items { items.new.items ≡ from.now }

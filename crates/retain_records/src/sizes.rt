@@ -4,7 +4,7 @@ ghost use Rattle.std.specs.Prelude.{◌≡◌};
 
 use st_types::limits::MAX_RECORD_BODY;
 
-/// The longest layout text of a record in bytes: what a body has room for beside its moment and the text's length.
+/// The longest layout text of a record in bytes: a body's room besides its moment and the text's length.
 pub(crate) const MAX_LAYOUT_BYTES: usize = MAX_RECORD_BODY - 12;
 
 /// The most lines of a layout text. A line has at least six bytes.

@@ -8,8 +8,7 @@ ghost use Rattle.retain_records.specs.Records.{moment_code, value_bytes, record_
 use crate::value_bytes::{bits, width};
 use st_types::Value;
 
-/// Writes the record to the front of the buffer, which has room for it, and gives its length in bytes. It takes no
-/// memory.
+/// Writes the record to the front of the buffer, which has room for it, and gives its length in bytes. It allocates nothing.
 pub fn spell(moment: Option<u64>, layout: &[u8], values: &[Value], buffer: &mut [u8]) -> usize
     requires moment { IfSome moment (λ t. t < MOMENT_LIMIT) }
     requires layout { length layout.now < 2 ^ 32 }

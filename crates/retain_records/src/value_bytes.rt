@@ -1,4 +1,4 @@
-//! Values as bytes: big-endian, two's complement, a BOOL one byte 0 or 1.
+//! Values as bytes: big-endian, two's complement; a BOOL is one byte 0 or 1.
 
 ghost use Rattle.std.specs.Prelude.{◌≡◌, ◌<◌, ◌^◌, length, option_map, pos, ◌≤ℤ◌};
 ghost use Rattle.std.specs.Int.{byte_len, cast_unsigned, from_be_bytes};

@@ -1,10 +1,10 @@
 //! The lines of a layout text, as they are written.
 
 ghost use Rattle.std.specs.Prelude.{◌≡◌, option_map};
-ghost use Rattle.retain_records.specs.Told.{words_at};
+ghost use Rattle.retain_records.specs.ContentLines.{words_at};
 ghost use Rattle.retain_records.specs.Lines.{line_at};
 
-use crate::cutting::cut;
+use crate::splitting::split_at;
 
 /// The path and the type of the first line of a layout text, as they are written, and the text after it.
 #[derive(Clone, Copy)]
@@ -14,13 +14,13 @@ pub struct Words<'a> {
     pub behind: &'a [u8],
 }
 
-/// The words of the first line of a layout text; none where no line `PATH TYPE` is whole.
+/// The words of the first line of a layout text; none if no line `PATH TYPE` is whole.
 pub fn words_at(text: &[u8]) -> Option<Words<'_>>
     ensures { option_map (λ w. record { path = w.path.now; spelling = w.spelling.now; behind = w.behind.now }) result
         ≡ words_at text.now }
 {
-    let (path, rest) = cut(b' ', text)?;
-    let (spelling, behind) = cut(b'\n', rest)?;
+    let (path, rest) = split_at(b' ', text)?;
+    let (spelling, behind) = split_at(b'\n', rest)?;
     Some(Words {
         path,
         spelling,

@@ -12,8 +12,8 @@ use Rattle.st_meaning.specs.Layouts.{Enumerations}
 use Rattle.retain_show.specs.declared.fate.Fate.{Fate}
 use Rattle.retain_show.specs.declared.fate.Changes.{Changes}
 use Rattle.retain_show.specs.Against.{Line, changes_shown, dropped_shown, was_shown, with_value, word_of}
-use Rattle.retain_show.specs.Wanted.{Matched, all_changes, all_shown, dropped_in, fate_in, kept_line, line_view, match_shown, matched, told_in}
-use Rattle.retain_show.specs.Wanted.{own_line}
+use Rattle.retain_show.specs.InitialLines.{Matched, all_changes, all_shown, dropped_in, fate_in, kept_line, line_view, match_shown, matched, restored_in}
+use Rattle.retain_show.specs.InitialLines.{own_line}
 
 first_here : (b : Bool) (d x : Datum) (l : KeptLine) (o : Option KeptLine)
     → ◌≡◌ {A = Option Datum} (Some x) (if b then Some (numbered_by d l) else None)
@@ -34,7 +34,7 @@ module _ (w : Line) (ls : List lines.Line) (i : ℕ) (line : lines.Line) (small 
     (is : line ≡ get_or ls i line) where
   -- the next line is its own
   pub own_here : (x : Datum) (found : Option KeptLine)
-      → ◌≡◌ {A = Option Datum} (Some x) (told_in w.path w.spelling w.value (kept_line (line_view line)))
+      → ◌≡◌ {A = Option Datum} (Some x) (restored_in w.path w.spelling w.value (kept_line (line_view line)))
       → own_line (map line_view (drop i ls)) w ≡ found
       → ◌≡◌ {A = Option Datum} (Some x) (option_map (numbered_by w.value) found)
   own_here x found e so_far =
@@ -45,7 +45,7 @@ module _ (w : Line) (ls : List lines.Line) (i : ℕ) (line : lines.Line) (small 
 
   -- the next line is not
   pub own_not : (found : Option KeptLine)
-      → ◌≡◌ {A = Option Datum} None (told_in w.path w.spelling w.value (kept_line (line_view line)))
+      → ◌≡◌ {A = Option Datum} None (restored_in w.path w.spelling w.value (kept_line (line_view line)))
       → own_line (map line_view (drop i ls)) w ≡ found
       → own_line (map line_view (drop (i + 1) ls)) w ≡ found
   own_not found e so_far =
@@ -54,7 +54,7 @@ module _ (w : Line) (ls : List lines.Line) (i : ℕ) (line : lines.Line) (small 
       (own_line (map line_view (drop (i + 1) ls)) w) e
       ∙ ap (λ rest. own_line (map line_view rest) w) (sym (left ls i line small is)) ∙ so_far
 
--- what becomes of one variable more
+-- the fate of one more variable
 pub fates_more : (rs : List Line) (ls : List lines.Line) (i : ℕ) (line : lines.Line) (kept pushed whole : List Fate)
     (fate : Fate) (m : Matched) → i < length ls → get_or ls i line ≡ line → pushed ≡ kept ++ fate ∷ [] → fate ≡ fate_in m
     → m ≡ matched rs (line_view line)

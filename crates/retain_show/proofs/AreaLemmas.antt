@@ -11,7 +11,7 @@ use Rattle.retain_store.proofs.AreaLemmas.{recovered_shut, same_area, shut_area}
 use Rattle.retain_show.specs.declared.areas.TheConstants.{SECOND}
 use Rattle.retain_show.specs.Shown.{alone_shown, area_shown, areas_shown, both_shown}
 
--- what is found is the one area
+-- the only area is shown
 alone_is : (a : Area) → alone_shown (alone a) ≡ area_shown a
 alone_is Closed = refl
 alone_is Damaged = refl

@@ -7,7 +7,7 @@ use Rattle.st_types.specs.Values.{Datum}
 use Rattle.retain_show.specs.Shown.{line_shown, lines_shown}
 use Rattle.st_print.proofs.AppendLemmas.{appends_both}
 
--- one part more of a list of parts
+-- one more part of a list of parts
 pub one_more : (kept pushed left behind all : List (List ℕ)) (x : List ℕ) → pushed ≡ kept ++ x ∷ [] → left ≡ x ∷ behind
     → kept ++ left ≡ all → pushed ++ behind ≡ all
 one_more kept pushed left behind all x is first so_far =
@@ -19,12 +19,12 @@ pub last_one : (kept pushed left all : List (List ℕ)) (x : List ℕ) → pushe
 last_one kept pushed left all x is first so_far = is ∙ ap (λ z. kept ++ z) (sym first) ∙ so_far
 
 -- a part that was written before
-pub behind_part : {T E : Type 0} (result : Result T E) (first second third : Option (List ℕ)) (x y : List ℕ)
+pub after_part : {T E : Type 0} (result : Result T E) (first second third : Option (List ℕ)) (x y : List ℕ)
     → Appends first second x → OnOk result (Appends second third y) → OnOk result (Appends first third (x ++ y))
-behind_part (Ok v) first second third x y wrote more = appends_both first second third x y wrote more
-behind_part (Err e) first second third x y wrote more = tt
+after_part (Ok v) first second third x y wrote more = appends_both first second third x y wrote more
+after_part (Err e) first second third x y wrote more = tt
 
--- no line is left where no value is
+-- no line is left if no value is
 pub none_left : (lines : List (List ℕ)) → lines_shown lines [] ≡ []
 none_left [] = refl
 none_left (line ∷ lines) = refl

@@ -1,4 +1,4 @@
--- What a warm start of a text would make of a retain file, told before it is done.
+-- The outcome that a warm start of a text would have with a retain file, shown before it is done.
 use Rattle.std.specs.Prelude.{ℕ, ◌+◌, ◌-◌, ◌^◌, ◌==◌, if◌then◌else◌, Bool, true, false, List, [], ◌∷◌, ◌++◌}
 use Rattle.std.specs.Prelude.{Option, Some, None, is_some, is_none, codes, length, map, filter, bytes_eq}
 use Rattle.std.specs.List.{find, flat_map}
@@ -9,10 +9,10 @@ use Rattle.st_meaning.specs.declared.plan.PlanVariable.{PlanVariable}
 use Rattle.st_meaning.specs.Layouts.{Enumerations, layout_text, path_text, type_text}
 use Rattle.st_meaning.specs.Restarts.{KeptLine, is_line_of, restarted}
 use Rattle.retain_store.specs.Recovered.{Recovered, TooLong, Refused, Nothing, Found}
-use Rattle.retain_records.specs.Cuts.{parted}
+use Rattle.retain_records.specs.Splits.{parted}
 use Rattle.plan.specs.declared.plan.Plan.{Plan}
 use Rattle.plan.specs.PlanViews.{plan_view}
-use Rattle.retain_records.specs.Told.{Words, words_at, told}
+use Rattle.retain_records.specs.ContentLines.{Words, words_at, kept_in}
 use Rattle.retain_show.specs.declared.fate.Changes.{Changes}
 use Rattle.retain_show.specs.declared.fate.Fate.{Fate}
 use Rattle.retain_show.specs.declared.fate.Fate.TheVariants.{Carried, New, Retyped}
@@ -41,7 +41,7 @@ typed_shown l = l.spelling ++ codes " = " ++ value_text (parted 44 (inner l.spel
 abbrev pub with_value : Enumerations → List ℕ → List ℕ → Datum → List ℕ
 with_value types path spelling value = path ++ codes " " ++ spelling ++ codes " = " ++ value_text types value
 
--- A variable with a line of its own is carried. Where a line has its path alone, it is retyped, and else it is new.
+-- A variable with a line of its own is carried. If a line has only its path, it is retyped, and otherwise it is new.
 abbrev pub fate_by : Bool → Bool → Fate
 fate_by true has_path = Carried
 fate_by false true = Retyped
@@ -52,7 +52,7 @@ word_of Carried = codes "carried "
 word_of New = codes "new "
 word_of Retyped = codes "retyped "
 
--- what the other line says
+-- the old type and value, as the other line has them
 abbrev pub was_shown : Fate → Option Line → List ℕ
 was_shown Retyped (Some l) = codes ", was " ++ typed_shown l
 was_shown fate other = []
@@ -88,13 +88,13 @@ changes_shown c = count_shown c.carried (codes " carried, ") ++ count_shown c.ne
 abbrev pub dropped_shown : Line → List ℕ
 dropped_shown l = codes "dropped " ++ l.path ++ codes " " ++ typed_shown l ++ 10 ∷ []
 
--- The retained variables of a text, with these enumerated types, against the lines of a record: what a start is told,
--- and how they are written.
+-- The retained variables of a text, with these enumerated types, against the lines of a record: the lines that a
+-- start takes, and how they are written.
 module _ (types : Enumerations) (kept : List KeptLine) (lines : List Line) where
   abbrev pub fate_of : PlanVariable → Fate
   fate_of v = fate_by (is_some (find (is_line_of types v) kept)) (is_some (line_with_path (path_text v.path) lines))
 
-  -- what becomes of it, the value that it starts with, and what its line was, where that had another type
+  -- its fate, the value that it starts with, and its old line if that had another type
   abbrev pub variable_shown : PlanVariable → List ℕ
   variable_shown v = word_of (fate_of v)
       ++ with_value types (path_text v.path) (type_text types v.initial.kind) (restarted types kept v)
@@ -113,7 +113,7 @@ module _ (types : Enumerations) (kept : List KeptLine) (lines : List Line) where
   fates_shown vs =
       flat_map variable_shown vs ++ flat_map dropped_shown (dropped_lines vs) ++ changes_shown (changes_in vs)
 
--- what the start saves: nothing where the layout text is the same; S4 where no generation is left
+-- the record that the start saves: nothing if the layout text is the same; S4 if no generation is left
 abbrev pub saved_shown : Bool → ℕ → List ℕ
 saved_shown is_same generation =
     if is_same then codes "saves nothing" ++ 10 ∷ []
@@ -124,27 +124,27 @@ saved_shown is_same generation =
 abbrev pub retained : List PlanVariable → List PlanVariable
 retained vs = filter (λ v. v.retained) vs
 
--- the same of all variables, by what a file is recovered to; nothing is shown of a file that is refused
+-- the same for all variables, by the content that a file is recovered to; nothing is shown of a file that is refused
 abbrev pub against : Enumerations → List PlanVariable → Recovered → List ℕ
 against types vs Nothing =
     shown_text Nothing ++ fates_shown types [] [] (retained vs) ++ saved_shown true 0
 against types vs (Found generation c) = generation_shown generation ++ moment_shown c.moment
-    ++ fates_shown types (told c).lines (valued_lines c.layout c.values) (retained vs)
+    ++ fates_shown types (kept_in c).lines (valued_lines c.layout c.values) (retained vs)
     ++ saved_shown (bytes_eq c.layout (layout_text types vs)) generation
 against types vs TooLong = []
 against types vs Refused = []
 
--- What a warm start of a plan would make of a file. The value of each variable is the one that `start` takes.
+-- The outcome that a warm start of a plan would have with a file. The value of each variable is the one that `start` takes.
 abbrev pub against_shown : Plan → Recovered → List ℕ
 against_shown plan file = against (plan_view plan).enumerations plan.variables.items file
 
--- how many there are of each where a record of another layout text is found
+-- how many there are of each if a record of another layout text is found
 abbrev pub changes : Enumerations → List PlanVariable → Recovered → Option Changes
 changes types vs (Found generation c) =
     if bytes_eq c.layout (layout_text types vs) then None
-    else Some (changes_in types (told c).lines (valued_lines c.layout c.values) (retained vs))
+    else Some (changes_in types (kept_in c).lines (valued_lines c.layout c.values) (retained vs))
 changes types vs file = None
 
--- What a warm start of a plan over another layout would make of a file.
+-- The changes that a warm start of a plan over another layout would make with a file.
 abbrev pub changes_against : Plan → Recovered → Option Changes
 changes_against plan file = changes (plan_view plan).enumerations plan.variables.items file

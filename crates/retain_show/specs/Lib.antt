@@ -1,3 +1,3 @@
 pub mod Shown
 pub mod Against
-pub mod Wanted
+pub mod InitialLines

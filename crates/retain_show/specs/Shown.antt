@@ -1,4 +1,4 @@
--- What is shown of a retain file.
+-- The text that shows a retain file.
 use Rattle.std.specs.Prelude.{ℕ, ◌-◌, nat_lt, if◌then◌else◌, List, [], ◌∷◌, ◌++◌, Option, Some, None, codes, length}
 use Rattle.std.specs.Prelude.{take, drop}
 use Rattle.std.specs.Fmt.{decimal}
@@ -7,18 +7,18 @@ use Rattle.st_print.specs.Spelling.{value_text}
 use Rattle.retain_store.specs.declared.shape.TheConstants.{FILE_BYTES}
 use Rattle.retain_show.specs.declared.areas.TheConstants.{SECOND}
 use Rattle.retain_records.specs.Records.{Content}
-use Rattle.retain_records.specs.Cuts.{cut, parted}
+use Rattle.retain_records.specs.Splits.{split_at, parted}
 use Rattle.retain_store.specs.Recovered.{Area, Closed, Damaged, Open, Recovered, TooLong, Refused, Nothing, Found, area}
 
--- what stands behind the first blank of a line `PATH TYPE`
-abbrev pub behind : Option (List ℕ × List ℕ) → List ℕ
-behind None = []
-behind (Some p) = p.1
+-- the text after the first blank of a line `PATH TYPE`
+abbrev pub after_blank : Option (List ℕ × List ℕ) → List ℕ
+after_blank None = []
+after_blank (Some p) = p.1
 
 abbrev pub spelling_of : List ℕ → List ℕ
-spelling_of line = behind (cut 32 line)
+spelling_of line = after_blank (split_at 32 line)
 
--- what stands between the first byte and the last
+-- the bytes between the first and the last one
 abbrev pub inner : List ℕ → List ℕ
 inner word = take (length word - 2) (drop 1 word)
 
@@ -49,7 +49,7 @@ abbrev pub record_shown : ℕ → Content → List ℕ
 record_shown generation c =
     generation_shown generation ++ moment_shown c.moment ++ lines_shown (parted 10 c.layout) c.values
 
--- the last record, where there is one; nothing is shown of a file that is refused
+-- the last record, if there is one; nothing is shown of a file that is refused
 abbrev pub shown_text : Recovered → List ℕ
 shown_text Nothing = codes "no record" ++ 10 ∷ []
 shown_text (Found generation c) = record_shown generation c
@@ -68,7 +68,7 @@ area_shown Closed = codes "closed" ++ 10 ∷ []
 area_shown Damaged = codes "damaged" ++ 10 ∷ []
 area_shown (Open generation c) = record_shown generation c
 
--- what is found of a file of which the other area is closed
+-- the one area of a file whose other area is closed, as it is shown
 abbrev pub alone_shown : Recovered → List ℕ
 alone_shown Nothing = area_shown Closed
 alone_shown (Found generation c) = area_shown (Open generation c)

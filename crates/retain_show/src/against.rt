@@ -1,4 +1,4 @@
-//! What a warm start of a text would make of a retain file.
+//! The outcome that a warm start of a text would have with a retain file.
 
 ghost use Rattle.std.specs.Prelude.{◌≡◌, ◌≢◌, ℕ, IfOk, IfErr, OnOk, map};
 ghost use Rattle.std.specs.Vec.{vec_items};
@@ -9,13 +9,13 @@ ghost use Rattle.retain_store.specs.Opening.{RefusesFor};
 ghost use Rattle.retain_store.specs.Recovered.{Found, Nothing, recovered};
 ghost use Rattle.retain_show.specs.Shown.{IsAccepted};
 ghost use Rattle.retain_show.specs.Against.{against, against_shown, changes, changes_against, valued_lines, retained, saved_shown};
-ghost use Rattle.retain_show.specs.Wanted.{record_lines, text_lines, types_of, wanted};
+ghost use Rattle.retain_show.specs.InitialLines.{record_lines, text_lines, types_of, initial_line};
 
 use crate::changes::{Sides, changes, write_changes};
 use crate::contents::opened;
 use crate::fate::Changes;
+use crate::initial_lines::retained;
 use crate::record::{write_generation, write_moment};
-use crate::wanted::retained;
 use crate::written_lines::valued_lines;
 use plan::Plan;
 use retain_store::{Record, StoreFault};
@@ -25,7 +25,7 @@ use std::alloc::Global;
 use std::io;
 use std::io::Write;
 
-/// What a text says of its variables.
+/// The variables of a text, as a start needs them.
 #[derive(Clone, Copy)]
 struct Text<'a> {
     /// The names of each enumerated type, in the order of the types' numbers.
@@ -36,7 +36,7 @@ struct Text<'a> {
     layout: &'a [u8],
 }
 
-/// What the text of a plan says of its variables.
+/// The variables of a plan's text.
 fn text_of(plan: &Plan) -> Text<'_>
     ensures types { map vec_items result.types.now ≡ (plan_view plan.now).enumerations }
     ensures variables { result.variables.now ≡ plan.now.variables.items }
@@ -49,7 +49,7 @@ fn text_of(plan: &Plan) -> Text<'_>
     }
 }
 
-/// Writes what a start saves over a record of that generation.
+/// Writes which record a start saves over one of that generation.
 fn write_saved<W: Write>(out: &mut W, is_same: bool, generation: u64) -> io::Result<()>
     ensures { OnOk result (Appends (W.contents out.old) (W.contents out.new) (saved_shown is_same generation)) }
 {
@@ -63,7 +63,7 @@ fn write_saved<W: Write>(out: &mut W, is_same: bool, generation: u64) -> io::Res
     write!(out, "saves generation {next}\n")
 }
 
-/// Writes what a start makes of a file without a record.
+/// Writes the outcome of a start with a file without a record.
 fn write_first<W: Write>(alloc: Global, out: &mut W, text: &Text<'_>) -> io::Result<()>
     ensures { OnOk result (Appends (W.contents out.old) (W.contents out.new)
         (against (map vec_items text.now.types.now) text.now.variables.now Nothing)) }
@@ -82,7 +82,7 @@ fn write_first<W: Write>(alloc: Global, out: &mut W, text: &Text<'_>) -> io::Res
 fn sides_with<'a>(alloc: Global, text: &Text<'a>, last: &Record) -> io::Result<Sides<'a>>
     ensures types { IfOk result (λ sides. types_of sides ≡ map vec_items text.now.types.now) }
     ensures wanted { IfOk result (λ sides. text_lines sides
-        ≡ map (wanted (map vec_items text.now.types.now)) (retained text.now.variables.now)) }
+        ≡ map (initial_line (map vec_items text.now.types.now)) (retained text.now.variables.now)) }
     ensures lines { IfOk result (λ sides. record_lines sides ≡ valued_lines last.now.layout last.now.values) }
 {
     Ok(Sides {
@@ -92,7 +92,7 @@ fn sides_with<'a>(alloc: Global, text: &Text<'a>, last: &Record) -> io::Result<S
     })
 }
 
-/// Writes what a start makes of a file with this record.
+/// Writes the outcome of a start with a file with this record.
 fn write_next<W: Write>(
     alloc: Global,
     out: &mut W,
@@ -112,7 +112,7 @@ fn write_next<W: Write>(
     write_saved(out, is_same, generation)
 }
 
-/// What a start makes of a file without a record, as a text; S5 out of memory.
+/// The outcome of a start with a file without a record, as a text; S5 if an allocation fails.
 fn first_text(alloc: Global, text: &Text<'_>) -> Result<Vec<u8>, StoreFault>
     ensures told { IfOk result (λ shown. shown.items
         ≡ against (map vec_items text.now.types.now) text.now.variables.now Nothing) }
@@ -125,7 +125,7 @@ fn first_text(alloc: Global, text: &Text<'_>) -> Result<Vec<u8>, StoreFault>
     }
 }
 
-/// What a start makes of a file with this record, as a text; S5 out of memory.
+/// The outcome of a start with a file with this record, as a text; S5 if an allocation fails.
 fn next_text(
     alloc: Global,
     text: &Text<'_>,
@@ -144,7 +144,7 @@ fn next_text(
     }
 }
 
-/// What a warm start of the text makes of the bytes of a file.
+/// The outcome of a warm start of the text with the bytes of a file.
 fn text_against(alloc: Global, text: &Text<'_>, file: Vec<u8>) -> Result<Vec<u8>, StoreFault>
     requires layout { text.now.layout.now ≡ layout_text (map vec_items text.now.types.now) text.now.variables.now }
     ensures told { IfOk result (λ shown. shown.items
@@ -160,13 +160,13 @@ fn text_against(alloc: Global, text: &Text<'_>, file: Vec<u8>) -> Result<Vec<u8>
     }
 }
 
-/// What a warm start of the plan would make of a file, as a text: the generation of the last record and its moment, or
-/// `no record`; a line for each RETAIN variable of the plan, in order, `carried PATH TYPE = VALUE`,
+/// The outcome that a warm start of the plan would have with a file, as a text: the generation of the last record and
+/// its moment, or `no record`; a line for each RETAIN variable of the plan, in order, `carried PATH TYPE = VALUE`,
 /// `new PATH TYPE = VALUE` or `retyped PATH TYPE = VALUE, was TYPE = VALUE`; a line `dropped PATH TYPE = VALUE` for each
 /// line of the record whose path none of them has; how many there are of each; and `saves generation N`,
 /// `saves nothing` or `fault S4`.
 ///
-/// S1 where the file is too long, S2 where it is damaged, S5 out of memory.
+/// S1 if the file is too long, S2 if it is damaged, S5 if an allocation fails.
 pub fn shown_against(alloc: Global, plan: &Plan, file: Vec<u8>) -> Result<Vec<u8>, StoreFault>
     ensures told { IfOk result (λ text. text.items ≡ against_shown plan.now (recovered file.items)) }
     ensures accepted { IfOk result (λ _. IsAccepted (recovered file.items)) }
@@ -176,7 +176,7 @@ pub fn shown_against(alloc: Global, plan: &Plan, file: Vec<u8>) -> Result<Vec<u8
     text_against(alloc, &text_of(plan), file)
 }
 
-/// How many variables and lines there are of each sort where this record is of another layout text than the text.
+/// How many variables and lines there are of each sort if this record's layout text is not the text's own.
 fn changes_over(alloc: Global, text: &Text<'_>, last: &Record) -> io::Result<Option<Changes>>
     requires layout { text.now.layout.now ≡ layout_text (map vec_items text.now.types.now) text.now.variables.now }
     ensures { IfOk result (λ found. (generation : ℕ) → found
@@ -214,9 +214,9 @@ fn text_changes(
 }
 
 /// How many variables a warm start of the plan would carry over from a file and how many not, and how many lines of its
-/// record it would drop; none where the file has no record, or one of the plan's own layout text.
+/// record it would drop; none if the file has no record, or one of the plan's own layout text.
 ///
-/// S1 where the file is too long, S2 where it is damaged, S5 out of memory.
+/// S1 if the file is too long, S2 if it is damaged, S5 if an allocation fails.
 pub fn changes_against(
     alloc: Global,
     plan: &Plan,

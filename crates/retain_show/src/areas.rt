@@ -27,7 +27,7 @@ fn closed_at(alloc: Global, file: &[u8], at: usize) -> Result<Vec<u8>, AllocErro
     Ok(copy)
 }
 
-/// What an area holds, of a file in which the other one is closed.
+/// The content of an area, of a file in which the other one is closed.
 fn area_of(alloc: Global, file: Vec<u8>) -> Result<Vec<u8>, StoreFault>
     requires { length file.items ≡ FILE_BYTES }
     ensures told { IfOk result (λ text. text.items ≡ alone_shown (recovered file.items)) }
@@ -36,7 +36,7 @@ fn area_of(alloc: Global, file: Vec<u8>) -> Result<Vec<u8>, StoreFault>
     let store = match opened(alloc, file) {
         Ok(store) => store,
         Err(StoreFault::Damaged) => return text_of(alloc, b"damaged\n"),
-        // No other fault comes of a whole file in memory.
+        // A whole file in memory gives no other fault.
         Err(_) => return Err(StoreFault::NoMemory),
     };
     match store.last() {
@@ -56,10 +56,10 @@ fn write_both<W: Write>(out: &mut W, first: &[u8], second: &[u8]) -> io::Result<
     out.write_all(second)
 }
 
-/// What both areas of a file hold, as a text: of each whether it is closed or damaged, or its record as `shown` tells it;
-/// `no areas` where the file is too short for them.
+/// The content of both areas of a file, as a text: for each, whether it is closed or damaged, or its record as `shown`
+/// writes it; `no areas` if the file is too short for them.
 ///
-/// S1 where the file is too long, S5 out of memory.
+/// S1 if the file is too long, S5 if an allocation fails.
 pub fn shown_areas(alloc: Global, file: &[u8]) -> Result<Vec<u8>, StoreFault>
     ensures told { IfOk result (λ text. text.items ≡ areas_shown file.now) }
     ensures refused { IfErr result (λ fault. RefusesFor fault (recovered file.now)) }

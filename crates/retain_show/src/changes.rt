@@ -1,12 +1,12 @@
-//! What a warm start makes of the variables of a text.
+//! The changes that a warm start makes to the variables of a text.
 
 ghost use Rattle.std.specs.Prelude.{◌≡◌, ◌++◌, IfOk, OnOk, Some, None, filter, length, map, option_map};
 ghost use Rattle.std.specs.List.{flat_map};
 ghost use Rattle.std.specs.Vec.{vec_items};
 ghost use Rattle.std.specs.Io.KnownBytes.{Appends};
 ghost use Rattle.retain_show.specs.Against.{dropped_shown, typed_shown, was_shown, with_value};
-ghost use Rattle.retain_show.specs.Wanted.{all_changes, all_shown, fate_in, line_view, match_shown, match_view, matched};
-ghost use Rattle.retain_show.specs.Wanted.{record_lines, text_lines, types_of};
+ghost use Rattle.retain_show.specs.InitialLines.{all_changes, all_shown, fate_in, line_view, match_shown, match_view, matched};
+ghost use Rattle.retain_show.specs.InitialLines.{record_lines, text_lines, types_of};
 
 use crate::fate::{Changes, Fate};
 use crate::lines::names_of_type;
@@ -48,7 +48,7 @@ fn write_typed<W: Write>(alloc: Global, out: &mut W, line: &Line) -> io::Result<
     write_value(out, line.value, &types)
 }
 
-/// Writes what the line of a retyped variable was.
+/// Writes the old line of a retyped variable.
 fn write_was<W: Write>(
     alloc: Global,
     out: &mut W,
@@ -113,7 +113,7 @@ fn write_all_matches<W: Write>(alloc: Global, out: &mut W, sides: &Sides<'_>) ->
     Ok(())
 }
 
-/// What becomes of each variable.
+/// The fate of each variable.
 fn fates(alloc: Global, sides: &Sides<'_>) -> Result<Vec<Fate>, AllocError>
     ensures { IfOk result
         (λ fates. fates.items ≡ map fate_in (map (matched (record_lines sides.now)) (text_lines sides.now))) }

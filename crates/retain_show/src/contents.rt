@@ -1,4 +1,4 @@
-//! What a file holds.
+//! The content of a file.
 
 ghost use Rattle.std.specs.Prelude.{◌≡◌, ◌≢◌, IfOk, IfErr};
 ghost use Rattle.retain_store.specs.Opening.{RefusesFor};
@@ -28,10 +28,10 @@ pub(crate) fn opened(alloc: Global, file: Vec<u8>) -> Result<Store<SimDisk>, Sto
     }
 }
 
-/// What a retain file holds, as a text: `no record`; or the generation of the last record, the moment of its last row in
-/// milliseconds, and a line `PATH TYPE = VALUE` for each RETAIN variable, in order.
+/// The content of a retain file, as a text: `no record`; or the generation of the last record, the moment of its last
+/// row in milliseconds, and a line `PATH TYPE = VALUE` for each RETAIN variable, in order.
 ///
-/// S1 where the file is too long, S2 where it is damaged, S5 out of memory.
+/// S1 if the file is too long, S2 if it is damaged, S5 if an allocation fails.
 pub fn shown(alloc: Global, file: Vec<u8>) -> Result<Vec<u8>, StoreFault>
     ensures told { IfOk result (λ text. text.items ≡ shown_text (recovered file.items)) }
     ensures accepted { IfOk result (λ _. IsAccepted (recovered file.items)) }

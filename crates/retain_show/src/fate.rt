@@ -1,4 +1,4 @@
-//! What a warm start makes of a variable.
+//! The fate of a variable at a warm start.
 
 ghost use Rattle.std.specs.Prelude.{◌≡◌, OnOk};
 ghost use Rattle.std.specs.Io.KnownBytes.{Appends};
@@ -7,7 +7,7 @@ ghost use Rattle.retain_show.specs.Against.{changes_of, changes_shown, count_of,
 use std::io;
 use std::io::Write;
 
-/// What a warm start makes of a retained variable.
+/// The fate of a retained variable at a warm start.
 #[derive(Clone, Copy, Debug, PartialEq, Eq, Drop)]
 pub enum Fate {
     /// It takes the value of its line.
@@ -19,7 +19,7 @@ pub enum Fate {
 }
 
 impl Fate {
-    /// What becomes of a variable by whether it has a line of its own, and whether a line has its path.
+    /// The fate of a variable by whether it has a line of its own, and whether a line has its path.
     pub(crate) fn by(has_own: bool, has_path: bool) -> Fate
         ensures { result ≡ fate_by has_own has_path }
     {
@@ -69,14 +69,14 @@ pub struct Changes {
     pub dropped: usize,
 }
 
-/// How many of them are this one.
+/// How many of them are this fate.
 fn count_of(fate: Fate, fates: &[Fate]) -> usize
     ensures { result ≡ count_of fate fates.now }
 {
     fates.iter().filter(|other| fate.is(**other)).count()
 }
 
-/// Writes a count and the word behind it.
+/// Writes a count and the word after it.
 fn write_count<W: Write>(out: &mut W, count: usize, word: &str) -> io::Result<()>
     ensures { OnOk result (Appends (W.contents out.old) (W.contents out.new) (count_shown count word.now)) }
 {
@@ -84,7 +84,7 @@ fn write_count<W: Write>(out: &mut W, count: usize, word: &str) -> io::Result<()
 }
 
 impl Changes {
-    /// How many there are of each among these variables, with so many lines that are dropped.
+    /// How many there are of each among these variables, with the number of lines that are dropped.
     pub(crate) fn of(fates: &[Fate], dropped: usize) -> Changes
         ensures { result ≡ changes_of fates.now dropped }
     {

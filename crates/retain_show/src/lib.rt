@@ -1,4 +1,4 @@
-//! A look into a retain file: what it holds, and what a warm start of a text would make of it, as a text for a person.
+//! A look into a retain file: its content, and the outcome that a warm start of a text would have, as a text for people.
 //!
 //! It looks at the bytes of a file that was read, and writes nothing.
 #![tactic(auto)]
@@ -8,11 +8,11 @@ mod areas;
 mod changes;
 mod contents;
 mod fate;
+mod initial_lines;
 mod lines;
 mod matching;
 mod record;
 mod spelling;
-mod wanted;
 mod written_lines;
 
 pub use against::{changes_against, shown_against};

@@ -3,10 +3,10 @@
 ghost use Rattle.std.specs.Prelude.{◌≡◌, ◌∷◌, [], IfOk, OnOk, map};
 ghost use Rattle.std.specs.Vec.{vec_items};
 ghost use Rattle.std.specs.Io.KnownBytes.{Appends};
-ghost use Rattle.retain_records.specs.Cuts.{parted};
+ghost use Rattle.retain_records.specs.Splits.{parted};
 ghost use Rattle.retain_show.specs.Shown.{inner, line_shown, lines_shown, spelling_of};
 
-use retain_records::cut;
+use retain_records::split_at;
 use st_print::write_value;
 use st_types::{Name, Value};
 use std::alloc::{AllocError, Global};
@@ -17,13 +17,13 @@ use std::io::Write;
 fn spelling_of(line: &[u8]) -> &[u8]
     ensures { result.now ≡ spelling_of line.now }
 {
-    match cut(b' ', line) {
+    match split_at(b' ', line) {
         Some((_, spelling)) => spelling,
         None => &[],
     }
 }
 
-/// What stands between the first byte and the last.
+/// The bytes between the first and the last one.
 fn inner(word: &[u8]) -> &[u8]
     ensures { result.now ≡ inner word.now }
 {
@@ -33,13 +33,13 @@ fn inner(word: &[u8]) -> &[u8]
     &word[1..word.len() - 1]
 }
 
-/// What stands between commas.
+/// The parts between commas.
 fn parts(alloc: Global, text: &[u8]) -> Result<Vec<Name>, AllocError>
     ensures { IfOk result (λ names. names.items ≡ parted 44 text.now) }
 {
     let mut names = Vec::new(alloc);
     let mut rest = text;
-    while let Some((name, behind)) = cut(b',', rest) {
+    while let Some((name, behind)) = split_at(b',', rest) {
         names.push(Name::from_slice(alloc, name)?)?;
         rest = behind;
     }
@@ -47,7 +47,7 @@ fn parts(alloc: Global, text: &[u8]) -> Result<Vec<Name>, AllocError>
     Ok(names)
 }
 
-/// The names of an enumerated type that is spelled so.
+/// The names of the enumerated type with this spelling.
 pub(crate) fn names_of_type(alloc: Global, spelling: &[u8]) -> Result<Vec<Vec<Name>>, AllocError>
     ensures { IfOk result (λ types. map vec_items types.items ≡ parted 44 (inner spelling.now) ∷ []) }
 {
@@ -79,7 +79,7 @@ pub(crate) fn write_lines<W: Write>(
 {
     let mut rest = layout;
     for value in values {
-        let Some((line, behind)) = cut(b'\n', rest) else {
+        let Some((line, behind)) = split_at(b'\n', rest) else {
             return write_line(alloc, out, rest, *value);
         };
         write_line(alloc, out, line, *value)?;

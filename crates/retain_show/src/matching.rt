@@ -1,10 +1,10 @@
-//! The lines of a record that speak of a variable.
+//! The lines of a record for a variable.
 
 ghost use Rattle.std.specs.Prelude.{◌≡◌, IfOk, map, option_map, unwrap_or};
 ghost use Rattle.retain_records.specs.Matching.{numbered_by};
 ghost use Rattle.retain_show.specs.Against.{line_with_path};
-ghost use Rattle.retain_show.specs.Wanted.{dropped_in, fate_in, is_dropped, kept_line, line_view};
-ghost use Rattle.retain_show.specs.Wanted.{match_view, matched, own_line, told_in};
+ghost use Rattle.retain_show.specs.InitialLines.{dropped_in, fate_in, is_dropped, kept_line, line_view};
+ghost use Rattle.retain_show.specs.InitialLines.{match_view, matched, own_line, restored_in};
 
 use crate::fate::Fate;
 use crate::written_lines::Line;
@@ -12,10 +12,10 @@ use retain_records::numbered;
 use st_types::Value;
 use std::alloc::{AllocError, Global};
 
-/// The value that a variable takes from a line, where it is its own: one with its path and its type, as they are
-/// written, and a number that the type holds.
+/// The value that a variable takes from a line, if it is its own: one with its path and its type, as they are written,
+/// and a number that the type holds.
 fn taken_from(wanted: &Line, line: &Line) -> Option<Value>
-    ensures { result ≡ told_in wanted.now.path.items wanted.now.spelling.items wanted.now.value
+    ensures { result ≡ restored_in wanted.now.path.items wanted.now.spelling.items wanted.now.value
         (kept_line (line_view line.now)) }
 {
     if wanted.path != line.path || wanted.spelling != line.spelling {
@@ -24,7 +24,7 @@ fn taken_from(wanted: &Line, line: &Line) -> Option<Value>
     numbered(wanted.value, line.value)
 }
 
-/// The value that a variable takes from its own line, where there is one.
+/// The value that a variable takes from its own line, if there is one.
 fn own_value(wanted: &Line, lines: &[Line]) -> Option<Value>
     ensures { result ≡ option_map (numbered_by wanted.now.value)
         (own_line (map line_view lines.now) (line_view wanted.now)) }
@@ -49,7 +49,7 @@ pub(crate) fn line_with_path<'a>(path: &[u8], lines: &'a [Line]) -> Option<&'a L
     None
 }
 
-/// A variable, and what a record has of it.
+/// A variable, and its part of a record.
 #[derive(Clone, Copy)]
 pub(crate) struct Match<'a> {
     pub wanted: &'a Line,
@@ -60,7 +60,7 @@ pub(crate) struct Match<'a> {
 }
 
 impl Match<'_> {
-    /// What a start makes of the variable.
+    /// The fate of the variable at a start.
     pub fn fate(&self) -> Fate
         ensures { result ≡ fate_in (match_view self.now) }
     {
@@ -78,7 +78,7 @@ impl Match<'_> {
     }
 }
 
-/// A variable, and what these lines have of it.
+/// A variable, and its part of these lines.
 pub(crate) fn matched<'a>(wanted: &'a Line, lines: &'a [Line]) -> Match<'a>
     ensures { match_view result ≡ matched (map line_view lines.now) (line_view wanted.now) }
 {

@@ -42,7 +42,7 @@ fn write_record<W: Write>(
     write_lines(alloc, out, last.layout(), last.values())
 }
 
-/// The generation of a record, its moment, and a line for each value, as a text; S5 out of memory.
+/// The generation of a record, its moment, and a line for each value, as a text; S5 if an allocation fails.
 pub(crate) fn record_text(
     alloc: Global,
     generation: u64,
@@ -58,7 +58,7 @@ pub(crate) fn record_text(
     }
 }
 
-/// A text of these bytes; S5 out of memory.
+/// A text of these bytes; S5 if an allocation fails.
 pub(crate) fn text_of(alloc: Global, bytes: &[u8]) -> Result<Vec<u8>, StoreFault>
     ensures told { IfOk result (λ text. text.items ≡ bytes.now) }
     ensures memory { IfErr result (λ fault. fault ≡ StoreFault.NoMemory) }

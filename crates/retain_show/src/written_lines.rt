@@ -2,7 +2,7 @@
 
 ghost use Rattle.std.specs.Prelude.{◌≡◌, IfOk, map};
 ghost use Rattle.retain_show.specs.Against.{valued_lines};
-ghost use Rattle.retain_show.specs.Wanted.{line_view};
+ghost use Rattle.retain_show.specs.InitialLines.{line_view};
 
 use retain_records::{Words, words_at};
 use st_types::Value;
@@ -16,7 +16,7 @@ pub(crate) struct Line {
     pub value: Value,
 }
 
-/// A line of these words with this value.
+/// A line with these words and this value.
 fn line_with(alloc: Global, words: &Words<'_>, value: Value) -> Result<Line, AllocError>
     ensures { IfOk result
         (λ line. line_view line

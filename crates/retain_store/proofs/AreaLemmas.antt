@@ -1,4 +1,4 @@
--- What a stop leaves of the two areas in each step of a save.
+-- The two areas after a stop in each step of a save.
 use Rattle.std.proofs.Common.{◌≡◌, ◌⊎◌, inl, inr, ℕ, ◌+◌, ◌-◌, ◌<◌, ◌≤◌, ◌^◌, Some, List, length, get_or, take, drop}
 use Rattle.std.proofs.Common.{refl, sym, ◌∙◌, ap, subst, arith}
 use Rattle.std.proofs.lemmas.Bool.{cases_eq}
@@ -71,7 +71,7 @@ newer_second g content Closed older = refl
 newer_second g content Damaged older = absurd older
 newer_second g content (Open h d) older = grind (arith, nat_tests)
 
--- the areas in the one order or the other
+-- the areas in one order or the other
 abbrev TwoAreas : List ℕ → ℕ → Type 0
 TwoAreas file at = (recovered file ≡ chosen (area at file) (area (AREA_BYTES - at) file))
     ⊎ (recovered file ≡ chosen (area (AREA_BYTES - at) file) (area at file))

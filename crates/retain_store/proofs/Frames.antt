@@ -39,7 +39,7 @@ frame_parts header buffer body n size is =
     ap (λ (k : ℕ). take (k + n) (header ++ buffer)) (sym size) ∙ take-append-add header buffer n
     ∙ ap (λ (l : List ℕ). header ++ l) is
 
--- of a header and a body that were written apart
+-- the frame of a header and a body that were written apart
 pub frame_of : (generation size : ℕ) (header buffer body : List ℕ)
     → header ≡ to_be_bytes w64 generation ++ to_be_bytes w32 size → size ≡ length body → take size buffer ≡ body
     → take (HEADER_BYTES + size) (header ++ buffer) ≡ to_be_bytes w64 generation ++ to_be_bytes w32 (length body)

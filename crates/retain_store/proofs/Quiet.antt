@@ -11,7 +11,7 @@ module _ {D : Type 0} (left_since : D → D → List ℕ → Type 0) (may_leave 
   quiet_one old new first only_now only within past =
       one_call left_since may_leave old new first (λ file. file ≡ first) only_now only within past refl
 
-  -- one more
+  -- one more call
   pub quiet_next : (old mid new : D) (P : List ℕ → Type 0) → LeavesOnly left_since may_leave old mid P
       → Within (may_leave new) (may_leave mid) → NothingElse left_since may_leave mid new
       → LeavesOnly left_since may_leave old new P

@@ -1,4 +1,4 @@
--- What a stop may leave after each device call of a save.
+-- The files that a stop may leave after each device call of a save.
 use Rattle.std.proofs.Common.{◌≡◌, inl, inr, ⊎_elim, ℕ, ◌+◌, ◌-◌, ◌≤◌, Some, List, [], ◌∷◌, length, get_or, take, drop}
 use Rattle.std.proofs.Common.{sym, ◌∙◌, ap, subst, arith, add-zero}
 use Rattle.std.proofs.lemmas.List.{take-take}
@@ -37,7 +37,7 @@ module _ (at : ℕ) (half : IsHalf at) (first : List ℕ) (spare : IsSpare at fi
     pub still_spare : recovered file ≡ recovered first → IsSpare at file
     still_spare same = record { size = same_size; last = same ∙ spare.last ∙ ap alone (sym same_other) }
 
-    -- this area stands closed
+    -- this area is closed
     pub same_if_shut : area at file ≡ Closed → recovered file ≡ recovered first
     same_if_shut shut = recovered_shut at file half same_size shut ∙ ap alone same_other ∙ sym spare.last
 
@@ -58,7 +58,7 @@ module _ (at : ℕ) (half : IsHalf at) (first : List ℕ) (spare : IsSpare at fi
         (arith, inside, same_size at 1 (omega arith) (omega arith) file torn)) (omega (arith, inside, spare.size))
         (λ i low high. torn.behind i (omega (arith, inside, spare.size)) (omega arith))
 
-    -- where the gate was open already
+    -- if the gate was open already
     pub closing : IsOpen at first → recovered file ≡ recovered first
     closing open_gate = elim (gated_area at file) [
       | inl counts ↦ recovered_same at file first half (same_size at 1 (omega arith) (omega arith) file torn) spare.size
@@ -72,7 +72,7 @@ module _ (at : ℕ) (half : IsHalf at) (first : List ℕ) (spare : IsSpare at fi
       older : IsOlder generation (area (AREA_BYTES - at) file)
       older = subst (IsOlder generation) (sym (same_other at 1 (omega arith) (omega arith) file torn)) was_older
 
-      -- over a record that stands after it
+      -- over a record that comes after it
       pub opening : IsEither (recovered first) (Found generation content) (recovered file)
       opening = elim (gated_area at file) [
         | inl counts ↦ inr (recovered_newer at generation content file half
@@ -94,7 +94,7 @@ module _ (at : ℕ) (half : IsHalf at) (first : List ℕ) (spare : IsSpare at fi
                 (same_size at 1 (omega arith) (omega arith) file torn) here older;
           }
 
-  -- what stands after the gate after the record was written there
+  -- the bytes after the gate after the record was written there
   pub written_behind : (generation : ℕ) (frame : List ℕ) (content : Content) → IsFrame generation frame
       → decoded (drop HEADER_BYTES frame) ≡ Some content
       → opened (rest at (overwritten first (at + 1) frame)) ≡ Open generation content
@@ -126,7 +126,7 @@ module _ (at : ℕ) (half : IsHalf at) (first : List ℕ) (spare : IsSpare at fi
         other_gate = same_other_gate at 1 (omega arith) (omega arith) file torn;
       }
 
-  -- the second of two writes, over what the first left
+  -- the second of two writes, over the file after the first
   module _ (generation : ℕ) (frame : List ℕ) (content : Content) (good : IsFrame generation frame)
       (spells : decoded (drop HEADER_BYTES frame) ≡ Some content) (shut : IsShut at first) (second : List ℕ)
       (is : second ≡ overwritten first (at + 1) frame) where

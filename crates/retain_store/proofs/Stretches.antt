@@ -1,4 +1,4 @@
--- What a write, whole or torn, does to a stretch of a file.
+-- The effect of a write, whole or torn, on a stretch of a file.
 use Rattle.std.proofs.Common.{◌≡◌, ℕ, ◌+◌, ◌<◌, ◌≤◌, List, ◌++◌, length, get_or, take, drop, sym, ◌∙◌, ap, arith}
 use Rattle.std.proofs.Common.{length-drop}
 use Rattle.std.proofs.lemmas.Grind.{common_steps}
@@ -26,7 +26,7 @@ module _ (p : ℕ) (bytes old : List ℕ) (inside : p + length bytes ≤ length 
   pub written_size : length (overwritten old p bytes) ≡ length old
   written_size = grind (arith, common_steps)
 
-  -- a write that was not cut short is one of those that might have been
+  -- a write that was not torn is one of those that might have been
   pub written_torn : Torn p (length bytes) old (overwritten old p bytes)
   written_torn = record {
     no_shorter = omega (arith, written_size);
@@ -42,7 +42,7 @@ module _ (p : ℕ) (bytes old : List ℕ) (inside : p + length bytes ≤ length 
   written_at i low = sym (get_or-take (length bytes) (drop p (overwritten old p bytes)) i 0 low
       ∙ get_or-drop p (overwritten old p bytes) i 0) ∙ ap (λ (l : List ℕ). get_or l i 0) written_bytes
 
--- a file of the length of two areas, by the two
+-- a file as long as two areas is the two of them
 pub two_parts : (first second file same : List ℕ) (n m : ℕ) → n ≡ AREA_BYTES → m ≡ AREA_BYTES
     → first ≡ take n (drop 0 file) → second ≡ take m (drop AREA_BYTES same) → same ≡ file → length file ≡ FILE_BYTES
     → first ++ second ≡ file

@@ -1,4 +1,4 @@
--- What is told of the areas of a whole file.
+-- The results of a survey of the areas of a whole file.
 use Rattle.std.proofs.Common.{◌≡◌, ◌≢◌, inl, inr, ℕ, ◌+◌, ◌-◌, ◌<◌, ◌≤◌, Option, Some, None, List, length, get_or, take}
 use Rattle.std.proofs.Common.{drop, refl, sym, ◌∙◌, ap, subst, arith, length-drop}
 use Rattle.std.proofs.lemmas.Bool.{cases_eq, cases_lt}
@@ -71,7 +71,7 @@ unfolding opened
 opened_generation behind g content is = parts_generation (from_be_bytes w32 (take 4 (drop 8 behind)))
     (from_be_bytes w64 (take 8 behind)) g content behind is
 
--- what is told of the bytes after an open gate
+-- the results for the bytes after an open gate
 module _ (behind : List ℕ) (generation size : ℕ) (is_generation : generation ≡ from_be_bytes w64 (take 8 behind))
     (is_size : size ≡ from_be_bytes w32 (take 4 (drop 8 behind))) where
   by_parts : opened behind ≡ area_of_parts size generation behind

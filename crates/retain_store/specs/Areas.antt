@@ -29,12 +29,12 @@ IsOpen at file = slice_index file at ≡ OPEN_GATE
 abbrev pub IsShut : ℕ → List ℕ → Type 0
 IsShut at file = slice_index file at ≢ OPEN_GATE
 
--- the gate there is so
+-- the gate there is in this state
 abbrev pub GateIs : Gate → ℕ → List ℕ → Type 0
 GateIs gates.Open at file = IsOpen at file
 GateIs gates.Closed at file = IsShut at file
 
--- what one area stands for where the other is closed
+-- the result of one area if the other is closed
 abbrev pub alone : Area → Recovered
 alone Closed = Nothing
 alone Damaged = Refused
@@ -46,7 +46,7 @@ IsOlder generation Closed = Unit {0}
 IsOlder generation Damaged = ⊥
 IsOlder generation (Open g c) = g < generation
 
--- the other area holds the last record, and what stands in this one doesn't count
+-- the other area holds the last record, and the bytes in this one don't count
 pub record IsSpare (at : ℕ) (file : List ℕ) : Type 0 where
   pub size : length file ≡ FILE_BYTES
   pub last : recovered file ≡ alone (area (AREA_BYTES - at) file)
@@ -56,7 +56,7 @@ pub record IsReady (generation at : ℕ) (file : List ℕ) : Type 0 where
   pub spare : IsSpare at file
   pub older : IsOlder generation (area (AREA_BYTES - at) file)
 
--- this gate is closed now, and all else stands as it did
+-- this gate is closed now, and all else is as it was
 pub record IsClosedNow (at : ℕ) (old new : List ℕ) : Type 0 where
   pub spare : IsSpare at new
   pub shut : IsShut at new
@@ -64,11 +64,11 @@ pub record IsClosedNow (at : ℕ) (old new : List ℕ) : Type 0 where
   pub other : area (AREA_BYTES - at) new ≡ area (AREA_BYTES - at) old
   pub other_gate : slice_index new (AREA_BYTES - at) ≡ slice_index old (AREA_BYTES - at)
 
--- the one or the other
+-- one or the other
 abbrev pub IsEither : Recovered → Recovered → Recovered → Type 0
 IsEither before after now = (now ≡ before) ⊎ (now ≡ after)
 
--- the record of that generation stands open here, and the other area is as it was
+-- the record of this generation is open here, and the other area is as it was
 pub record IsSaved (generation at : ℕ) (content : Content) (old new : List ℕ) : Type 0 where
   pub size : length new ≡ FILE_BYTES
   pub gate : IsOpen at new
@@ -77,7 +77,7 @@ pub record IsSaved (generation at : ℕ) (content : Content) (old new : List ℕ
   pub other_gate : slice_index new (AREA_BYTES - at) ≡ slice_index old (AREA_BYTES - at)
   pub found : recovered new ≡ Found generation content
 
--- what stands after a gate: generation, length and body
+-- the bytes after a gate: generation, length and body
 pub record IsFrame (generation : ℕ) (frame : List ℕ) : Type 0 where
   pub long : HEADER_BYTES ≤ length frame
   pub short : length frame ≤ AREA_BYTES - 1
@@ -97,7 +97,7 @@ pub record IsEmpty (file : List ℕ) : Type 0 where
   pub first : IsShut 0 file
   pub second : IsShut AREA_BYTES file
 
--- How the areas of a whole file stand: where the next record goes, whose generation is one more than the last one's,
+-- The state of the areas of a whole file: the place of the next record, whose generation is one more than the last one's,
 -- both gates, and the last record.
 pub record IsSurveyed (file : List ℕ) (areas : Areas) (last : Recovered) : Type 0 where
   pub ready : IsReady (areas.generation + 1) (at_of areas.target) file

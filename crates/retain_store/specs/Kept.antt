@@ -1,4 +1,4 @@
--- What a store keeps.
+-- The invariant of a store.
 use Rattle.std.specs.Prelude.{◌≡◌, ◌+◌, ◌-◌, ◌≤◌, ◌<◌, ℕ, Bool, true, false, Option, Some, None, List}
 use Rattle.st_types.specs.Values.{Datum}
 use Rattle.retain_store.specs.declared.shape.TheConstants.{AREA_BYTES, HEADER_BYTES}
@@ -24,7 +24,7 @@ pub record StoreView (D : Type 0) : Type 0 where
   pub failed : Bool
   pub room : ℕ
 
--- a record of these
+-- a record of these parts
 abbrev pub content_of : Option ℕ → List ℕ → List Datum → Content
 content_of moment layout values = record { moment = moment; layout = layout; values = values }
 
@@ -59,8 +59,8 @@ IsTriedAfter faults.Generations content old new = (new.tried ≡ old.last) × (n
 IsTriedAfter faults.Failed content old new = new ≡ old
 IsTriedAfter other content old new = ⊥
 
--- Each file that a stop now may leave is recovered to the last record or to a failed save's; where no save has failed,
--- the file is synced and the areas are known. The frame has room for a header and a body.
+-- Each file that a stop now may leave is recovered to the last record or to a failed save's; if no save has failed, the file
+-- is synced and the areas are known. The frame has room for a header and a body.
 pub record StoreInvariant (tells : Type 0) (file : List ℕ) (files : List ℕ → Type 0) (areas : Areas) (met : Saves)
     (last tried : Recovered) (size : ℕ) : Type 0 where
   pub left : tells → (c : List ℕ) → files c → IsEither last tried (recovered c)

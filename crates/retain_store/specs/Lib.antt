@@ -3,3 +3,4 @@ pub mod Recovered
 pub mod Surveys
 pub mod Kept
 pub mod Opening
+pub mod Stores

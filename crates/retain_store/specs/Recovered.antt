@@ -1,4 +1,4 @@
--- What a retain file is recovered to.
+-- The result of recovering a retain file.
 use Rattle.std.specs.Prelude.{◌+◌, ◌-◌, ◌==◌, nat_lt, nat_le, ℕ, Option, Some, None, List, length, take, drop}
 use Rattle.std.specs.Prelude.{slice_index, if◌then◌else◌}
 use Rattle.std.specs.Int.{w32, w64, from_be_bytes}
@@ -13,14 +13,14 @@ pub data Area : Type 0 where
   Damaged : Area
   Open : ℕ → Content → Area
 
--- A file is too long, or refused for what is damaged in it, or it holds no record, or the one of that generation.
+-- A file is too long, or refused because it is damaged, or it holds no record, or the one of this generation.
 pub data Recovered : Type 0 where
   TooLong : Recovered
   Refused : Recovered
   Nothing : Recovered
   Found : ℕ → Content → Recovered
 
--- generations begin with 1, and a body that is no record is damaged
+-- generations begin with 1, and a body that isn't a record is damaged
 abbrev pub area_with : ℕ → Option Content → Area
 area_with generation None = Damaged
 area_with generation (Some content) = if generation == 0 then Damaged else Open generation content
@@ -35,7 +35,7 @@ area_of_parts size generation behind =
 unfoldable pub opened : List ℕ → Area
 opened behind = area_of_parts (from_be_bytes w32 (take 4 (drop 8 behind))) (from_be_bytes w64 (take 8 behind)) behind
 
--- by the gate and what stands after it: 0xA5 is open, all else closed
+-- by the gate and the bytes after it: 0xA5 is open, all else closed
 abbrev pub gated : ℕ → List ℕ → Area
 gated gate behind = if gate == OPEN_GATE then opened behind else Closed
 
@@ -53,7 +53,7 @@ chosen (Open g c) Closed = Found g c
 chosen (Open g c) Damaged = Refused
 chosen (Open g c) (Open h d) = if g == h then Refused else if nat_lt g h then Found h d else Found g c
 
--- A file holds a record only where it has exactly its two areas.
+-- A file holds a record only if it has exactly its two areas.
 unfoldable pub recovered : List ℕ → Recovered
 recovered file =
     if nat_lt FILE_BYTES (length file) then TooLong

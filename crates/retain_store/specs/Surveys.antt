@@ -1,4 +1,4 @@
--- What is told of the areas of a file.
+-- The results of a survey of the areas of a file.
 use Rattle.std.specs.Prelude.{◌≡◌, ◌<◌, ℕ, List, drop, slice_index, ◌==◌, if◌then◌else◌}
 use Rattle.retain_store.specs.declared.surveying.Look.{Look}
 use Rattle.retain_store.specs.declared.surveying.Look.TheVariants as looks
@@ -13,7 +13,7 @@ use Rattle.retain_store.specs.Recovered.{Area, Closed, Damaged, Open, gated, Rec
 abbrev pub area_in : List ℕ → Area
 area_in bytes = gated (slice_index bytes 0) (drop 1 bytes)
 
--- the area that was seen so, with the record that was read there
+-- the area of this look, with the record that was read there
 abbrev pub shown : Look → Content → Area
 shown looks.Closed content = Closed
 shown looks.Damaged content = Damaged
@@ -27,12 +27,12 @@ held generation content = if generation == 0 then Nothing else Found generation 
 abbrev pub IsRecordableAt : ℕ → Content → Type 0
 IsRecordableAt generation content = 0 < generation → IsRecordable content
 
--- what was read of an open area is sound
+-- the record that was read of an open area is sound
 abbrev pub LooksSound : Look → Content → Type 0
 LooksSound (looks.Open generation) content = IsRecordable content
 LooksSound other content = Unit {0}
 
--- the gate of the area that was seen so
+-- the gate of the area of this look
 abbrev pub gate_of : Look → Gate
 gate_of looks.Closed = gates.Closed
 gate_of looks.Damaged = gates.Open
@@ -44,7 +44,7 @@ LooksOlder generation looks.Closed = Unit {0}
 LooksOlder generation looks.Damaged = ⊥
 LooksOlder generation (looks.Open g) = g < generation
 
--- that is the area whose record counts
+-- this is the area whose record counts
 abbrev pub IsChoice : Choice → Look → Look → Type 0
 IsChoice choices.Neither first second = (first ≡ looks.Closed) × (second ≡ looks.Closed)
 IsChoice (choices.First generation) first second = (first ≡ looks.Open generation) × LooksOlder generation second

@@ -22,7 +22,7 @@ pub enum Half {
 }
 
 impl Half {
-    /// Where it begins, in bytes.
+    /// Its offset in bytes.
     pub fn at(self) -> u64
         ensures at { result ≡ at_of self }
         ensures half { IsHalf result }
@@ -51,16 +51,16 @@ pub enum Gate {
     Closed,
 }
 
-/// How the two areas of a whole file stand.
+/// The state of the two areas of a whole file.
 #[derive(Clone, Copy, Debug, PartialEq, Eq)]
 pub struct Areas {
-    /// The area that the next record goes to. It does not hold the last one.
+    /// The area for the next record. It does not hold the last one.
     pub target: Half,
     /// Its gate.
     pub target_gate: Gate,
     /// The gate of the area that holds the last record, if there is one.
     pub other_gate: Gate,
-    /// The generation of the last record, or 0 where there is none.
+    /// The generation of the last record, or 0 if there is none.
     pub generation: u64,
 }
 
@@ -77,7 +77,7 @@ impl Areas {
         }
     }
 
-    /// How they stand after a record was saved: the target holds the last one, and the other area is the next target.
+    /// Their state after a record was saved: the target holds the last one, and the other area is the next target.
     pub fn after_save(self) -> Areas
         requires { self.generation < 2 ^ 64 - 1 }
         ensures { result ≡ areas_after_save self }
@@ -110,7 +110,7 @@ pub(crate) fn write_synced<D: Disk>(disk: &mut D, at: u64, bytes: &[u8]) -> Resu
     disk.sync()
 }
 
-/// Closes the open gate there, where what stands after it doesn't count.
+/// Closes the open gate there, if the bytes after it don't count.
 pub(crate) fn close<D: Disk>(disk: &mut D, at: u64) -> Result<(), DiskError>
     requires half { IsHalf at }
     requires spare { D.tells → IsSpare at (D.seen disk.old) }
@@ -131,7 +131,7 @@ pub(crate) fn close<D: Disk>(disk: &mut D, at: u64) -> Result<(), DiskError>
 }
 
 /// Writes a frame after a gate, and syncs it.
-fn write_behind<D: Disk>(disk: &mut D, at: u64, frame: &[u8]) -> Result<(), DiskError>
+fn write_after_gate<D: Disk>(disk: &mut D, at: u64, frame: &[u8]) -> Result<(), DiskError>
     requires half { IsHalf at }
     requires synced { D.tells → Only (D.seen disk.old) (D.may_leave disk.old) }
 
@@ -171,13 +171,13 @@ pub(crate) fn fill<D: Disk>(
         (λ file. IsEither (recovered (D.seen disk.old)) (Found generation content) (recovered file)) }
     ensures count { Counts result (D.failure_count disk.old) (D.failure_count disk.new) }
 {
-    write_behind(disk, at, frame)?;
+    write_after_gate(disk, at, frame)?;
     write_synced(disk, at, &[OPEN_GATE])?;
     Ok(())
 }
 
-/// Writes a frame, a header and a body, into that area, whose gate is closed first where it is open. The body is synced
-/// before the gate is opened over it. The other area holds the last record, if there is one.
+/// Writes a frame, a header and a body, into that area, whose gate is closed first if it is open. The body is synced before
+/// the gate is opened over it. The other area holds the last record, if there is one.
 pub fn write_frame<D: Disk>(
     disk: &mut D,
     at: u64,
@@ -215,7 +215,7 @@ pub fn write_frame<D: Disk>(
     }
 }
 
-/// Makes a file that is too short one of two closed areas. The zeros are all of it but the last byte.
+/// Makes a file that is too short one of two closed areas. The zeros are all of it except the last byte.
 pub fn format<D: Disk>(disk: &mut D, zeros: &[u8]) -> Result<(), DiskError>
     requires zeros { IsZeros zeros.now }
     requires short { D.tells → length (D.seen disk.old) < FILE_BYTES }

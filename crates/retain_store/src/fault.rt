@@ -12,7 +12,7 @@ pub enum StoreFault {
     /// The file is longer than 262,144 bytes.
     #[error("S1")]
     TooLong,
-    /// A gate is open over a body that is no record or over the generation 0, or both areas are open with one
+    /// A gate is open over a body that isn't a record or over the generation 0, or both areas are open with the same
     /// generation.
     #[error("S2")]
     Damaged,

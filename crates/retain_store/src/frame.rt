@@ -1,4 +1,4 @@
-//! What stands after the gate of an area: a header and a body.
+//! The frame after the gate of an area: a header and a body.
 
 ghost use Rattle.std.specs.Prelude.{◌≡◌, ◌+◌, ◌≤◌, ◌<◌, ◌++◌, length, take, drop};
 ghost use Rattle.std.specs.Int.{w32, w64, to_be_bytes};

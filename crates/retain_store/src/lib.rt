@@ -1,8 +1,8 @@
 //! The last record of retained values on a disk: a store opens a file, recovers the record, and saves others, one after
 //! another, into two gated areas.
 //!
-//! It owns the disk. The type of `Store` keeps that every file which a stop now may leave is recovered to the last
-//! record or to that of a failed save. A gate is opened only over a body that is synced. Nothing here knows of plans.
+//! This crate owns the disk. The type of `Store` guarantees that every file which a stop now may leave is recovered to the
+//! last record or to that of a failed save. A gate is opened only over a body that is synced. Nothing here depends on plans.
 #![tactic(auto)]
 
 mod area;

@@ -6,8 +6,7 @@ ghost use Rattle.disk.specs.Runs.{LeavesOnly};
 ghost use Rattle.retain_store.specs.Recovered.{recovered};
 ghost use Rattle.retain_store.specs.Areas.{IsZeros};
 ghost use Rattle.retain_store.specs.Surveys.{held, IsRecordableAt};
-ghost use Rattle.retain_store.specs.Opening.{IsAtRest, IsLoaded, IsOfFile, RefusesFor, CountsFault, KeepsFile};
-ghost use Rattle.retain_store.specs.Opening.{KeepsRecord};
+ghost use Rattle.retain_store.specs.Opening.{CountsFault, IsAtRest, IsFoundIn, IsLoaded, IsOfFile, IsRefusal};
 
 use crate::area::{Areas, format};
 use crate::fault::StoreFault;
@@ -16,7 +15,7 @@ use crate::surveying::survey;
 use disk::{Disk, DiskError};
 use retain_records::{LineRoom, Record};
 
-/// Syncs the file, and tells its length.
+/// Syncs the file, and gives its length.
 fn synced_len<D: Disk>(disk: &mut D) -> Result<u64, DiskError>
     // On a disk that serves a whole file it succeeds.
     ensures serves { D.serves disk.old FILE_BYTES → IsOk result × D.serves disk.new FILE_BYTES }
@@ -57,7 +56,7 @@ fn read_areas<D: Disk>(disk: &mut D, file: &mut [u8]) -> Result<(), DiskError>
     Ok(())
 }
 
-/// What a file that is not too long is.
+/// The state of a file that is not too long.
 #[derive(Clone, Copy)]
 enum Loaded {
     /// It was too short, and has two closed areas now.
@@ -66,24 +65,23 @@ enum Loaded {
     Whole,
 }
 
-/// Brings the file to its two areas, and reads it where it had them.
+/// Brings the file to its two areas, and reads it if it had them.
 fn load<D: Disk>(disk: &mut D, file: &mut [u8]) -> Result<Loaded, StoreFault>
     requires room { length file.old ≡ FILE_BYTES }
     requires zeros { IsZeros (take (FILE_BYTES - 1) file.old) }
 
     ensures length { length file.new ≡ FILE_BYTES }
 
-    // A disk that serves a whole file is not at fault.
+    // A disk that serves a whole file doesn't fail.
     ensures serves { D.tells → D.serves disk.old FILE_BYTES
         → IfErr result (λ fault. fault ≢ StoreFault.Device) × D.serves disk.new FILE_BYTES }
 
     ensures found { D.tells → IfOk result (λ loaded. IsLoaded loaded file.new (D.seen disk.old) (D.seen disk.new)) }
     ensures synced { D.tells → OnOk result (Only (D.seen disk.new) (D.may_leave disk.new)) }
     ensures faults { IfErr result IsOfFile }
-    ensures refused { D.tells → IfErr result (λ fault. RefusesFor fault (recovered (D.seen disk.old))) }
-    ensures unwritten { D.tells → IfErr result (λ fault. KeepsFile fault (D.seen disk.old) (D.seen disk.new)) }
+    ensures refused { D.tells → IfErr result (λ fault. IsRefusal fault (D.seen disk.old) (D.seen disk.new)) }
 
-    // On a disk with nothing unsynced a stop at any moment leaves what is recovered as the file was.
+    // On a disk with nothing unsynced a stop at any moment leaves a file that is recovered as the file before.
     ensures any_moment { D.tells → Only (D.seen disk.old) (D.may_leave disk.old)
         → LeavesOnly D.left_since D.may_leave disk.old disk.new (λ file. recovered file ≡ recovered (D.seen disk.old)) }
     ensures count { MatchResult result (λ _. D.failure_count disk.new ≡ D.failure_count disk.old)
@@ -101,7 +99,7 @@ fn load<D: Disk>(disk: &mut D, file: &mut [u8]) -> Result<Loaded, StoreFault>
     Ok(Loaded::Whole)
 }
 
-/// Finds the last record of the file, and leaves it in `last` where there is one.
+/// Finds the last record of the file, and leaves it in `last` if there is one.
 pub(crate) fn recover<D: Disk>(
     disk: &mut D,
     file: &mut [u8],
@@ -112,21 +110,19 @@ pub(crate) fn recover<D: Disk>(
     requires room { length file.old ≡ FILE_BYTES }
     requires zeros { IsZeros (take (FILE_BYTES - 1) file.old) }
 
-    // A disk that serves a whole file is not at fault.
+    // A disk that serves a whole file doesn't fail.
     ensures serves { D.tells → D.serves disk.old FILE_BYTES
         → IfErr result (λ fault. fault ≢ StoreFault.Device) × D.serves disk.new FILE_BYTES }
 
-    ensures found { D.tells → IfOk result (λ areas. held areas.generation last.new ≡ recovered (D.seen disk.old)) }
-    ensures kept { D.tells
-        → IfOk result (λ areas. KeepsRecord (held areas.generation last.new) (D.seen disk.old) (D.seen disk.new)) }
+    ensures found { D.tells → IfOk result
+        (λ areas. IsFoundIn (D.seen disk.old) (D.seen disk.new) (held areas.generation last.new)) }
     ensures sound { IfOk result (λ areas. IsRecordableAt areas.generation last.new) }
     ensures at_rest { D.tells → IfOk result (λ areas.
         IsAtRest (D.seen disk.new) (D.may_leave disk.new) areas (held areas.generation last.new)) }
     ensures faults { IfErr result IsOfFile }
-    ensures refused { D.tells → IfErr result (λ fault. RefusesFor fault (recovered (D.seen disk.old))) }
-    ensures unwritten { D.tells → IfErr result (λ fault. KeepsFile fault (D.seen disk.old) (D.seen disk.new)) }
+    ensures refused { D.tells → IfErr result (λ fault. IsRefusal fault (D.seen disk.old) (D.seen disk.new)) }
 
-    // On a disk with nothing unsynced a stop at any moment leaves what is recovered as the file was.
+    // On a disk with nothing unsynced a stop at any moment leaves a file that is recovered as the file before.
     ensures any_moment { D.tells → Only (D.seen disk.old) (D.may_leave disk.old)
         → LeavesOnly D.left_since D.may_leave disk.old disk.new (λ file. recovered file ≡ recovered (D.seen disk.old)) }
     ensures count { MatchResult result (λ _. D.failure_count disk.new ≡ D.failure_count disk.old)

@@ -13,7 +13,7 @@ pub const FILE_BYTES: usize = 2 * AREA_BYTES;
 /// The byte of an open gate.
 pub(crate) const OPEN_GATE: u8 = 0xA5;
 
-/// The byte that closes a gate. Any byte but that of an open gate is a closed one.
+/// The byte that closes a gate. Any byte except that of an open gate is a closed one.
 pub(crate) const CLOSED_GATE: u8 = 0;
 
 /// The length of a header in bytes: 8 of the generation and 4 of the body's length.

@@ -9,8 +9,9 @@ ghost use Rattle.disk.specs.Runs.{LeavesOnly};
 ghost use Rattle.retain_records.specs.Records.{IsRecordable, record_bytes};
 ghost use Rattle.retain_store.specs.Recovered.{recovered, Found};
 ghost use Rattle.retain_store.specs.Areas.{IsEither, IsZeros};
-ghost use Rattle.retain_store.specs.Opening.{RefusesFor, CountsFault, KeepsFile, KeepsRecord};
-ghost use Rattle.retain_store.specs.Kept.{content_of, record_in, IsLast, IsTriedAfter};
+ghost use Rattle.retain_store.specs.Opening.{CountsFault, IsFoundIn, IsOpenFault, IsRefusal, KeepsFile};
+ghost use Rattle.retain_store.specs.Kept.{content_of, record_in, IsLast};
+ghost use Rattle.retain_store.specs.Stores.{IsOpened, IsSavedAs, IsUnsaved, LeavesEither, RefusesSave};
 
 use crate::area::{Areas, write_frame};
 use crate::fault::StoreFault;
@@ -23,7 +24,7 @@ use st_types::Value;
 use std::alloc::{AllocError, Global};
 use std::marker::Model;
 
-/// What saves have met since the store was opened.
+/// The saves since the store was opened.
 #[derive(Clone, Copy, Debug, PartialEq, Eq)]
 enum Saves {
     /// Each has succeeded.
@@ -37,8 +38,8 @@ enum Saves {
 /// A retain file with its last record. It saves a record in such an order that a stop at any moment leaves the last
 /// record or the one being saved. Contracts see its disk, the last record and the one that a failed save tried.
 ///
-/// The type keeps that the last record is sound, and that each file which a stop now may leave is recovered to one of
-/// these two; on a disk that tells nothing it keeps nothing of files.
+/// The type guarantees that the last record is sound, and that each file which a stop now may leave is recovered to one of
+/// these two; on a disk that reports nothing it guarantees nothing about files.
 pub struct Store<D: Disk> {
     disk: D,
     areas: Areas,
@@ -127,24 +128,20 @@ impl<D: Disk> Store<D> {
     pub fn open(alloc: Global, disk: D, room: usize) -> Result<Store<D>, (StoreFault, D)>
         requires room { room ≤ MAX_RECORD_BODY }
 
-        // The last record is what is recovered of the file that a read gives.
-        ensures found { D.tells → IfOk result (λ store. store.last ≡ recovered (D.seen disk)) }
-        ensures refused { D.tells → IfErr result (λ e. RefusesFor e.0 (recovered (D.seen disk))) }
+        // The last record is the one recovered from the file that a read gives. A file with a record is as it was, and so
+        // is a whole one without: the bytes after its closed gates stay. Only a shorter one is formatted.
+        ensures found { D.tells → IfOk result (λ store. IsFoundIn (D.seen disk) (D.seen store.disk) store.last) }
+        ensures opened { IfOk result (λ store. IsOpened store room) }
 
-        // A file that is refused is as it was, and so is one with a record, and a whole one without: what stands behind
-        // its closed gates stays. Only a shorter one is formatted.
-        ensures unwritten { D.tells → IfErr result (λ e. KeepsFile e.0 (D.seen disk) (D.seen e.1)) }
-        ensures kept { D.tells → IfOk result (λ store. KeepsRecord store.last (D.seen disk) (D.seen store.disk)) }
-        ensures opened { IfOk result (λ store. IsLast store.generation store.last) }
-        ensures tried { IfOk result (λ store. store.tried ≡ store.last) }
-        ensures fresh { IfOk result (λ store. store.failed ≡ false) }
-        ensures room { IfOk result (λ store. store.room ≡ room) }
+        // A file that is refused is as it was.
+        ensures refused { D.tells → IfErr result (λ e. IsRefusal e.0 (D.seen disk) (D.seen e.1)) }
+        ensures faults { IfErr result (λ e. IsOpenFault e.0 disk e.1) }
 
         // After Ok a stop leaves the last record.
         ensures at_rest { D.tells → IfOk result (λ store. (file : List ℕ) → D.may_leave store.disk file
             → recovered file ≡ store.last) }
 
-        // S3 exactly where a call of the disk failed, and then one did.
+        // S3 comes exactly if a call of the disk failed, and then one did.
         ensures device { MatchResult result
             (λ store. D.failure_count store.disk ≡ D.failure_count disk)
             (λ e. CountsFault e.0 (D.failure_count disk) (D.failure_count e.1)) }
@@ -153,10 +150,8 @@ impl<D: Disk> Store<D> {
         ensures serves { D.tells → D.serves disk FILE_BYTES → MatchResult result
             (λ store. D.serves store.disk FILE_BYTES)
             (λ e. (e.0 ≢ StoreFault.Device) × D.serves e.1 FILE_BYTES) }
-        ensures faults { IfErr result (λ e. (e.0 ≢ StoreFault.Generations) × (e.0 ≢ StoreFault.Failed)) }
-        ensures memory { IfErr result (λ e. e.0 ≡ StoreFault.NoMemory → e.1 ≡ disk) }
 
-        // On a disk with nothing unsynced, a stop at any moment leaves what is recovered as the file was.
+        // On a disk with nothing unsynced, a stop at any moment leaves a file that is recovered as the file before.
         ensures any_moment { D.tells → Only (D.seen disk) (D.may_leave disk) → MatchResult result
             (λ store. LeavesOnly D.left_since D.may_leave disk store.disk
             (λ file. recovered file ≡ recovered (D.seen disk)))
@@ -187,7 +182,7 @@ impl<D: Disk> Store<D> {
         }
     }
 
-    /// The generation of the last record, from 1; 0 where there is none.
+    /// The generation of the last record, from 1; 0 if there is none.
     pub fn generation(&self) -> u64
         ensures { result ≡ self.now.generation }
     {
@@ -205,10 +200,10 @@ impl<D: Disk> Store<D> {
         Some(&self.last)
     }
 
-    /// Saves a record. At `Ok` it is the last, and a stop leaves it. It takes no memory.
+    /// Saves a record. After `Ok` it is the last, and a stop leaves it. The call takes no memory.
     ///
-    /// S3 where the device failed, S4 before any device call where the generations are used up; after one of these S6,
-    /// until the disk is opened again. An error leaves the last record as it was.
+    /// S3 if the device failed, S4 before any device call if the generations are used up; after one of these S6, until the
+    /// disk is opened again. An error leaves the last record as it was.
     pub fn save(
         &mut self,
         moment: Option<u64>,
@@ -218,25 +213,17 @@ impl<D: Disk> Store<D> {
         requires sound { IsRecordable (content_of moment layout.now values.now) }
         requires room { length (record_bytes (content_of moment layout.now values.now)) ≤ self.old.room }
 
-        ensures saved { OnOk result ((self.new.generation ≡ self.old.generation + 1)
-            × (self.new.last ≡ Found (self.old.generation + 1) (content_of moment layout.now values.now))
-            × (self.new.tried ≡ self.new.last) × (self.new.failed ≡ false)) }
-        ensures unchanged { OnErr result ((self.new.generation ≡ self.old.generation)
-            × (self.new.last ≡ self.old.last) × (self.new.failed ≡ true)) }
-        ensures tried { IfErr result (λ fault.
-            IsTriedAfter fault (content_of moment layout.now values.now) self.old self.new) }
-        ensures room { self.new.room ≡ self.old.room }
+        ensures saved { OnOk result
+            (IsSavedAs (content_of moment layout.now values.now) self.old self.new) }
+        ensures unsaved { IfErr result
+            (λ fault. IsUnsaved fault (content_of moment layout.now values.now) self.old self.new) }
+        ensures refused { RefusesSave result self.old }
 
-        // A stop at any moment leaves the last record or the new one.
-        ensures any_moment { D.tells → self.old.failed ≡ false →
-            LeavesOnly D.left_since D.may_leave self.old.disk self.new.disk (λ file. IsEither self.old.last
-            (Found (self.old.generation + 1) (content_of moment layout.now values.now)) (recovered file)) }
+        // A stop at any moment leaves the last record or the new one, and after Ok the new one.
+        ensures stops { D.tells → LeavesEither D.left_since D.may_leave result
+            (content_of moment layout.now values.now) self.old self.new }
 
-        // After Ok a stop leaves the new one.
-        ensures at_rest { D.tells → OnOk result ((file : List ℕ) → D.may_leave self.new.disk file
-            → recovered file ≡ Found (self.old.generation + 1) (content_of moment layout.now values.now)) }
-
-        // S3 exactly where a call of the disk failed, and then one did.
+        // S3 comes exactly if a call of the disk failed, and then one did.
         ensures device { MatchResult result
             (λ _. D.failure_count self.new.disk ≡ D.failure_count self.old.disk)
             (λ fault. CountsFault fault (D.failure_count self.old.disk) (D.failure_count self.new.disk)) }
@@ -244,13 +231,10 @@ impl<D: Disk> Store<D> {
         // S3 does not come from a disk that serves a whole file.
         ensures serves { D.serves self.old.disk FILE_BYTES
             → IfErr result (λ fault. fault ≢ StoreFault.Device) × D.serves self.new.disk FILE_BYTES }
-        ensures again { IsErrOf result StoreFault.Failed ↔ (self.old.failed ≡ true) }
 
         // S4 and S6 come before any call of the disk.
         ensures unwritten { D.tells
             → IfErr result (λ fault. KeepsFile fault (D.seen self.old.disk) (D.seen self.new.disk)) }
-        ensures generations { IsErrOf result StoreFault.Generations
-            ↔ ((self.old.failed ≡ false) × (self.old.generation ≡ 2 ^ 64 - 1)) }
     {
         match self.saves {
             Saves::Working => {}
@@ -284,7 +268,7 @@ impl<D: Disk> Store<D> {
         }
     }
 
-    /// Tells what the type keeps: each file that a stop now may leave is recovered to the last record or to a failed
+    /// States the invariant of the type: each file that a stop now may leave is recovered to the last record or to a failed
     /// save's.
     pub fn kept(&self)
         ensures left { D.tells → (file : List ℕ) → D.may_leave self.now.disk file

@@ -1,4 +1,4 @@
-//! What stands in a whole file.
+//! The contents of a whole file.
 
 ghost use Rattle.std.specs.Prelude.{◌≡◌, ◌-◌, ◌≤◌, length, take, drop, IfNone, IfSome};
 ghost use Rattle.std.specs.Int.{w32, w64, from_be_bytes};
@@ -12,7 +12,7 @@ use retain_records::{LineRoom, Record};
 use st_types::limits::MAX_RECORD_BODY;
 use std::cmp::Ordering;
 
-/// What an area is, but for the record of an open one.
+/// The state of an area, without the record of an open one.
 #[derive(Clone, Copy)]
 enum Look {
     Closed,
@@ -33,7 +33,7 @@ impl Look {
     }
 }
 
-/// What stands after a gate and before a body.
+/// The fields between a gate and a body.
 #[derive(Clone, Copy)]
 struct Header {
     generation: u64,
@@ -41,7 +41,7 @@ struct Header {
     size: u32,
 }
 
-/// Reads the header, which the body follows.
+/// Reads the header, after which the body comes.
 fn read_header(bytes: &[u8]) -> Header
     requires { HEADER_BYTES ≤ length bytes.now }
     ensures generation { result.generation ≡ from_be_bytes w64 (take 8 bytes.now) }
@@ -54,8 +54,8 @@ fn read_header(bytes: &[u8]) -> Header
     Header { generation, size }
 }
 
-/// Looks at what stands after an open gate. The record is read where there is one.
-fn look_behind(behind: &[u8], into: &mut Record, lines: &mut LineRoom) -> Look
+/// Looks at the bytes after an open gate. The record is read if there is one.
+fn look_after_gate(behind: &[u8], into: &mut Record, lines: &mut LineRoom) -> Look
     requires { length behind.now ≡ AREA_BYTES - 1 }
     ensures shown { opened behind.now ≡ shown result into.new }
     ensures sound { LooksSound result into.new }
@@ -77,7 +77,7 @@ fn look_behind(behind: &[u8], into: &mut Record, lines: &mut LineRoom) -> Look
     }
 }
 
-/// Looks at an area. The record is read where there is one.
+/// Looks at an area. The record is read if there is one.
 fn look_at(area: &[u8], into: &mut Record, lines: &mut LineRoom) -> Look
     requires { length area.now ≡ AREA_BYTES }
     ensures shown { area_in area.now ≡ shown result into.new }
@@ -86,18 +86,18 @@ fn look_at(area: &[u8], into: &mut Record, lines: &mut LineRoom) -> Look
     if area[0] != OPEN_GATE {
         return Look::Closed;
     }
-    look_behind(&area[1..], into, lines)
+    look_after_gate(&area[1..], into, lines)
 }
 
 /// Which of two areas holds the last record.
 #[derive(Clone, Copy)]
 enum Choice {
     Neither,
-    /// The first, of that generation.
+    /// The first, of this generation.
     First(u64),
-    /// The second, of that generation.
+    /// The second, of this generation.
     Second(u64),
-    /// One of them is damaged, or both are of one generation.
+    /// One of them is damaged, or both are of the same generation.
     Refused,
 }
 
@@ -118,8 +118,8 @@ fn choose(first: Look, second: Look) -> Choice
     }
 }
 
-/// Tells how the areas of a whole file stand, and leaves its last record in `last` where there is one; `None` for a
-/// file that is refused for what is damaged in it.
+/// Gives the state of the areas of a whole file, and leaves its last record in `last` if there is one; `None` for a file
+/// that is refused because it is damaged.
 pub fn survey(
     file: &[u8],
     last: &mut Record,

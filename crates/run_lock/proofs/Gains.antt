@@ -1,4 +1,4 @@
--- What a call of the core adds to the log.
+-- The entries that a call of the core adds to the log.
 use Rattle.std.proofs.Common.{◌≡◌, ◌∙◌, ap, arith, sym, refl, append-nil, take, drop, length, length-append, ◌≤◌, ℕ, ◌+◌, List, [], ◌∷◌, ◌++◌, Option, Some, None, Result, Ok, Err}
 use Rattle.st_types.specs.declared.entry.Entry.TheVariants.{Row, Done}
 use Rattle.st_types.specs.declared.entry.Activation.{Activation}
@@ -11,13 +11,13 @@ use Rattle.slot_run.specs.Effects.{Effect}
 use Rattle.serial_core.specs.declared.refusal.Answer.{Answer}
 use Rattle.serial_core.specs.declared.refusal.Answer.TheVariants.{Committed, Stale}
 use Rattle.serial_core.specs.declared.refusal.Refusal.TheVariants.{Full, NotWaiting, Foreign, NotLater, NoMemory}
-use Rattle.serial_core.specs.Steps.{State, made, grown, Latches, Commits, CommitsHere}
+use Rattle.serial_core.specs.Steps.{State, past_in, grown, Latches, Commits, CommitsHere}
 use Rattle.durable_core.specs.declared.refusal.Refusal.{Refusal}
 use Rattle.durable_core.specs.declared.refusal.Refusal.TheVariants.{StoreFailed, Serial}
 use Rattle.durable_core.specs.Cores.{CoreView, Guards, with_state}
 use Rattle.run_lock.specs.Answers.{committed_by, committed_here}
 use Rattle.run_lock.specs.Latching.{LatchesNext}
-use Rattle.run_lock.specs.Lives.{life_of, life_at, Gains, IsGrownFrom, IsOfLife, IsStartedSo}
+use Rattle.run_lock.specs.Lives.{life_of, life_at, Gains, IsGrownFrom, IsOfLife, IsStartedBy}
 use Rattle.durable_core.specs.declared.starting.StartMode.{StartMode}
 use Rattle.run_lock.proofs.PhaseLemmas.{StaysSo}
 use Rattle.std.proofs.lemmas.List.{take-append-le, take-append-drop}
@@ -35,11 +35,11 @@ stays s t x is unchanged =
       life_is = ap life_of same;
       done = let e : done_count t.state.log ≡ done_count s.state.log = ap (λ (y : State). done_count y.log) same in
           omega (arith, e);
-      rows_stay = ap (λ (y : State). (made y).rows) same;
+      rows_stay = ap (λ (y : State). (past_in y).rows) same;
       acked_stays = ap (λ (c : CoreView _). c.acked) is;
     }
 
--- the life as it was when its log had so many entries is the same
+-- the life as it was when its log had this number of entries is the same
 pub life_stays : (entries : ℕ) (old new : State) (added : List Entry) → entries ≤ length old.log
     → life_of new ≡ life_of old → new.log ≡ old.log ++ added → life_at entries new ≡ life_at entries old
 life_stays entries old new added less same log =
@@ -70,7 +70,7 @@ gains_extend s t n g = record {
   acked_stays = g.acked_stays;
 }
 
--- what may have stopped the run stays so
+-- the cause of a stop stays true
 pub stay_so : {D : Type 0} (s t : CoreView D) → Extends s t → StaysSo s t
 stay_so s t g = record {
   failed = λ cause is. g.failed_stays ∙ is;
@@ -82,7 +82,7 @@ pub gains_stay_so : {D : Type 0} (s t : CoreView D) (n : ℕ) → Gains s t n �
 gains_stay_so s t n g = stay_so s t (gains_extend s t n g)
 
 abbrev pub rows_of : State → List Latch
-rows_of x = (made x).rows
+rows_of x = (past_in x).rows
 
 -- an execution more
 pub gains_done : {D : Type 0} (s t : CoreView D) (a : Activation) → t ≡ with_state s t.state
@@ -106,7 +106,7 @@ gains_done s t a is same = record {
 
 -- a row more
 pub row_more : (s t : State) (row : Latch) → t ≡ grown s (Row row)
-    → (life_of t ≡ life_of s) × (done_count t.log ≡ done_count s.log) × ((made t).rows ≡ (made s).rows ++ row ∷ [])
+    → (life_of t ≡ life_of s) × (done_count t.log ≡ done_count s.log) × ((past_in t).rows ≡ (past_in s).rows ++ row ∷ [])
 row_more s t row same =
     let e : done_count t.log ≡ done_count (s.log ++ Row row ∷ []) = ap (λ (x : State). done_count x.log) same in
     let n : done_count (s.log ++ Row row ∷ []) ≡ done_count s.log + 0 = counted_behind is_done s.log (Row row) in (
@@ -146,9 +146,9 @@ latch_refused s row (Serial NoMemory) t g = absurd g.2
 some_same : (a b : State) → ◌≡◌ {A = Option State} (Some a) (Some b) → a ≡ b
 some_same a b e = cc
 
--- what a run keeps of its core says that this one has grown from the one with which it began
+-- the invariant of a run says that this core has grown from the one with which the run began
 pub grown_from : {D : Type 0} (first now : CoreView D) (entries acked : ℕ) (life : Option State) (how : StartMode)
-    → IsOfLife now entries life → life ≡ Some first.state → entries ≡ length first.state.log → IsStartedSo now how
+    → IsOfLife now entries life → life ≡ Some first.state → entries ≡ length first.state.log → IsStartedBy now how
     → how ≡ first.mode → acked ≤ now.acked → acked ≡ first.acked → IsGrownFrom first now
 grown_from first now entries acked life how of began counted started mode stays was =
     let same : life_at entries now.state ≡ first.state = some_same _ _ (of ∙ began) in
@@ -171,7 +171,7 @@ grown_itself core = record {
   acked = omega arith;
 }
 
--- latching the next row goes on from what was
+-- latching the next row extends the core
 pub latch_extends : {D : Type 0} (s : CoreView D) (rest : List Latch) (refusal : Option Refusal) (t : CoreView D)
     → LatchesNext s rest refusal t → Extends s t
 latch_extends s [] None t same = gains_extend s t 0 (stays s t s.state same refl)

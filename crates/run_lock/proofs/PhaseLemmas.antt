@@ -1,4 +1,4 @@
--- What a run has to do with its rows in each phase.
+-- The rows that a run deals with in each phase.
 use Rattle.std.proofs.Common.{◌≡◌, ◌∙◌, ◌≤◌, ℕ, refl, ap, arith, length, List, [], ◌∷◌, Option, Some, None, inl, inr}
 use Rattle.std.specs.Prelude.{Result, Ok, Err, IfErr}
 use Rattle.retain_store.specs.declared.fault.StoreFault.{StoreFault}
@@ -14,7 +14,7 @@ use Rattle.run_lock.specs.declared.phase.Phase.{Phase}
 use Rattle.run_lock.specs.declared.phase.RunFault.{RunFault}
 use Rattle.run_lock.specs.declared.phase.Phase.TheVariants.{Running, Ended, Stopped}
 use Rattle.run_lock.specs.declared.phase.RunFault.TheVariants.{Refused, NotStarted, NotSettled}
-use Rattle.run_lock.specs.Phases.{ended_by, phase_after, phase_after_answer, unless_stopped, IsSo, IsStoppedFor, IsOfNoCore}
+use Rattle.run_lock.specs.Phases.{ended_by, phase_after, phase_after_answer, unless_stopped, IsCauseIn, IsStoppedFor, IsOfNoCore}
 use Rattle.run_lock.specs.Phases.{MayEnd}
 use Rattle.run_lock.specs.Latching.{LatchesNext}
 
@@ -42,9 +42,9 @@ pub same_answered : {T : Type 0} (now : Phase) (r : Result T Refusal) (xs ys : L
 same_answered now (Ok a) xs ys e = e
 same_answered now (Err refusal) xs ys e = same_ended now (Stopped (Refused refusal)) xs ys e
 
--- ---- what stopped a run stays so
+-- ---- the cause of a stop stays true
 
--- a core in which all stays so that may have stopped a run
+-- a core in which each possible cause of a stop stays true
 pub record StaysSo {D : Type 0} (old new : CoreView D) : Type 0 where
   pub failed : (cause : StoreFault) → old.failed ≡ Some cause → new.failed ≡ Some cause
   pub room : new.state.room ≡ old.state.room
@@ -56,7 +56,7 @@ full_stays old new same full =
     omega (arith, full, ap (λ (s : State). s.room) same, ap (λ (s : State). length s.log) same)
 
 module _ {D : Type 0} where
-  so_stays : (fault : RunFault) (old new : CoreView D) → StaysSo old new → IsSo fault old → IsSo fault new
+  so_stays : (fault : RunFault) (old new : CoreView D) → StaysSo old new → IsCauseIn fault old → IsCauseIn fault new
   so_stays (Refused (StoreFailed cause)) old new stays is = stays.failed cause is
   so_stays (Refused (Serial Full)) old new stays is = omega (arith, stays.room, stays.longer, is)
   so_stays (Refused (Serial NotWaiting)) old new stays is = tt
@@ -72,21 +72,21 @@ module _ {D : Type 0} where
   stopped_stays Ended old new stays is = tt
   stopped_stays (Stopped fault) old new stays is = so_stays fault old new stays is
 
-  stopped_ended : (now : Phase) (fault : RunFault) (core : CoreView D) → IsStoppedFor now core → IsSo fault core
+  stopped_ended : (now : Phase) (fault : RunFault) (core : CoreView D) → IsStoppedFor now core → IsCauseIn fault core
       → IsStoppedFor (ended_by now (Stopped fault)) core
   stopped_ended Running fault core was is = is
   stopped_ended Ended fault core was is = tt
   stopped_ended (Stopped first) fault core was is = was
 
   pub stopped_answer : {T : Type 0} (now : Phase) (r : Result T Refusal) (core : CoreView D) → IsStoppedFor now core
-      → IfErr r (λ refusal. IsSo (Refused refusal) core) → IsStoppedFor (phase_after_answer now r) core
+      → IfErr r (λ refusal. IsCauseIn (Refused refusal) core) → IsStoppedFor (phase_after_answer now r) core
   stopped_answer now (Ok a) core was is = was
   stopped_answer now (Err refusal) core was is = stopped_ended now (Refused refusal) core was is
 
-  -- what a refused call tells is so of the core
+  -- the cause that a refused call reports is true of the core
   pub refused_so : {T : Type 0} (old new : CoreView D) (r : Result T Refusal) (R : Result T SerialRefusal → Type 0)
       → Guards old r new R → (R (Err Full) → new.state.room ≤ length new.state.log)
-      → IfErr r (λ refusal. IsSo (Refused refusal) new)
+      → IfErr r (λ refusal. IsCauseIn (Refused refusal) new)
   refused_so old new (Ok a) R g full = tt
   refused_so old new (Err (StoreFailed cause)) R g full = ap (λ (c : CoreView D). c.failed) g.1 ∙ g.0
   refused_so old new (Err (Serial Full)) R g full = full g.2
@@ -95,9 +95,9 @@ module _ {D : Type 0} where
   refused_so old new (Err (Serial NotLater)) R g full = tt
   refused_so old new (Err (Serial NoMemory)) R g full = tt
 
-  -- so does what a refused row tells
+  -- so is the cause that a refused row reports
   pub refused_row : (old new : CoreView D) (row : Latch) (refusal : Refusal)
-      → Guards {A = ℕ} old (Err refusal) new (λ r. Latches old.state row r new.state) → IsSo (Refused refusal) new
+      → Guards {A = ℕ} old (Err refusal) new (λ r. Latches old.state row r new.state) → IsCauseIn (Refused refusal) new
   refused_row old new row refusal g = refused_so old new (Err refusal) (λ r. Latches old.state row r new.state) g
       (λ full. full_stays old.state new.state full.1 full.0)
 
@@ -119,11 +119,11 @@ module _ {D : Type 0} where
   stopped_by_end Ended end core was may = tt
   stopped_by_end (Stopped fault) end core was may = was
 
-  -- a fault that no core has told is so of each
-  pub no_core_so : (fault : RunFault) (core : CoreView D) → IsOfNoCore fault → IsSo fault core
+  -- a fault that doesn't come from a core is true of each
+  pub no_core_so : (fault : RunFault) (core : CoreView D) → IsOfNoCore fault → IsCauseIn fault core
   no_core_so fault core of = may_end_so (Stopped fault) core of
 
-  -- what stopped a run before or after a row is so of the core after it
+  -- the cause of a stop before or after a row is true of the core after it
   pub latch_stopped : (now : Phase) (old new : CoreView D) (rest : List Latch) (refusal : Option Refusal)
       → LatchesNext old rest refusal new → StaysSo old new → IsStoppedFor now old
       → IsStoppedFor (phase_after now refusal) new
@@ -133,7 +133,7 @@ module _ {D : Type 0} where
 
   -- ---- a flush
 
-  -- what a flush leaves as it was, and that no acknowledgement is taken back
+  -- the parts that a flush leaves as they were, and that no acknowledgement is taken back
   pub record Keeps (old new : CoreView D) : Type 0 where
     pub state_stays : new.state ≡ old.state
     pub mode_stays : new.mode ≡ old.mode
@@ -162,9 +162,9 @@ module _ {D : Type 0} where
   }
   flush_keeps old (Err (Serial refusal)) new h few = absurd h
 
-  -- what a refused flush tells is so of the core
+  -- the cause that a refused flush reports is true of the core
   pub flush_so : (old : CoreView D) (r : Result ℕ Refusal) (new : CoreView D) → Flushes old r new
-      → IfErr r (λ refusal. IsSo (Refused refusal) new)
+      → IfErr r (λ refusal. IsCauseIn (Refused refusal) new)
   flush_so old (Ok n) new h = tt
   flush_so old (Err (StoreFailed cause)) new (inl h) = ap (λ (c : CoreView D). c.failed) h.1 ∙ h.0
   flush_so old (Err (StoreFailed cause)) new (inr h) = h.4

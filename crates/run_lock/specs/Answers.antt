@@ -1,10 +1,10 @@
--- What a worker counts of its answers.
+-- A worker's counts of its answers.
 use Rattle.std.specs.Prelude.{ℕ, ◌+◌, min, Option, Some, None, Result, Ok, Err}
 use Rattle.serial_core.specs.declared.refusal.Answer.{Answer}
 use Rattle.serial_core.specs.declared.refusal.Answer.TheVariants.{Committed, Stale}
 use Rattle.durable_core.specs.declared.refusal.Refusal.{Refusal}
 
--- how many executions an answer tells of
+-- how many executions an answer reports
 abbrev pub committed_by : Result Answer Refusal → ℕ
 committed_by (Ok (Committed n)) = 1
 committed_by (Ok Stale) = 0

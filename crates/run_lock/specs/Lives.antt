@@ -6,7 +6,7 @@ use Rattle.st_types.specs.declared.entry.Entry.{Entry}
 use Rattle.serial_core.specs.contracts.serial.SerialCore as state
 use Rattle.atomic_table.specs.Seated.{TableId}
 use Rattle.st_meaning.specs.Logs.{done_count}
-use Rattle.serial_core.specs.Steps.{State, made, none_waits}
+use Rattle.serial_core.specs.Steps.{State, past_in, none_waits}
 use Rattle.st_types.specs.Rows.{Latch}
 use Rattle.durable_core.specs.Cores.{CoreView}
 use Rattle.durable_core.specs.contracts.starting.StartMode as mode
@@ -14,11 +14,11 @@ use Rattle.durable_core.specs.declared.starting.StartMode.{StartMode}
 use Rattle.run_lock.specs.declared.phase.Phase.{Phase}
 use Rattle.run_lock.specs.Phases.{unless_stopped}
 
--- the plan, what the variables and the last moment were at the start, and the room: a life without its log
+-- the plan, the variables and the last moment at the start, and the room: a life without its log
 abbrev pub life_of : State → State
 life_of state = record { plan = state.plan; start = state.start; before = state.before; log = []; room = state.room }
 
--- the life as it was when its log had so many entries
+-- the life as it was when its log had this number of entries
 abbrev pub life_at : ℕ → State → State
 life_at entries state = record {
   plan = state.plan;
@@ -28,7 +28,7 @@ life_at entries state = record {
   room = state.room;
 }
 
--- the life is this one, as it was when its log had so many entries
+-- the life is this one, as it was when its log had this number of entries
 abbrev pub IsOfLife : {D : Type 0} → CoreView D → ℕ → Option State → Type 0
 IsOfLife core entries life = Some (life_at entries core.state) ≡ life
 
@@ -38,14 +38,14 @@ IsOfLife-prop core entries life =
     Coded-set (coded_option state.the_row.coded) (Some (life_at entries core.state)) life
 
 -- how the core was started
-abbrev pub IsStartedSo : {D : Type 0} → CoreView D → StartMode → Type 0
-IsStartedSo core how = core.mode ≡ how
+abbrev pub IsStartedBy : {D : Type 0} → CoreView D → StartMode → Type 0
+IsStartedBy core how = core.mode ≡ how
 
-pub IsStartedSo-prop : {D : Type 0} (core : CoreView D) (how : StartMode) → IsProp (IsStartedSo core how)
-IsStartedSo-prop core how = Coded-set mode.the_row.coded core.mode how
+pub IsStartedBy-prop : {D : Type 0} (core : CoreView D) (how : StartMode) → IsProp (IsStartedBy core how)
+IsStartedBy-prop core how = Coded-set mode.the_row.coded core.mode how
 
--- The core goes on from this one: it was started so, its life is the same, the log that was is a front of its log, and
--- what was acknowledged is so still.
+-- The core goes on from this one: it was started in the same way, its life is the same, the old log is a front of its log,
+-- and everything acknowledged is still so.
 pub record IsGrownFrom {D : Type 0} (old new : CoreView D) : Type 0 where
   pub mode : new.mode ≡ old.mode
   pub life : life_of new.state ≡ life_of old.state
@@ -55,19 +55,19 @@ pub record IsGrownFrom {D : Type 0} (old new : CoreView D) : Type 0 where
 
 -- The rows that were latched, and after them those that are left, are those of the run, until it is stopped.
 abbrev pub InOrder : {D : Type 0} → Phase → CoreView D → List Latch → List Latch → Type 0
-InOrder phase core rest rows = unless_stopped phase ((made core.state).rows ++ rest) ≡ unless_stopped phase rows
+InOrder phase core rest rows = unless_stopped phase ((past_in core.state).rows ++ rest) ≡ unless_stopped phase rows
 
 pub InOrder-prop : {D : Type 0} (phase : Phase) (core : CoreView D) (rest rows : List Latch)
     → IsProp (InOrder phase core rest rows)
 InOrder-prop phase core rest rows =
-    Coded-set (coded_list latch.the_row.coded) (unless_stopped phase ((made core.state).rows ++ rest))
+    Coded-set (coded_list latch.the_row.coded) (unless_stopped phase ((past_in core.state).rows ++ rest))
     (unless_stopped phase rows)
 
--- nothing waits on one of so many resources
+-- nothing waits on the first `resources` resources
 abbrev pub NothingIsDue : State → ℕ → Type 0
 NothingIsDue state resources = (resource : ℕ) → resource < resources → none_waits state resource
 
--- The life goes on with so many executions more, and its acknowledgements stay.
+-- The life goes on with `executions` further executions, and its acknowledgements stay.
 pub record Gains {D : Type 0} (old new : CoreView D) (executions : ℕ) : Type 0 where
   pub mode_stays : new.mode ≡ old.mode
   pub failed_stays : new.failed ≡ old.failed
@@ -75,7 +75,7 @@ pub record Gains {D : Type 0} (old new : CoreView D) (executions : ℕ) : Type 0
   pub log_is : new.state.log ≡ old.state.log ++ added
   pub life_is : life_of new.state ≡ life_of old.state
   pub done : done_count new.state.log ≡ done_count old.state.log + executions
-  pub rows_stay : (made new.state).rows ≡ (made old.state).rows
+  pub rows_stay : (past_in new.state).rows ≡ (past_in old.state).rows
   pub acked_stays : new.acked ≡ old.acked
 
 -- the name of no mark

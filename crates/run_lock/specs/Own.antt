@@ -1,4 +1,4 @@
--- What has the code of a run's own plan.
+-- Snapshots and executions with the code of a run's own plan.
 use Rattle.std.specs.Prelude.{◌≡◌, ℕ, List, Option, Some, None, option_map, refl}
 use Rattle.std.specs.Coded.{Coded, Coded-set, code_by, coded_list, coded_option, coded×, coded_ℕ}
 use Rattle.st_types.specs.declared.kind.Kind.{Kind}
@@ -26,35 +26,35 @@ coded_view =
     (λ t. record { instrs = t.0; kinds = t.1.0; extra = t.1.1 }) (λ _. refl)
 
 -- an execution is of the code of its activation's program
-abbrev pub IsOwn : Option State → Effect → Type 0
-IsOwn life effect = code_in life effect.activation.program ≡ Some effect.code
+abbrev pub HasOwnCode : Option State → Effect → Type 0
+HasOwnCode life effect = code_in life effect.activation.program ≡ Some effect.code
 
-pub IsOwn-prop : (life : Option State) (effect : Effect) → IsProp (IsOwn life effect)
-IsOwn-prop life effect =
+pub HasOwnCode-prop : (life : Option State) (effect : Effect) → IsProp (HasOwnCode life effect)
+HasOwnCode-prop life effect =
     Coded-set (coded_option coded_view) (code_in life effect.activation.program) (Some effect.code)
 
--- so is what is taken
+-- so is a snapshot that is taken
 abbrev pub program_of : Taken → ℕ
 program_of (Quick quick) = quick.activation.program
 program_of (Whole snapshot) = snapshot.activation.program
 
-abbrev pub code_of : Taken → Code
-code_of (Quick quick) = quick.code.value
-code_of (Whole snapshot) = snapshot.code.value
+abbrev pub taken_code : Taken → Code
+taken_code (Quick quick) = quick.code.value
+taken_code (Whole snapshot) = snapshot.code.value
 
 abbrev pub IsOwnTaken : Option State → Taken → Type 0
-IsOwnTaken life taken = code_in life (program_of taken) ≡ Some (code_view (code_of taken))
+IsOwnTaken life taken = code_in life (program_of taken) ≡ Some (code_view (taken_code taken))
 
 pub IsOwnTaken-prop : (life : Option State) (taken : Taken) → IsProp (IsOwnTaken life taken)
 IsOwnTaken-prop life taken =
-    Coded-set (coded_option coded_view) (code_in life (program_of taken)) (Some (code_view (code_of taken)))
+    Coded-set (coded_option coded_view) (code_in life (program_of taken)) (Some (code_view (taken_code taken)))
 
--- what came of what was taken: an execution of these values, or of this snapshot
+-- an execution of a snapshot that was taken, a quick one or a whole one
 abbrev pub CameOf : Taken → Effect → Type 0
 CameOf (Quick quick) effect = IsQuickEffectOf quick effect
 CameOf (Whole snapshot) effect = IsEffectOf snapshot effect
 
 -- all slots were taken
-abbrev pub IsWhole : Taken → Type 0
-IsWhole (Quick quick) = ⊥
-IsWhole (Whole snapshot) = Unit {0}
+abbrev pub TakesAllSlots : Taken → Type 0
+TakesAllSlots (Quick quick) = ⊥
+TakesAllSlots (Whole snapshot) = Unit {0}

@@ -29,28 +29,28 @@ abbrev pub phase_after_answer : {T : Type 0} → Phase → Result T Refusal → 
 phase_after_answer now (Ok answer) = now
 phase_after_answer now (Err refusal) = ended_by now (Stopped (Refused refusal))
 
--- The rows that a run has to do with, until it is stopped: a row that was refused is lost.
+-- The rows that a run deals with, until it is stopped: a row that was refused is lost.
 abbrev pub unless_stopped : Phase → List Latch → List Latch
 unless_stopped Running rows = rows
 unless_stopped Ended rows = rows
 unless_stopped (Stopped fault) rows = []
 
--- What stopped a run is so of its core: K5 where the store has failed, for this cause, and K1 where the log is full.
-abbrev pub IsSo : {D : Type 0} → RunFault → CoreView D → Type 0
-IsSo (Refused (StoreFailed cause)) core = core.failed ≡ Some cause
-IsSo (Refused (Serial Full)) core = core.state.room ≤ length core.state.log
-IsSo (Refused (Serial NotWaiting)) core = Unit {0}
-IsSo (Refused (Serial Foreign)) core = Unit {0}
-IsSo (Refused (Serial NotLater)) core = Unit {0}
-IsSo (Refused (Serial NoMemory)) core = Unit {0}
-IsSo NotStarted core = Unit {0}
-IsSo NotSettled core = Unit {0}
+-- The cause of a stop is true of the core: K5 if the store has failed, for this cause, and K1 if the log is full.
+abbrev pub IsCauseIn : {D : Type 0} → RunFault → CoreView D → Type 0
+IsCauseIn (Refused (StoreFailed cause)) core = core.failed ≡ Some cause
+IsCauseIn (Refused (Serial Full)) core = core.state.room ≤ length core.state.log
+IsCauseIn (Refused (Serial NotWaiting)) core = Unit {0}
+IsCauseIn (Refused (Serial Foreign)) core = Unit {0}
+IsCauseIn (Refused (Serial NotLater)) core = Unit {0}
+IsCauseIn (Refused (Serial NoMemory)) core = Unit {0}
+IsCauseIn NotStarted core = Unit {0}
+IsCauseIn NotSettled core = Unit {0}
 
 -- the same of a run that may go on, or that has come to its end
 abbrev pub IsStoppedFor : {D : Type 0} → Phase → CoreView D → Type 0
 IsStoppedFor Running core = Unit {0}
 IsStoppedFor Ended core = Unit {0}
-IsStoppedFor (Stopped fault) core = IsSo fault core
+IsStoppedFor (Stopped fault) core = IsCauseIn fault core
 
 unit_prop : IsProp (Unit {0})
 unit_prop a b = refl
@@ -68,14 +68,14 @@ IsStoppedFor-prop (Stopped (Refused (Serial NoMemory))) core = unit_prop
 IsStoppedFor-prop (Stopped NotStarted) core = unit_prop
 IsStoppedFor-prop (Stopped NotSettled) core = unit_prop
 
--- a fault that no core has told
+-- a fault that doesn't come from a core
 abbrev pub IsOfNoCore : RunFault → Type 0
 IsOfNoCore (Refused (Serial NoMemory)) = Unit {0}
 IsOfNoCore (Refused refusal) = ⊥
 IsOfNoCore NotStarted = Unit {0}
 IsOfNoCore NotSettled = Unit {0}
 
--- a run that comes to its end, or is stopped for what no core has told
+-- a run that comes to its end, or is stopped for a fault that doesn't come from a core
 abbrev pub MayEnd : Phase → Type 0
 MayEnd Running = Unit {0}
 MayEnd Ended = Unit {0}

@@ -1,4 +1,4 @@
--- The rule of a mark's word, and what a step on it tells.
+-- The rule of a mark's word, and the facts that a step on it gives.
 use Rattle.std.specs.Prelude.{◌≡◌, ℕ, ◌≤◌, [], ◌∷◌, true, false, max}
 use mathlib.Core.Option.{some}
 use lib.ListN.{get_elem?}
@@ -20,10 +20,10 @@ abbrev pub IsRising : State (Unit {0}) View → Type 0
 IsRising s = (seat : ℕ) × (word : ℕ) × (s.words ≡ word ∷ [])
     × ((by : ℕ) (v : View) → get_elem? s.views by ≡ some v → Fits seat word by v)
 
--- The number found is no less than was seen, and is then what was seen.
+-- The number found is at least the seen one, and counts as seen from then on.
 abbrev pub Looked : Step (Unit {0}) → Me (Unit {0}) View → ℕ → Me (Unit {0}) View → Type 0
 Looked s before found after = (before.0.top ≤ found) × (after.0 ≡ record { raises = before.0.raises; top = found })
 
--- What was raised is the greater of the two numbers.
+-- The raised number is the greater of the two numbers.
 abbrev pub Raised : Step (Unit {0}) → Me (Unit {0}) View → ℕ → Me (Unit {0}) View → Type 0
 Raised s before found after = after.0 ≡ record { raises = before.0.raises; top = max before.0.top s.first }

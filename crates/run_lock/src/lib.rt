@@ -1,9 +1,9 @@
-//! What lies under the lock of a run in threads: the core, and with it a book of what the workers committed, the right
-//! to raise the mark, the rows that are left, and how far the run is.
+//! The data under the lock of a run in threads: the core, and with it a book of the workers' commits, the right to raise the
+//! mark, the rows that are left, and how far the run is.
 //!
-//! What the lock's type keeps holds at every taking: the core's own promise, that the log has as many new executions as
-//! the book says, that the number which the flusher raised is acknowledged, that the life is that of the run, and that
-//! its rows were latched in order.
+//! The invariant of the lock's type holds whenever the lock is taken: the core's own promise, that the log has as many new
+//! executions as the book says, that the number which the flusher raised is acknowledged, that the life is that of the run,
+//! and that its rows were latched in order.
 #![tactic(auto)]
 
 mod locked;

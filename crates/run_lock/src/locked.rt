@@ -1,16 +1,16 @@
-//! What lies under the lock of a run.
+//! The data under the lock of a run.
 
 ghost use Rattle.std.specs.Prelude.{length, ◌≡◌, ◌↔◌, ◌+◌, ◌^◌, ◌<◌, ◌≤◌, ◌++◌, Option, Some, drop, max};
 ghost use Rattle.std.specs.Prelude.{IfOk, IfNone, OnErr, IsTrue};
 ghost use Rattle.std.specs.Coded.{Coded-set};
 ghost use Rattle.atomic_table.specs.Seated.{table_id_coded};
 ghost use Rattle.st_meaning.specs.Logs.{done_count};
-ghost use Rattle.serial_core.specs.Steps.{made, Commits, CommitsHere, Takes};
+ghost use Rattle.serial_core.specs.Steps.{past_in, Commits, CommitsHere, Takes};
 ghost use Rattle.serial_core.specs.Quick.{TakesQuick};
 ghost use Rattle.durable_core.specs.Cores.{Guards};
 ghost use Rattle.durable_core.specs.Flushing.{Flushes, IsAcknowledged};
 ghost use Rattle.run_lock.specs.Answers.{committed_by, committed_here};
-ghost use Rattle.run_lock.specs.Lives.{life_of, IsOfLife, IsOfLife-prop, IsStartedSo, IsStartedSo-prop, NothingIsDue};
+ghost use Rattle.run_lock.specs.Lives.{life_of, IsOfLife, IsOfLife-prop, IsStartedBy, IsStartedBy-prop, NothingIsDue};
 ghost use Rattle.run_lock.specs.Lives.{InOrder, InOrder-prop};
 ghost use Rattle.run_lock.specs.Latching.{LatchesNext};
 ghost use Rattle.run_lock.specs.Own.{IsOwnTaken};
@@ -81,9 +81,9 @@ impl Run for Brand {
 
 /// The core with the book of its run, the one pass that raises its mark, and the rows that are not latched yet.
 ///
-/// The log has as many executions more than as the run began as the book says. What was raised is acknowledged. The
-/// core goes on from that of the run, with no fewer entries acknowledged, and until the run is stopped, what it has
-/// latched and what is left are the run's rows. What stopped the run is so.
+/// The log has as many more executions than at the beginning of the run as the book says. The number that was raised is
+/// acknowledged. The core goes on from that of the run, with no fewer entries acknowledged, and until the run is stopped,
+/// the rows that it has latched and those that are left are the run's rows. The cause of a stop is true of the core.
 #[derive(Drop)]
 pub struct Locked<J: Run, D: Disk> {
     pub core: Core<D>,
@@ -95,7 +95,7 @@ pub struct Locked<J: Run, D: Disk> {
     pub ghost acknowledged: { raises.top ≤ core.acked },
     pub ghost of_run: { raises.mark ≡ J.mark } by { Coded-set table_id_coded raises.mark J.mark },
     pub ghost one_life: { IsOfLife core J.entries J.life } by { IsOfLife-prop core J.entries J.life },
-    pub ghost started_so: { IsStartedSo core J.mode } by { IsStartedSo-prop core J.mode },
+    pub ghost started_so: { IsStartedBy core J.mode } by { IsStartedBy-prop core J.mode },
     pub ghost longer: { J.entries ≤ length core.state.log },
     pub ghost acked_stays: { J.acked ≤ core.acked },
     pub ghost stopped_for: { IsStoppedFor phase core } by { IsStoppedFor-prop phase core },
@@ -132,7 +132,7 @@ fn latch_next<D: Disk>(core: &mut Core<D>, rest: &mut VecDeque<Row>) -> Option<R
     ensures latches { LatchesNext core.old rest.old.items result core.new }
     ensures rest { rest.new.items ≡ drop 1 rest.old.items }
     ensures rows { IfNone result
-        ((made core.new.state).rows ++ rest.new.items ≡ (made core.old.state).rows ++ rest.old.items) }
+        ((past_in core.new.state).rows ++ rest.new.items ≡ (past_in core.old.state).rows ++ rest.old.items) }
 {
     match rest.pop_front() {
         Some(row) => match core.latch(row) {
@@ -144,8 +144,7 @@ fn latch_next<D: Disk>(core: &mut Core<D>, rest: &mut VecDeque<Row>) -> Option<R
 }
 
 impl<J: Run, D: Disk> Locked<J, D> {
-    /// A snapshot of the best activation that waits on the resource; none where nothing waits there. A refusal ends the
-    /// run.
+    /// A snapshot of the best activation that waits on the resource; none if nothing waits there. A refusal ends the run.
     pub fn take(&mut self, alloc: Global, resource: usize) -> Result<Option<Snapshot>, Refusal>
         ensures core { self.new.core ≡ self.old.core }
         ensures takes { Guards self.old.core result self.old.core (λ r. Takes self.old.core.state resource r) }
@@ -157,7 +156,7 @@ impl<J: Run, D: Disk> Locked<J, D> {
         result
     }
 
-    /// What a run of the best activation that waits on the resource starts from; none where nothing waits there. A
+    /// The snapshot, quick or whole, of the best activation that waits on the resource; none if nothing waits there. A
     /// refusal ends the run.
     pub fn take_quick(&mut self, alloc: Global, resource: usize) -> Result<Option<Taken>, Refusal>
         ensures core { self.new.core ≡ self.old.core }
@@ -170,7 +169,7 @@ impl<J: Run, D: Disk> Locked<J, D> {
         result
     }
 
-    /// What was taken here is the run's own.
+    /// A snapshot that was taken here is the run's own.
     pub fn own(&self, taken: Taken) -> OwnTaken<J>
         requires { IsOwnTaken (Some self.now.core.state) taken }
     {
@@ -180,7 +179,8 @@ impl<J: Run, D: Disk> Locked<J, D> {
         }
     }
 
-    /// Commits what came of what was taken here, and counts in the share what was appended. A refusal ends the run.
+    /// Commits an execution of a snapshot that was taken here, and counts in the share the executions appended. A refusal
+    /// ends the run.
     pub fn commit(&mut self, own: OwnExecution<J>, share: &mut Share<J>) -> Result<Answer, Refusal>
         requires { 0 < share.old.parts }
         ensures core { Guards self.old.core result self.new.core
@@ -234,7 +234,7 @@ impl<J: Run, D: Disk> Locked<J, D> {
         result
     }
 
-    /// Flushes, and raises the mark to what is acknowledged then. A refusal ends the run.
+    /// Flushes, and raises the mark to the number that is acknowledged then. A refusal ends the run.
     pub fn flush(&mut self, mark: &Mark) -> Result<usize, Refusal>
         requires { mark.now ≡ J.mark }
         ensures core { Flushes self.old.core result self.new.core }
@@ -273,7 +273,7 @@ impl<J: Run, D: Disk> Locked<J, D> {
         *phase = after_call(*phase, refusal);
     }
 
-    /// Ends the run, unless it has ended: it has come to its end, or is stopped for what no core has told.
+    /// Ends the run, unless it has ended: it has come to its end, or is stopped for a cause outside the core.
     pub fn end(&mut self, end: Phase)
         requires { MayEnd end }
         ensures core { self.new.core ≡ self.old.core }
@@ -283,7 +283,7 @@ impl<J: Run, D: Disk> Locked<J, D> {
         *phase = end_of(*phase, end);
     }
 
-    /// Whether nothing waits on one of so many resources.
+    /// Whether nothing waits on the first `resources` resources.
     pub fn nothing_waits(&self, resources: usize) -> bool
         ensures { IsTrue result ↔ NothingIsDue self.now.core.state resources }
     {
@@ -298,7 +298,7 @@ impl<J: Run, D: Disk> Locked<J, D> {
     }
 }
 
-/// Whether nothing waits on one of so many resources.
+/// Whether nothing waits on the first `resources` resources.
 fn nothing_waits<D: Disk>(core: &Core<D>, resources: usize) -> bool
     ensures { IsTrue result ↔ NothingIsDue core.now.state resources }
 {
@@ -310,7 +310,7 @@ fn nothing_waits<D: Disk>(core: &Core<D>, resources: usize) -> bool
     true
 }
 
-/// Whether nothing waits on one of so many resources, and all of the log is acknowledged.
+/// Whether nothing waits on the first `resources` resources, and all of the log is acknowledged.
 pub fn is_settled<D: Disk>(core: &Core<D>, resources: usize) -> bool
     ensures { IsTrue result ↔ (NothingIsDue core.now.state resources × IsAcknowledged core.now) }
 {

@@ -6,14 +6,14 @@ use atomic_table::{Play, Seat, Split, Table, TableRule};
 use std::alloc::{AllocError, Global};
 use std::marker::Model;
 
-/// What a pass knows of the number: whether it raises, and the greatest number that it raised or saw. No value of it is
-/// ever made: it exists in proofs alone.
+/// The number as a pass knows it: whether it raises, and the greatest number that it raised or saw. No value of it is ever
+/// made: it exists in proofs alone.
 pub struct View {
     pub raises: bool,
     pub top: u64,
 }
 
-/// The word is what the one raising pass raised last, and no pass has seen more.
+/// The word is the last number that the one raising pass raised, and no pass has seen more.
 pub struct Rises;
 
 impl TableRule<(), View, ()> for Rises {
@@ -42,7 +42,7 @@ impl Play<(), View> for Raise {
     ghost then = { Raised };
 }
 
-/// A reader that is split off knows what its origin knew, and does not raise.
+/// A reader that is split off knows the same as its origin, and does not raise.
 struct Reader;
 
 impl Split<View> for Reader {
@@ -87,7 +87,7 @@ impl Model for RaisePass {
     ghost invariant = { λ p. p.seat.me.0.raises ≡ true };
 }
 
-/// What one thread has seen of a mark.
+/// The greatest number that one thread has seen of a mark.
 #[derive(Drop)]
 pub struct Pass {
     seat: Seat<(), View>,
@@ -115,7 +115,7 @@ impl Mark {
         Ok((Mark { table }, RaisePass { seat }, Pass { seat: other }))
     }
 
-    /// The number now. It is no less than the pass has seen, and is then what the pass has seen.
+    /// The number now. It is at least the one that the pass has seen, and counts as seen from then on.
     pub fn load(&self, pass: &mut Pass) -> u64
         requires own { pass.old.mark ≡ self.now }
         ensures same { pass.new.mark ≡ pass.old.mark }

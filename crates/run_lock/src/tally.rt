@@ -1,4 +1,4 @@
-//! What a worker was told.
+//! The answers to a worker.
 
 ghost use Rattle.std.specs.Prelude.{◌≡◌, ◌+◌};
 ghost use Rattle.serial_core.specs.Steps.{Commits, CommitsHere};
@@ -12,7 +12,7 @@ use durable_core::{Answer, Refusal};
 use std::alloc::Global;
 use std::sync::ledger::Share;
 
-/// How often a worker was told Committed and Stale, with its share of the book. It was told Committed as often as the
+/// How often a worker got the answers Committed and Stale, with its share of the book. It got Committed as often as the
 /// share says.
 #[derive(Drop)]
 pub struct Tally<J: Run> {
@@ -24,7 +24,7 @@ pub struct Tally<J: Run> {
 }
 
 impl<J: Run> Tally<J> {
-    /// Nothing yet.
+    /// No answers yet.
     pub fn new(share: Share<J>) -> Tally<J>
         requires { (share.parts ≡ 1) × (share.amount ≡ 0) }
     {

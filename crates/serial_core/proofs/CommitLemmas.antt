@@ -1,4 +1,4 @@
--- What a core keeps when an execution is committed.
+-- The invariant of a core after an execution is committed.
 use Rattle.std.proofs.Common.{◌≡◌, ℕ, Bool, true, false, IsTrue, ◌↔◌, List, [], ◌∷◌, ◌++◌, length, map, Option, Some}
 use Rattle.std.proofs.Common.{None, option_map, slice_get, slice_index, refl, sym, ap, subst, ◌∙◌, arith, length-append}
 use Rattle.std.proofs.lemmas.Option.{slice_get-map}
@@ -16,7 +16,7 @@ use Rattle.st_meaning.proofs.RunLemmas.{store_after_shape}
 use Rattle.st_meaning.specs.Runs.{outcome_of, store_after}
 use Rattle.st_meaning.specs.Slots as slots
 use Rattle.std.proofs.lemmas.List.{length-map}
-use Rattle.st_meaning.specs.Slots.{agrees, variables_in, inputs_in}
+use Rattle.st_meaning.specs.Slots.{agrees, variables_with, inputs_in}
 use Rattle.st_meaning.specs.Layouts.{layout_of}
 use Rattle.st_meaning.specs.Due.{History, Waits, with_run}
 use Rattle.st_meaning.specs.Plans as plans
@@ -40,11 +40,11 @@ use Rattle.ready_list.specs.Ready.{Ready, IsReadyOf, Removes}
 use Rattle.serial_core.specs.Steps.{store_in, code_at, IsOwnOf}
 use Rattle.serial_core.specs.Kept.{IsOfPast, SerialInvariant}
 use Rattle.serial_core.proofs.OutcomeLemmas.{outcomes_of-add}
-use Rattle.serial_core.proofs.VariableLemmas.{get-add}
 use Rattle.serial_core.proofs.PlanSlots.{values_back}
 use Rattle.serial_core.proofs.TakeLemmas.{found, values_are, waits-row, row-there}
+use Rattle.st_types.proofs.ListLemmas.{get_first}
 
--- a program runs alike from what is equal
+-- a program runs alike from equal stores
 same_run : (X : Type 0) (f : ℕ → Store → Store → ℕ → X) (b b' : ℕ) (s s' i i' : Store) (m m' : ℕ) → b ≡ b' → s ≡ s'
     → i ≡ i' → m ≡ m' → f b s i m ≡ f b' s' i' m'
 same_run X f b b' s s' i i' m m' eb es ei em =
@@ -77,7 +77,7 @@ own_means plan p code is =
     (program_numbered (source_view plan.text.value) is.program.number)) is.text
     (plan.sound.codes p is.program is.at).means
 
--- where the reads stand, the run is that of the plan's program
+-- if the reads are current, the run is that of the plan's program
 pub record Ran (plan : Plan) (values : List Datum) (row : Latch) (store : Store) (effect : Effect) : Type 0 where
   pub after : after_run (plan_view plan) (program_at (plan_view plan) effect.activation.program) store row
       ≡ store_in plan (written_variables plan.slots.items values effect.writes)
@@ -117,7 +117,7 @@ ran plan values row store effect sized typed imaged is own true_of stands =
     let known = program_found plan effect.activation.program q.program q.at in
     let runs = true_of.run layout program all (own_means plan effect.activation.program effect.code q)
     (typed_merged ps xs ins values row.image typed imaged) stands in
-    let s : store ≡ variables_in layout all = sym is
+    let s : store ≡ variables_with layout all = sym is
     ∙ sym (variables_merged (map input_slot ins) ps 0 0 xs ins values row.image numbers sized counted) in
     let i : image_of ins row.image ≡ inputs_in layout all =
     sym (inputs_merged ps 0 0 xs ins values row.image numbers sized counted) in
@@ -146,17 +146,17 @@ kinds_in (e ∷ s) = ap (λ (ks : List Kind). e.1.kind ∷ ks) (kinds_in s)
 
 typed_same : (xs : List PlanVariable) (is : List PlanInput) (ds es : List Datum) → length ds ≡ length xs
     → length es ≡ length xs
-    → shape_of (variables_in (layout_of xs is) es) ≡ shape_of (variables_in (layout_of xs is) ds)
+    → shape_of (variables_with (layout_of xs is) es) ≡ shape_of (variables_with (layout_of xs is) ds)
     → map (λ d. d.kind) es ≡ map (λ d. d.kind) ds
 typed_same xs is ds es d e same =
-    sym (kinds_in (variables_in (layout_of xs is) es) ∙ ap (map (λ d. d.kind)) (values_back xs is es e))
+    sym (kinds_in (variables_with (layout_of xs is) es) ∙ ap (map (λ d. d.kind)) (values_back xs is es e))
     ∙ ap (map (λ e. e.1)) same
-    ∙ kinds_in (variables_in (layout_of xs is) ds) ∙ ap (map (λ d. d.kind)) (values_back xs is ds d)
+    ∙ kinds_in (variables_with (layout_of xs is) ds) ∙ ap (map (λ d. d.kind)) (values_back xs is ds d)
 
 pub not_true : (t : Bool) → t ≡ false → IsTrue t → ⊥
 not_true t e h = cc
 
--- what was taken away from the ready list
+-- the activation that was taken away from the ready list
 removed : (h : History) (old new : Ready) (a : Activation) (t : Bool) → Removes h old a t new → Waits old.schedules h a
     → IsReadyOf (with_run h a.program) new
 removed h old new a true r w = r.1
@@ -169,7 +169,7 @@ IsTrueOf-same e e' same h = subst (λ (x : Effect). IsTrueOf x.code x.moment x.b
 module _ {plan : Plan} {start values : List Datum} {before : Option ℕ} {samples : List Bool} {log : List Entry}
     {outcomes : List (Option Outcome)} {rows : List ℕ} {last : Option ℕ} {ready : Ready}
     (kept : SerialInvariant plan start before values samples log outcomes rows last ready) where
-  -- with a Done of what waits
+  -- with a Done of an activation that waits
   SerialInvariant-done : (a : Activation) (outcome : Outcome) (values' : List Datum) (ready' : Ready)
       → Waits (schedules_of (plan_view plan)) (past_of (plan_view plan) (store_in plan start) log).history a
       → length values' ≡ length values
@@ -203,7 +203,7 @@ module _ {plan : Plan} {start values : List Datum} {before : Option ℕ} {sample
         of_past = subst (IsOfPast plan before values' (log ++ Done a ∷ []) rows last ready')
             (sym (past_of-add (plan_view plan) (store_in plan start) log (Done a))) record {
               variables = store;
-              rows_are = λ k h. get-add log (Done a ∷ []) (slice_index rows k) _ (kept.of_past.rows_are k h);
+              rows_are = λ k h. get_first log (Done a ∷ []) (slice_index rows k) _ (kept.of_past.rows_are k h);
               row_count = kept.of_past.row_count;
               sampled_count = kept.of_past.sampled_count;
               images = kept.of_past.images;
@@ -228,7 +228,7 @@ module _ {plan : Plan} {start values : List Datum} {before : Option ℕ} {sample
   row_found a w = row-there kept a (waits-row kept a w)
 
   module _ (effect : Effect) (b : Activation) (same : b ≡ effect.activation) where
-    -- with an execution that stands
+    -- with an execution whose reads are current
     pub SerialInvariant-commit : (ready' : Ready) (values' : List Datum) (writes : List slots.Cell) (log' : List Entry)
         (outcomes' : List (Option Outcome)) (o : Outcome) (t : Bool)
         → Waits (schedules_of (plan_view plan)) (past_of (plan_view plan) (store_in plan start) log).history

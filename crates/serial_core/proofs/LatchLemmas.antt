@@ -1,4 +1,4 @@
--- What a core keeps, after a row.
+-- The invariant of a core after a row.
 use Rattle.std.proofs.Common.{◌≡◌, ℕ, ◌+◌, ◌<◌, inl, inr, Bool, true, false, ◌&&◌, List, [], ◌∷◌, ◌++◌, length}
 use Rattle.std.proofs.Common.{map, Option, Some, None, slice_get, slice_index, refl, sym, ap, subst, ◌∙◌, arith}
 use Rattle.std.proofs.Common.{length-append}
@@ -15,7 +15,7 @@ use Rattle.st_meaning.specs.declared.outcome.Outcome.{Outcome}
 use Rattle.st_meaning.specs.declared.plan.PlanVariable.{PlanVariable}
 use Rattle.st_meaning.specs.declared.plan.PlanInput.{PlanInput}
 use Rattle.st_types.specs.Rows.{Latch}
-use Rattle.st_meaning.specs.Slots.{IsLayout, variables_in}
+use Rattle.st_meaning.specs.Slots.{IsLayout, variables_with}
 use Rattle.st_meaning.specs.Layouts.{layout_of}
 use Rattle.st_meaning.specs.Due.{History, with_row}
 use Rattle.st_meaning.specs.Plans.{samples_of, sample_of, is_on, fits}
@@ -33,34 +33,28 @@ use Rattle.serial_core.specs.Steps.{store_in}
 use Rattle.serial_core.specs.Kept.{IsOfPast, SerialInvariant}
 use Rattle.serial_core.proofs.OutcomeLemmas.{outcomes_of-add}
 use Rattle.serial_core.proofs.RowLemmas.{kinds_held}
-use Rattle.serial_core.proofs.VariableLemmas.{get-add, get-end, get_in}
-
-left_of_and : (a b : Bool) → (a && b) ≡ true → a ≡ true
-left_of_and true b e = refl
-left_of_and false b e = e
-
-right_of_and : (a b : Bool) → (a && b) ≡ true → b ≡ true
-right_of_and true b e = e
-right_of_and false b e = absurd (cc)
+use Rattle.serial_core.proofs.VariableLemmas.{get_in}
+use Rattle.st_types.proofs.ListLemmas.{get_first, get_last}
+use Rattle.st_types.proofs.TestLemmas.{and_first, and_second}
 
 image_typed : (plan : Plan) (row : Latch) → fits (plan_view plan) row ≡ true
     → map (λ v. v.kind) row.image ≡ map (λ i. i.kind) plan.inputs.items
-image_typed plan row e = kinds_held plan.inputs.items row.image (left_of_and _ _ e)
+image_typed plan row e = kinds_held plan.inputs.items row.image (and_first _ _ e)
 
 moment_low : (plan : Plan) (row : Latch) → fits (plan_view plan) row ≡ true → row.moment < MOMENT_LIMIT
-moment_low plan row e = ltb-true row.moment MOMENT_LIMIT (right_of_and _ _ e)
+moment_low plan row e = ltb-true row.moment MOMENT_LIMIT (and_second _ _ e)
 
 -- the samples by slots are those by paths
 variable_same :
     (vs : List PlanVariable) (ins : List PlanInput) (ds image : List Datum) (k : ℕ) (o : Option PlanVariable)
     → IsLayout (layout_of vs ins) → length ds ≡ length vs → slice_get vs k ≡ o → is_boolean_variable o ≡ true
-    → is_on (slice_get ds k) ≡ sample_of (variables_in (layout_of vs ins) ds) image (single_of o)
+    → is_on (slice_get ds k) ≡ sample_of (variables_with (layout_of vs ins) ds) image (single_of o)
 variable_same vs ins ds image k None layout sized at b = absurd (cc)
 variable_same vs ins ds image k (Some v) layout sized at b = ap is_on (sym (get_in vs ins ds k v layout sized at))
 
 sample_same : (vs : List PlanVariable) (ins : List PlanInput) (ds image : List Datum) (t : Trigger)
     → IsLayout (layout_of vs ins) → length ds ≡ length vs → is_sound_trigger vs ins t ≡ true
-    → sample_at ds image t ≡ sample_of (variables_in (layout_of vs ins) ds) image (trigger_view vs t)
+    → sample_at ds image t ≡ sample_of (variables_with (layout_of vs ins) ds) image (trigger_view vs t)
 sample_same vs ins ds image Absent layout sized s = refl
 sample_same vs ins ds image (Input i) layout sized s = refl
 sample_same vs ins ds image (Variable k) layout sized s =
@@ -70,11 +64,11 @@ samples_same : (vs : List PlanVariable) (ins : List PlanInput) (ds image : List 
     → IsLayout (layout_of vs ins) → length ds ≡ length vs
     → list_all (λ t. is_sound_trigger vs ins t.single) tasks ≡ true
     → map (sample_task ds image) tasks
-    ≡ map (λ t. sample_of (variables_in (layout_of vs ins) ds) image t.single) (map (task_view vs) tasks)
+    ≡ map (λ t. sample_of (variables_with (layout_of vs ins) ds) image t.single) (map (task_view vs) tasks)
 samples_same vs ins ds image [] layout sized s = refl
 samples_same vs ins ds image (t ∷ tasks) layout sized s =
-    let a = sample_same vs ins ds image t.single layout sized (left_of_and _ _ s) in
-    let b = samples_same vs ins ds image tasks layout sized (right_of_and _ _ s) in
+    let a = sample_same vs ins ds image t.single layout sized (and_first _ _ s) in
+    let b = samples_same vs ins ds image tasks layout sized (and_second _ _ s) in
     rw (a, b) refl
 
 module _ {plan : Plan} {start values : List Datum} {before : Option ℕ} {samples : List Bool} {log : List Entry}
@@ -98,7 +92,7 @@ module _ {plan : Plan} {start values : List Datum} {before : Option ℕ} {sample
         ap (row_at ((past_of (plan_view plan) (store_in plan start) log).rows ++ row ∷ []))
         (t.1 ∙ kept.of_past.row_count) ∙ get_or-append_seam
         (past_of (plan_view plan) (store_in plan start) log).rows row [] record { moment = 0; image = [] } in
-        ap (slice_get (log ++ Row row ∷ [])) n ∙ get-end log (Row row) ∙ ap (λ x. Some (Row x)) (sym r)
+        ap (slice_get (log ++ Row row ∷ [])) n ∙ get_last log (Row row) ∙ ap (λ x. Some (Row x)) (sym r)
     | inr f ↦
         let below : k < length rows = omega (arith, f.1, h, length-append rows (length log ∷ [])) in
         let n : slice_index (rows ++ length log ∷ []) k ≡ slice_index rows k =
@@ -108,7 +102,7 @@ module _ {plan : Plan} {start values : List Datum} {before : Option ℕ} {sample
         get_or_append_left (past_of (plan_view plan) (store_in plan start) log).rows (row ∷ [])
         record { moment = 0; image = [] } k (omega (arith, below, kept.of_past.row_count)) in
         ap (slice_get (log ++ Row row ∷ [])) n
-        ∙ get-add log (Row row ∷ []) (slice_index rows k) _ (kept.of_past.rows_are k below)
+        ∙ get_first log (Row row ∷ []) (slice_index rows k) _ (kept.of_past.rows_are k below)
         ∙ ap (λ x. Some (Row x)) (sym r)
   ]
 
@@ -178,7 +172,7 @@ module _ {plan : Plan} {start values : List Datum} {before : Option ℕ} {sample
             };
       }
 
-  -- the same, of what the code has
+  -- the same, for the code's values
   pub kept_latch : (row : Latch) (moment n : ℕ) (image : List Datum) (samples' : List Bool) (log' : List Entry)
       (outcomes' : List (Option Outcome)) (rows' : List ℕ) (ready' : Ready)
       → moment ≡ row.moment → n ≡ length log → log' ≡ log ++ Row row ∷ [] → outcomes' ≡ outcomes ++ None ∷ []

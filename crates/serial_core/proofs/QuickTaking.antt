@@ -1,4 +1,4 @@
--- What is taken for a run of quick code.
+-- Snapshots for runs of quick code.
 use Rattle.std.proofs.Common.{◌≡◌, ◌∙◌, ℕ, true, List, Option, Some, option_map, slice_get, refl, sym, ap}
 use Rattle.std.proofs.Common.{subst, Ok}
 use Rattle.st_types.specs.Values.{Datum}
@@ -19,7 +19,7 @@ use Rattle.plan.specs.declared.plan.Plan.{Plan}
 use Rattle.plan.specs.declared.task.ProgramInstance.{ProgramInstance}
 use Rattle.plan.specs.Reading.{QuickReadsAreAskedFor}
 use Rattle.plan.proofs.PlanReads.{asks_for_quick_reads}
-use Rattle.serial_core.specs.Steps.{State, code_at, made, slots_for, stands, IsOwn, IsSnapshotIn}
+use Rattle.serial_core.specs.Steps.{State, code_at, past_in, slots_for, reads_are_current, IsOwn, IsSnapshotIn}
 use Rattle.serial_core.specs.Quick.{IsBestIn, IsQuickSnapshotIn, IsTakenIn, TakesQuick}
 use Rattle.serial_core.proofs.ReadLemmas.{picked_stand, reads_stand}
 use Rattle.serial_core.proofs.TakeLemmas.{best_snapshot}
@@ -27,7 +27,7 @@ use Rattle.serial_core.proofs.TakeLemmas.{best_snapshot}
 one : (a b : Code) → ◌≡◌ {A = Option Code} (Some a) (Some b) → a ≡ b
 one a b e = cc
 
--- what is read of it is asked for
+-- each value that is read of it is asked for
 asked_for : (state : State) (quick : QuickSnapshot) → IsQuickSnapshotIn state quick
     → QuickReadsAreAskedFor state.plan (slots_for state quick.activation) quick
 asked_for state quick parts p at =
@@ -35,7 +35,7 @@ asked_for state quick parts p at =
     (one quick.code.value p.code.value
     (sym parts.code ∙ ap (option_map (λ (q : ProgramInstance). q.code.value)) at)) parts.kinds parts.values
 
--- What is taken of the best activation is what is taken for the resource.
+-- The snapshot of the best activation is the one for the resource.
 pub best_taken : (state : State) (resource : ℕ) (a : Activation) (taken : Taken) → IsBestIn state resource a
     → IsTakenIn state a taken → TakesQuick state resource (Ok (Some taken))
 best_taken state resource a (Quick quick) best is = (
@@ -48,19 +48,19 @@ best_taken state resource a (Quick quick) best is = (
 )
 best_taken state resource a (Whole snapshot) best is = (is.1, best_snapshot state resource a snapshot best is.0 is.2)
 
--- An execution of a quick snapshot is of its own program, and what it read stands.
+-- An execution of a quick snapshot is of its own program, and its reads are current.
 pub quick_own : (state : State) (quick : QuickSnapshot) (effect : Effect) → IsQuickSnapshotIn state quick
     → IsQuickEffectOf quick effect → IsOwn state effect
 quick_own state quick effect parts is = record {
   text = ap (λ (a : Activation). option_map code_view (code_at state.plan a.program)) is.activation
       ∙ ap (option_map code_view) parts.code ∙ ap (λ (c : _). Some c) (sym is.code);
   moment = is.moment ∙ parts.moment
-      ∙ ap (λ (a : Activation). (row_at (made state).rows a.row).moment) (sym is.activation);
+      ∙ ap (λ (a : Activation). (row_at (past_in state).rows a.row).moment) (sym is.activation);
   budget = is.budget ∙ parts.budget;
 }
 
 pub quick_stands : (state : State) (quick : QuickSnapshot) (effect : Effect) → IsQuickSnapshotIn state quick
-    → IsQuickEffectOf quick effect → stands state effect ≡ true
+    → IsQuickEffectOf quick effect → reads_are_current state effect ≡ true
 quick_stands state quick effect parts is =
     let slots = slots_for state quick.activation in
     let run = is.run slots parts.kinds parts.values in
@@ -75,12 +75,12 @@ whole_own state snapshot effect parts is = record {
   text = ap (λ (a : Activation). option_map code_view (code_at state.plan a.program)) is.activation
       ∙ ap (option_map code_view) parts.code ∙ ap (λ (c : _). Some c) (sym is.code);
   moment = is.moment ∙ parts.moment
-      ∙ ap (λ (a : Activation). (row_at (made state).rows a.row).moment) (sym is.activation);
+      ∙ ap (λ (a : Activation). (row_at (past_in state).rows a.row).moment) (sym is.activation);
   budget = is.budget ∙ parts.budget;
 }
 
 pub whole_stands : (state : State) (snapshot : Snapshot) (effect : Effect) → IsSnapshotIn state snapshot
-    → IsEffectOf snapshot effect → stands state effect ≡ true
+    → IsEffectOf snapshot effect → reads_are_current state effect ≡ true
 whole_stands state snapshot effect parts is =
     ap (λ (a : Activation). agrees (slots_for state a) effect.reads) is.activation
     ∙ ap (λ vs. agrees vs effect.reads) (sym parts.slots) ∙ reads_stand snapshot effect is

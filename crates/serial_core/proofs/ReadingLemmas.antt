@@ -1,4 +1,4 @@
--- What a core tells of its variables and inputs.
+-- The values of a core's variables and inputs.
 use Rattle.std.proofs.Common.{◌≡◌, ℕ, zero, suc, ◌+◌, ◌<◌, Bool, true, false, if◌then◌else◌, List, [], ◌∷◌, length}
 use Rattle.std.proofs.Common.{get_or, Option, Some, None, option_map, slice_get, slice_index, refl, sym, ap, subst, ◌∙◌, arith}
 use Rattle.std.specs.Prelude.{position}
@@ -14,7 +14,7 @@ use Rattle.st_meaning.specs.declared.plan.PlanInput.{PlanInput}
 use Rattle.st_types.specs.Rows.{Latch}
 use Rattle.st_meaning.specs.Stores.{Store, get}
 use Rattle.st_meaning.specs.Scopes.{seen}
-use Rattle.st_meaning.specs.Slots.{variables_in}
+use Rattle.st_meaning.specs.Slots.{variables_with}
 use Rattle.st_meaning.specs.Layouts.{layout_of}
 use Rattle.st_meaning.specs.Plans.{image_of, initial_value}
 use Rattle.st_meaning.specs.Logs.{past_of, row_at}
@@ -64,13 +64,13 @@ image_get (i ∷ is) (v ∷ im) p e =
     ∙ ap (found (v ∷ im)) (sym (position_step (λ j. same_path p j.path) i is))
 
 pub variables_get : (xs : List PlanVariable) (is : List PlanInput) (vs : List Datum) (p : Path) → length vs ≡ length xs
-    → get (variables_in (layout_of xs is) vs) p ≡ found vs (position (λ x. same_path p x.path) xs)
+    → get (variables_with (layout_of xs is) vs) p ≡ found vs (position (λ x. same_path p x.path) xs)
 variables_get [] is [] p e = ap (λ s. get s p) (no_variables is [])
 variables_get [] is (v ∷ vs) p e = absurd (omega arith)
 variables_get (x ∷ xs) is [] p e = absurd (omega arith)
 variables_get (x ∷ xs) is (v ∷ vs) p e =
     found_behind v vs (same_path p x.path) (position (λ y. same_path p y.path) xs)
-    (get (variables_in (layout_of xs is) vs) p) (variables_get xs is vs p (omega arith))
+    (get (variables_with (layout_of xs is) vs) p) (variables_get xs is vs p (omega arith))
     ∙ ap (found (v ∷ vs)) (sym (position_step (λ y. same_path p y.path) x xs))
 
 -- an input is seen, or else a variable
@@ -81,7 +81,7 @@ pub variable_seen : (image s : Store) (p : Path) (o : Option Datum) → get imag
     → seen image s p ≡ o
 variable_seen image s p o e f = rw (e, f) refl
 
--- where a path stands: among the inputs, among the variables alone, or nowhere
+-- where a path is: among the inputs, among the variables alone, or nowhere
 abbrev pub IsPlaced : Option ℕ → Option ℕ → Option SlotPlace → Type 0
 IsPlaced i v (Some (Input k)) = i ≡ Some k
 IsPlaced i v (Some (Variable k)) = (i ≡ None) × (v ≡ Some k)

@@ -9,20 +9,20 @@ use Rattle.plan.specs.declared.plan.Plan.{Plan}
 use Rattle.plan.specs.PlanViews.{plan_view}
 use Rattle.serial_core.specs.Steps.{State, store_in}
 use Rattle.core_values.specs.Restored.{restored}
-use Rattle.serial_core.specs.Retained.{retained_kinds, retained_paths, retained_values, paired, told_by}
+use Rattle.serial_core.specs.Retained.{retained_kinds, retained_paths, retained_values, paired, kept_from}
 use Rattle.serial_core.proofs.RetainedLemmas.{restart_is, goes_by_itself, kept_paired, values_paired, kinds_kept}
 use Rattle.serial_core.proofs.RetainedLemmas.{restored_back, restored_typed}
 use Rattle.std.proofs.lemmas.List.{length-map}
 
--- the variables that a record's values make
+-- the variables after a restart from a record's values
 pub restarted : (plan : Plan) (ws start : List Datum) (moment : Option ℕ)
     → map (λ d. d.kind) ws ≡ retained_kinds plan.variables.items → AllByRecursion IsHeld ws
     → start ≡ restored plan.variables.items ws
-    → store_in plan start ≡ (warm_start (plan_view plan) (Some (told_by plan ws moment))).store
+    → store_in plan start ≡ (warm_start (plan_view plan) (Some (kept_from plan ws moment))).store
 restarted plan ws start moment kinds held is = ap (store_in plan) is
     ∙ sym (restart_is (plan_view plan).enumerations plan.variables.items plan.inputs.items ws plan.sound.different kinds held)
 
--- what is kept of them
+-- the values kept of them
 pub kept_values : (plan : Plan) (ws start : List Datum)
     → map (λ d. d.kind) ws ≡ retained_kinds plan.variables.items → start ≡ restored plan.variables.items ws
     → map (λ e. e.1) (kept (plan_view plan) (store_in plan start)) ≡ ws
@@ -50,7 +50,7 @@ seen_again plan start store log before room s l =
     ap (λ x. record { plan = plan; start = x; before = before; log = log; room = room }) s
     ∙ ap (λ x. record { plan = plan; start = store; before = before; log = x; room = room }) l
 
--- what a record keeps of a core
+-- the values of a core that a record keeps
 pub record IsRetained (plan : Plan) (store : Store) (ws : List Datum) : Type 0 where
   pub values : ws ≡ map (λ e. e.1) (kept (plan_view plan) store)
   pub kinds : map (λ d. d.kind) ws ≡ retained_kinds plan.variables.items

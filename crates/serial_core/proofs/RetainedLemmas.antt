@@ -1,4 +1,4 @@
--- Retained variables: what is kept of a store, and what a restart makes of it.
+-- Retained variables: the values kept of a store, and those after a restart from them.
 use Rattle.std.proofs.Common.{◌≡◌, ℕ, zero, suc, Bool, true, false, not, ◌&&◌, ◌||◌, if◌then◌else◌, inl, inr, List, []}
 use Rattle.std.proofs.Common.{◌∷◌, ◌++◌, length, map, Some, slice_get, refl, sym, ap, subst, ◌∙◌, arith}
 use Rattle.std.proofs.Common.{append_assoc}
@@ -12,16 +12,16 @@ use Rattle.st_types.specs.Paths.{Path, same_path}
 use Rattle.st_meaning.specs.declared.plan.PlanVariable.{PlanVariable}
 use Rattle.st_meaning.specs.declared.plan.PlanInput.{PlanInput}
 use Rattle.st_meaning.specs.Stores.{Store}
-use Rattle.st_meaning.specs.Slots.{variables_in}
+use Rattle.st_meaning.specs.Slots.{variables_with}
 use Rattle.st_meaning.specs.Layouts.{Enumerations, layout_of, path_text}
 use Rattle.st_meaning.specs.Restarts.{KeptLine, lines_with, restarted}
-use Rattle.st_meaning.proofs.RestartLemmas.{restarts, taken, AreUnlike, all_unlike, unlike_next}
+use Rattle.st_meaning.proofs.RestartLemmas.{restarts, taken, AreUnlike, all_unlike, unlike_next, kept_behind, kept_here}
 use Rattle.st_meaning.specs.Scopes.{Name, contains_name}
 use Rattle.st_types.specs.Comparisons.{same_path_is, same_path_itself}
-use Rattle.plan.specs.Sound.{are_different}
-use Rattle.core_values.specs.Restored.{first_or, others, restored}
+use Rattle.core_values.specs.Restored.{head_or, tail_of, restored}
 use Rattle.serial_core.specs.Retained.{retained_paths, retained_kinds, retained_values, paired}
 use Rattle.serial_core.proofs.PlanSlots.{no_variables}
+use Rattle.layout.specs.Names.{are_different}
 
 abbrev initials : List PlanVariable → List Datum
 initials vs = map (λ v. v.initial) vs
@@ -29,7 +29,7 @@ initials vs = map (λ v. v.initial) vs
 abbrev kinds : List PlanVariable → List Kind
 kinds vs = map (λ v. v.initial.kind) vs
 
--- of each variable, whether it is kept goes by its own declaration
+-- for each variable, its own declaration decides whether it is kept
 abbrev pub GoesByItself : (Path → Bool) → List PlanVariable → Type 0
 GoesByItself keep vs = (k : ℕ) (v : PlanVariable) → slice_get vs k ≡ Some v → keep v.path ≡ v.retained
 
@@ -39,14 +39,14 @@ kept_first : (keep : Path → Bool) (v : PlanVariable) (d : Datum) (r : Bool) (s
 kept_first keep v d true s ps ws is rest = rw is (ap (λ (t : Store). (v.path, d) ∷ t) rest)
 kept_first keep v d false s ps ws is rest = rw is rest
 
--- what is kept of the variables, by their order
+-- the values kept of the variables, by their order
 pub kept_paired : (keep : Path → Bool) (vs : List PlanVariable) (ins : List PlanInput) (ds : List Datum)
     → length ds ≡ length vs → GoesByItself keep vs
-    → filter (λ e. keep e.0) (variables_in (layout_of vs ins) ds) ≡ paired (retained_paths vs) (retained_values vs ds)
+    → filter (λ e. keep e.0) (variables_with (layout_of vs ins) ds) ≡ paired (retained_paths vs) (retained_values vs ds)
 kept_paired keep [] ins ds e goes = ap (filter (λ e. keep e.0)) (no_variables ins ds)
 kept_paired keep (v ∷ vs) ins [] e goes = absurd (omega arith)
 kept_paired keep (v ∷ vs) ins (d ∷ ds) e goes =
-    kept_first keep v d v.retained (variables_in (layout_of vs ins) ds) (retained_paths vs) (retained_values vs ds)
+    kept_first keep v d v.retained (variables_with (layout_of vs ins) ds) (retained_paths vs) (retained_values vs ds)
     (goes 0 v refl) (kept_paired keep vs ins ds (omega arith) (λ k u. goes (suc k) u))
 
 values_first : (v : PlanVariable) (d : Datum) (r : Bool) (ps : List Path) (ws : List Datum)
@@ -72,10 +72,10 @@ kinds_first : (v : PlanVariable) (d : Datum) (r : Bool) (ws : List Datum) (ks : 
 kinds_first v d true ws ks is rest = rw (is, rest) refl
 kinds_first v d false ws ks is rest = rest
 
-cons_head : {a b : Kind} {xs ys : List Kind} → a ∷ xs ≡ b ∷ ys → a ≡ b
+pub cons_head : {a b : Kind} {xs ys : List Kind} → a ∷ xs ≡ b ∷ ys → a ≡ b
 cons_head h = cc
 
-cons_tail : {a b : Kind} {xs ys : List Kind} → a ∷ xs ≡ b ∷ ys → xs ≡ ys
+pub cons_tail : {a b : Kind} {xs ys : List Kind} → a ∷ xs ≡ b ∷ ys → xs ≡ ys
 cons_tail h = cc
 
 -- their types
@@ -91,7 +91,7 @@ kinds_kept (v ∷ vs) (d ∷ ds) e = kinds_first v d v.retained (retained_values
 abbrev texts : List PlanVariable → List Name
 texts vs = map (λ v. path_text v.path) vs
 
--- texts that are told apart are not one
+-- texts that differ are not equal
 differ : (x y : Name) → bytes_eq x y ≡ false → x ≡ y → ⊥
 differ x y h e = let t : bytes_eq x y ≡ true = (bytes_eq-Decides x y).1 e in let f : true ≡ false = sym t ∙ h in cc
 
@@ -101,17 +101,10 @@ unlike p q ne = elim (cases_Bool (same_path p q)) [
   | inr f ↦ f
 ]
 
--- ---- whether a path is kept goes by its own declaration
+-- ---- a path's own declaration decides whether it is kept
 
 abbrev is_kept_of : List PlanVariable → Path → Bool
 is_kept_of vs p = list_any (λ u. same_path p u.path && u.retained) vs
-
-kept_behind : (p q : Path) (r rest : Bool) → same_path p q ≡ false → ((same_path p q && r) || rest) ≡ rest
-kept_behind p q r rest e = rw e refl
-
-kept_here : (p : Path) (r rest : Bool) → rest ≡ false → ((same_path p p && r) || rest) ≡ r
-kept_here p true rest e = rw (same_path_itself p) refl
-kept_here p false rest e = rw (same_path_itself p, e) refl
 
 none_alike : (v : PlanVariable) (vs : List PlanVariable) → contains_name (texts vs) (path_text v.path) ≡ false
     → is_kept_of vs v.path ≡ false
@@ -155,12 +148,12 @@ none_before u (v ∷ vs) h =
     let p = or_parts (bytes_eq (path_text u.path) (path_text v.path)) (contains_name (texts vs) (path_text u.path)) h in
     (p.0, none_before u vs p.1)
 
--- what these lines give the variables, where those of the variables stand behind others
+-- the values that these lines give the variables, if the lines of the variables come after others
 abbrev RestartsTo : Enumerations → List PlanVariable → List PlanInput → Type 0
 RestartsTo types vs ins = (s : Store) (lines : List KeptLine) (ws : List Datum) → AreUnlike vs s
     → are_different (texts vs) ≡ true → map (λ d. d.kind) ws ≡ retained_kinds vs → AllByRecursion IsHeld ws
     → lines ≡ lines_with types (s ++ paired (retained_paths vs) ws)
-    → restarts types lines vs ≡ variables_in (layout_of vs ins) (restored vs ws)
+    → restarts types lines vs ≡ variables_with (layout_of vs ins) (restored vs ws)
 
 restart_first : (types : Enumerations) (v : PlanVariable) (vs : List PlanVariable) (ins : List PlanInput) (s : Store)
     (lines : List KeptLine) (ws : List Datum) (r : Bool) → v.retained ≡ r → RestartsTo types vs ins → AreUnlike (v ∷ vs) s
@@ -168,8 +161,8 @@ restart_first : (types : Enumerations) (v : PlanVariable) (vs : List PlanVariabl
     → map (λ d. d.kind) ws ≡ (if r then v.initial.kind ∷ retained_kinds vs else retained_kinds vs)
     → AllByRecursion IsHeld ws
     → lines ≡ lines_with types (s ++ paired (if r then v.path ∷ retained_paths vs else retained_paths vs) ws)
-    → (v.path, restarted types lines v) ∷ restarts types lines vs ≡ variables_in (layout_of (v ∷ vs) ins)
-    (if r then first_or v.initial ws ∷ restored vs (others ws) else v.initial ∷ restored vs ws)
+    → (v.path, restarted types lines v) ∷ restarts types lines vs ≡ variables_with (layout_of (v ∷ vs) ins)
+    (if r then head_or v.initial ws ∷ restored vs (tail_of ws) else v.initial ∷ restored vs ws)
 restart_first types v vs ins s lines [] true is again apart d e held all = absurd (omega (arith, ap length e))
 restart_first types v vs ins s lines (w ∷ ws) true is again apart d e held all =
     let p = and_parts (not (contains_name (texts vs) (path_text v.path))) (are_different (texts vs)) d in
@@ -192,14 +185,14 @@ restarts_to types (v ∷ vs) ins s lines ws apart d e held all =
 pub restart_is : (types : Enumerations) (vs : List PlanVariable) (ins : List PlanInput) (ws : List Datum)
     → are_different (texts vs) ≡ true
     → map (λ d. d.kind) ws ≡ retained_kinds vs → AllByRecursion IsHeld ws
-    → restarts types (lines_with types (paired (retained_paths vs) ws)) vs ≡ variables_in (layout_of vs ins) (restored vs ws)
+    → restarts types (lines_with types (paired (retained_paths vs) ws)) vs ≡ variables_with (layout_of vs ins) (restored vs ws)
 restart_is types vs ins ws d e held = restarts_to types vs ins [] _ ws (all_unlike vs) d e held refl
 
--- what was restored is what is kept
+-- the values that were restored are those that are kept
 back_first : (v : PlanVariable) (vs : List PlanVariable) (ws : List Datum) (r : Bool)
     → ((us : List Datum) → map (λ d. d.kind) us ≡ retained_kinds vs → retained_values vs (restored vs us) ≡ us)
     → map (λ d. d.kind) ws ≡ (if r then v.initial.kind ∷ retained_kinds vs else retained_kinds vs)
-    → (if r then first_or v.initial ws ∷ retained_values vs (restored vs (others ws))
+    → (if r then head_or v.initial ws ∷ retained_values vs (restored vs (tail_of ws))
     else retained_values vs (restored vs ws)) ≡ ws
 back_first v vs [] true again e = absurd (omega (arith, ap length e))
 back_first v vs (w ∷ ws) true again e = ap (λ (t : List Datum). w ∷ t) (again ws (cons_tail e))
@@ -207,7 +200,7 @@ back_first v vs ws false again e = again ws e
 
 restored_first : (v : PlanVariable) (vs : List PlanVariable) (ws : List Datum) (r : Bool) → v.retained ≡ r
     → retained_values (v ∷ vs) (restored (v ∷ vs) ws) ≡ (if r then
-    first_or v.initial ws ∷ retained_values vs (restored vs (others ws)) else retained_values vs (restored vs ws))
+    head_or v.initial ws ∷ retained_values vs (restored vs (tail_of ws)) else retained_values vs (restored vs ws))
 restored_first v vs ws true is = rw is refl
 restored_first v vs ws false is = rw is refl
 
@@ -221,7 +214,7 @@ restored_back (v ∷ vs) ws e = restored_first v vs ws v.retained refl
 kinds_restored : (v : PlanVariable) (vs : List PlanVariable) (ws : List Datum) (r : Bool)
     → ((us : List Datum) → map (λ d. d.kind) us ≡ retained_kinds vs → map (λ d. d.kind) (restored vs us) ≡ kinds vs)
     → map (λ d. d.kind) ws ≡ (if r then v.initial.kind ∷ retained_kinds vs else retained_kinds vs)
-    → map (λ d. d.kind) (if r then first_or v.initial ws ∷ restored vs (others ws) else v.initial ∷ restored vs ws)
+    → map (λ d. d.kind) (if r then head_or v.initial ws ∷ restored vs (tail_of ws) else v.initial ∷ restored vs ws)
     ≡ v.initial.kind ∷ kinds vs
 kinds_restored v vs [] true again e = absurd (omega (arith, ap length e))
 kinds_restored v vs (w ∷ ws) true again e = rw (cons_head e, again ws (cons_tail e)) refl

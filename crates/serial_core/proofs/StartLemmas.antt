@@ -1,4 +1,4 @@
--- What a core keeps before its first row.
+-- The invariant of a core before its first row.
 use Rattle.std.specs.Prelude.{IfSome}
 use Rattle.std.proofs.Common.{◌≡◌, ℕ, ◌<◌, Bool, List, [], ◌∷◌, length, map, Option, refl, sym, ap, subst, ◌∙◌}
 use Rattle.std.proofs.Common.{arith}
@@ -53,7 +53,7 @@ kept_first plan start values before samples ready sized same typed numbered earl
       };
     }
 
--- the same, of what the code has
+-- the same, for the code's values
 pub kept_start : (plan : Plan) (start values : List Datum) (before : Option ℕ) (samples : List Bool) (log : List Entry)
     (outcomes : List (Option Outcome)) (rows : List ℕ) (ready : Ready)
     → log ≡ [] → outcomes ≡ [] → rows ≡ [] → length start ≡ length plan.variables.items → values ≡ start
@@ -69,7 +69,7 @@ kept_start plan start values before samples log outcomes rows ready l o r sized 
     (subst (λ x. SerialInvariant plan start before values samples [] [] x before ready) (sym r)
     (kept_first plan start values before samples ready sized same typed numbered early schedules tasks none ready_is)))
 
--- what is left of a core before its first row, where its variables take other values
+-- the rest of a core before its first row, if its variables take other values
 pub kept_again : {plan : Plan} {start values : List Datum} {before : Option ℕ} {samples : List Bool} {log : List Entry}
     {outcomes : List (Option Outcome)} {rows : List ℕ} {last : Option ℕ} {ready : Ready}
     → SerialInvariant plan start before values samples log outcomes rows last ready → log ≡ []

@@ -1,4 +1,4 @@
--- What is taken from a core.
+-- Snapshots that are taken from a core.
 use Rattle.std.proofs.Common.{◌≡◌, ℕ, ◌<◌, Bool, true, List, length, map, Option, Some}
 use Rattle.std.proofs.Common.{None, option_map, slice_get, slice_index, refl, sym, ap, subst, ◌∙◌, arith}
 use Rattle.std.specs.Prelude.{MatchBool, MatchOption}
@@ -30,7 +30,7 @@ use Rattle.serial_core.specs.Steps.{State, store_in, code_at, none_waits, IsSnap
 use Rattle.serial_core.specs.Kept.{SerialInvariant}
 use Rattle.serial_core.proofs.PlanSlots.{values_back}
 
--- what a value that is found is made of
+-- the value that a found value is made of
 pub found : (A B : Type 0) (f : A → B) (o : Option A) (b : B) → option_map f o ≡ Some b
     → (a : A) × (o ≡ Some a) × (f a ≡ b)
 found A B f None b e = absurd (let y : ◌≡◌ {A = Option B} None (Some b) = e in cc)
@@ -88,7 +88,7 @@ module _ {plan : Plan} {start values : List Datum} {before : Option ℕ} {sample
       subst (λ ps. IsBest ps (past_of (plan_view plan) (store_in plan start) log).history resource a) kept.schedules
       (best _ kept.of_past.ready_is)
 
-  -- what the list tells of the best activation
+  -- the best activation by the list
   pub best_told : (resource : ℕ) (o : Option Activation)
       → ((h : History) → IsReadyOf h ready
       → MatchOption o (NoneWaits ready.schedules h resource) (IsBest ready.schedules h resource))
@@ -144,7 +144,7 @@ module _ {plan : Plan} {start values : List Datum} {before : Option ℕ} {sample
       (row_at (past_of (plan_view plan) (store_in plan start) log).rows a.row).image kept.typed
       (kept.of_past.images a.row (omega (arith, l, kept.of_past.row_count)))
 
-  -- whether a program waits is what the list tells
+  -- whether a program waits is in the list
   pub waiting_here : (room program : ℕ) (o : Option ℕ)
       → ((h : History) → IsReadyOf h ready → MatchOption o
       ((row : ℕ) → Waits ready.schedules h record { program = program; row = row } → ⊥)
@@ -169,7 +169,7 @@ module _ {plan : Plan} {start values : List Datum} {before : Option ℕ} {sample
       (row_at (past_of (plan_view plan) (store_in plan start) log).rows a.row).image)) (sym values_are)
       ∙ slots_typed a (waits-row a w) ∙ kinds_at plan a.program code coded
 
--- what is read of a snapshot with the code of its activation's program is asked for
+-- each value that is read of a snapshot with the code of its activation's program is asked for
 asked_for : (plan : Plan) (s : Snapshot) → code_at plan s.activation.program ≡ Some s.code.value
     → ReadsAreAskedFor plan s
 asked_for plan s coded p at =
@@ -193,7 +193,7 @@ best_snapshot st resource a s best is parts = record {
   asked = asked_for st.plan s parts.code;
 }
 
--- where an activation is best, something waits
+-- if an activation is best, something waits
 pub waits_here : (st st' : State) (resource : ℕ) (a : Activation) → st ≡ st'
     → IsBest (schedules_of (plan_view st.plan)) (past_of (plan_view st.plan) st.start st.log).history resource a
     → none_waits st' resource → ⊥

@@ -1,4 +1,4 @@
--- What a core keeps of its fields.
+-- The invariant of a core's fields.
 use Rattle.std.specs.Prelude.{◌≡◌, ℕ, ◌<◌, ◌≤◌, IfSome, List, Bool, length, map, Option, Some, slice_get}
 use Rattle.std.specs.Prelude.{slice_index}
 use Rattle.st_types.specs.declared.limits.TheConstants.{MOMENT_LIMIT}
@@ -13,7 +13,7 @@ use Rattle.plan.specs.PlanViews.{plan_view}
 use Rattle.ready_list.specs.Ready.{Ready, IsReadyOf}
 use Rattle.serial_core.specs.Steps.{store_in}
 
--- The fields are what this past makes of them.
+-- The fields are those after this past.
 pub record IsOfPast (plan : Plan) (before : Option ℕ) (values : List Datum) (log : List Entry) (rows : List ℕ)
     (last : Option ℕ) (ready : Ready) (now : Past) : Type 0 where
   pub variables : store_in plan values ≡ now.store
@@ -26,8 +26,8 @@ pub record IsOfPast (plan : Plan) (before : Option ℕ) (values : List Datum) (l
   pub later : 0 < ready.rows → last ≡ Some ready.last
   pub ready_is : IsReadyOf now.history ready
 
--- The log is legal, the variables and outcomes are what it makes, each variable and each input has its type, moments
--- are within their limit, and the ready list has all that waits.
+-- The log is legal, the variables and outcomes are those after it, each variable and each input has its type, moments are
+-- within their limit, and the ready list has all activations that wait.
 pub record SerialInvariant (plan : Plan) (start : List Datum) (before : Option ℕ) (values : List Datum)
     (samples : List Bool) (log : List Entry) (outcomes : List (Option Outcome)) (rows : List ℕ) (last : Option ℕ)
     (ready : Ready) : Type 0 where

@@ -1,4 +1,4 @@
--- What is taken for a run of quick code.
+-- Snapshots for runs of quick code.
 use Rattle.std.specs.Prelude.{◌≡◌, ℕ, ◌<◌, ◌≤◌, length, Option, Some, None, Result, Ok, Err, option_map}
 use Rattle.st_types.specs.declared.entry.Activation.{Activation}
 use Rattle.st_types.specs.declared.entry.Entry.TheVariants.{Done}
@@ -17,23 +17,23 @@ use Rattle.plan.specs.PlanViews.{plan_view}
 use Rattle.plan.specs.Reading.{QuickReadsAreAskedFor}
 use Rattle.serial_core.specs.declared.refusal.Refusal.{Refusal}
 use Rattle.serial_core.specs.declared.refusal.Refusal.TheVariants.{Full, NoMemory}
-use Rattle.serial_core.specs.Steps.{State, grown, made, slots_for, code_at, none_waits, IsSnapshotIn, IsSnapshotOf}
+use Rattle.serial_core.specs.Steps.{State, grown, past_in, slots_for, code_at, none_waits, IsSnapshotIn, IsSnapshotOf}
 
 -- the activation is the best of the resource
 abbrev pub IsBestIn : State → ℕ → Activation → Type 0
-IsBestIn state resource a = IsBest (schedules_of (plan_view state.plan)) (made state).history resource a
+IsBestIn state resource a = IsBest (schedules_of (plan_view state.plan)) (past_in state).history resource a
 
 -- a quick snapshot with its activation's code, the moment of its row, and the values of the slots that the code names,
 -- which are of the types that the code has for them
 pub record IsQuickSnapshotIn (state : State) (quick : QuickSnapshot) : Type 0 where
   pub code : code_at state.plan quick.activation.program ≡ Some quick.code.value
-  pub moment : quick.moment ≡ (row_at (made state).rows quick.activation.row).moment
+  pub moment : quick.moment ≡ (row_at (past_in state).rows quick.activation.row).moment
   pub budget : quick.budget ≡ state.plan.budget
   pub values : AreIn (window_of quick.code.value) (slots_for state quick.activation) quick.values.items
   pub kinds : kinds_of (slots_for state quick.activation) ≡ quick.code.value.kinds.value.items
 
--- what is taken for a resource where the code is quick: that of the best activation; what an execution of it reads of
--- globals and inputs, its program asks for
+-- the quick snapshot for a resource: that of the best activation; its program asks for each global and input that an
+-- execution of it reads
 pub record IsQuickSnapshotOf (state : State) (resource : ℕ) (quick : QuickSnapshot) : Type 0 where
   pub best : IsBestIn state resource quick.activation
   pub parts : IsQuickSnapshotIn state quick
@@ -43,7 +43,7 @@ pub record IsQuickSnapshotOf (state : State) (resource : ℕ) (quick : QuickSnap
 abbrev pub HasQuickCode : Code → Type 0
 HasQuickCode code = code.quick ≡ None → ⊥
 
--- What is taken of an activation: what its code names where there is quick code, and all slots where there is none.
+-- The snapshot of an activation: of the slots that its code names if there is quick code, and of all slots if there is none.
 abbrev pub IsTakenIn : State → Activation → Taken → Type 0
 IsTakenIn state a (Quick quick) =
     (quick.activation ≡ a) × HasQuickCode quick.code.value × IsQuickSnapshotIn state quick
@@ -64,7 +64,7 @@ TakesQuick state resource (Err _) = ⊥
 abbrev pub IsOwnCode : State → Effect → Type 0
 IsOwnCode state effect = option_map code_view (code_at state.plan effect.activation.program) ≡ Some effect.code
 
--- what is answered where an activation that waits is run and committed in one step, and the core after it
+-- the answer if an activation that waits is run and committed in one step, and the core after it
 abbrev pub CommitsOne : State → Activation → Result (Option ℕ) Refusal → State → Type 0
 CommitsOne old a (Ok (Some n)) new =
     (length old.log < old.room) × (new ≡ grown old (Done a)) × (n ≡ length new.log)

@@ -4,12 +4,12 @@ ghost use Rattle.std.specs.Prelude.{◌≡◌, ◌<◌, ◌↔◌, IsTrue, Ok, l
 ghost use Rattle.st_meaning.specs.Due.{History};
 ghost use Rattle.ready_list.specs.Ready.{IsReadyOf, Removes};
 ghost use Rattle.st_meaning.specs.Logs.{row_at};
-ghost use Rattle.serial_core.specs.Steps.{Admits, Commits, Judges, IsOwn, IsOwnOf, made, stands, waits_in};
+ghost use Rattle.serial_core.specs.Steps.{Admits, Commits, Judges, IsOwn, IsOwnOf, past_in, reads_are_current, waits_in};
 ghost use Rattle.serial_core.specs.Quick.{IsOwnCode};
 
 use crate::refusal::{Answer, Refusal};
 use crate::serial::SerialCore;
-use core_values::{row_of, stand, write_all};
+use core_values::{are_current, row_of, write_all};
 use plan::Plan;
 use ready_list::ReadyList;
 use slot_run::Execution;
@@ -53,7 +53,7 @@ impl SerialCore {
     /// The row of an activation that waits.
     pub(crate) fn row_for(&self, activation: Activation) -> &Row
         requires waits { waits_in self.now activation }
-        ensures { result.now ≡ row_at (made self.now).rows activation.row }
+        ensures { result.now ≡ row_at (past_in self.now).rows activation.row }
     {
         row_of(&self.log, &self.rows, activation.row as usize)
     }
@@ -66,13 +66,13 @@ impl SerialCore {
         is_own(&self.plan, self.row_for(execution.activation()), execution)
     }
 
-    /// Whether all that the execution read has its value still.
-    fn stands(&self, execution: &Execution) -> bool
+    /// Whether each value that the execution read is still current.
+    fn reads_are_current(&self, execution: &Execution) -> bool
         requires waits { waits_in self.now execution.now.activation }
-        ensures { result ≡ stands self.now execution.now }
+        ensures { result ≡ reads_are_current self.now execution.now }
     {
         let row = self.row_for(execution.activation());
-        stand(
+        are_current(
             &self.plan.slots,
             &self.values,
             row.image(),
@@ -80,8 +80,8 @@ impl SerialCore {
         )
     }
 
-    /// Why an execution of an activation can't be committed, whatever its code is: K1 where the log is full, else K2
-    /// where the activation isn't waiting.
+    /// Why an execution of an activation can't be committed, whatever its code is: K1 if the log is full, else K2 if the
+    /// activation isn't waiting.
     fn admits(&self, activation: Activation) -> Result<(), Refusal>
         ensures { Admits self.now activation result }
     {
@@ -94,7 +94,7 @@ impl SerialCore {
         Ok(())
     }
 
-    /// Whether what the execution read stands; or why it can't be committed, whatever it read.
+    /// Whether the values that the execution read are current; or why it can't be committed, whatever it read.
     fn judge(&self, execution: &Execution) -> Result<bool, Refusal>
         ensures { Judges self.now execution.now result }
     {
@@ -102,10 +102,10 @@ impl SerialCore {
         if !self.owns(execution) {
             return Err(Refusal::Foreign);
         }
-        Ok(self.stands(execution))
+        Ok(self.reads_are_current(execution))
     }
 
-    /// Whether what an execution of its activation's own code read stands; or why it can't be committed.
+    /// The same for an execution of its activation's own code.
     fn judge_own(&self, execution: &Execution) -> Result<bool, Refusal>
         requires own { IsOwnCode self.now execution.now }
         ensures { Judges self.now execution.now result }
@@ -114,7 +114,7 @@ impl SerialCore {
         if !is_timed(&self.plan, self.row_for(execution.activation()), execution) {
             return Err(Refusal::Foreign);
         }
-        Ok(self.stands(execution))
+        Ok(self.reads_are_current(execution))
     }
 
     /// Appends the Done of an execution that may be committed, and applies its writes.
@@ -130,11 +130,10 @@ impl SerialCore {
         Answer::Committed(self.log.len())
     }
 
-    /// Appends the execution's Done and applies its writes, if all that it read has its value still. It takes no
-    /// memory.
+    /// Appends the execution's Done and applies its writes, if each value that it read is still current. It takes no memory.
     ///
-    /// K1 where the log is full, else K2 where the activation is not waiting, else K3 where the execution is not that
-    /// of its activation in this core, else Stale where something that it read has another value now.
+    /// K1 if the log is full, else K2 if the activation is not waiting, else K3 if the execution is not that of its
+    /// activation in this core, else Stale if a value that it read has changed.
     pub fn commit(&mut self, execution: Execution) -> Result<Answer, Refusal>
         ensures { Commits self.old execution result self.new }
     {
@@ -145,8 +144,8 @@ impl SerialCore {
         }
     }
 
-    /// The same for an execution whose code is known to be that of its activation's program here. `commit` compares the
-    /// two, an instruction and a slot's type at a time; this does not, so what it costs does not grow with the code.
+    /// The same for an execution whose code is known to be that of its activation's program here. `commit` compares the two,
+    /// an instruction and a slot's type at a time; this does not, so its cost does not grow with the code.
     pub fn commit_own(&mut self, execution: Execution) -> Result<Answer, Refusal>
         requires own { IsOwnCode self.old execution }
         ensures { Commits self.old execution result self.new }

@@ -1,7 +1,7 @@
 //! Committing in one step.
 
 ghost use Rattle.std.specs.Prelude.{◌≡◌, true, IfErr, IfOk};
-ghost use Rattle.serial_core.specs.Steps.{CommitsHere, CommitsWaiting, IsOwn, IsSnapshotIn, stands, waits_in};
+ghost use Rattle.serial_core.specs.Steps.{CommitsHere, CommitsWaiting, IsOwn, IsSnapshotIn, reads_are_current, waits_in};
 ghost use Rattle.serial_core.specs.Quick.{CommitsOne, IsQuickSnapshotIn};
 
 use crate::refusal::{Answer, Refusal};
@@ -16,7 +16,7 @@ impl SerialCore {
         requires parts { IsSnapshotIn self.now snapshot }
         ensures activation { IfOk result (λ e. e.activation ≡ snapshot.activation) }
         ensures own { IfOk result (IsOwn self.now) }
-        ensures stands { IfOk result (λ e. stands self.now e ≡ true) }
+        ensures stands { IfOk result (λ e. reads_are_current self.now e ≡ true) }
         ensures memory { IfErr result (λ e. e ≡ Refusal.NoMemory) }
     {
         match run_by_values(alloc, snapshot) {
@@ -25,14 +25,14 @@ impl SerialCore {
         }
     }
 
-    /// An execution of a quick snapshot, by the machine on values where quick code cannot tell how the run ends; K6 out
-    /// of memory.
+    /// An execution of a quick snapshot, by the machine on values if quick code cannot tell how the run ends; K6 out of
+    /// memory.
     fn quick_execution(&self, alloc: Global, quick: QuickSnapshot) -> Result<Execution, Refusal>
         requires waits { waits_in self.now quick.activation }
         requires parts { IsQuickSnapshotIn self.now quick }
         ensures activation { IfOk result (λ e. e.activation ≡ quick.activation) }
         ensures own { IfOk result (IsOwn self.now) }
-        ensures stands { IfOk result (λ e. stands self.now e ≡ true) }
+        ensures stands { IfOk result (λ e. reads_are_current self.now e ≡ true) }
         ensures memory { IfErr result (λ e. e ≡ Refusal.NoMemory) }
     {
         let activation = quick.activation;
@@ -46,13 +46,13 @@ impl SerialCore {
         }
     }
 
-    /// An execution of an activation that waits. What it read has its value still, since nothing else happens
+    /// An execution of an activation that waits. The values that it read are still current, since nothing else happens
     /// meanwhile. K6 out of memory.
     fn execution_of(&self, alloc: Global, activation: Activation) -> Result<Execution, Refusal>
         requires waits { waits_in self.now activation }
         ensures activation { IfOk result (λ e. e.activation ≡ activation) }
         ensures own { IfOk result (IsOwn self.now) }
-        ensures stands { IfOk result (λ e. stands self.now e ≡ true) }
+        ensures stands { IfOk result (λ e. reads_are_current self.now e ≡ true) }
         ensures memory { IfErr result (λ e. e ≡ Refusal.NoMemory) }
     {
         match self.taken_of(alloc, activation)? {
@@ -61,8 +61,8 @@ impl SerialCore {
         }
     }
 
-    /// Runs and commits an activation that waits, in one step, and gives the log's length after it. K1 where the log is
-    /// full, K6 out of memory.
+    /// Runs and commits an activation that waits, in one step, and gives the log's length after it. K1 if the log is full,
+    /// K6 out of memory.
     fn commit_activation(
         &mut self,
         alloc: Global,
@@ -79,10 +79,10 @@ impl SerialCore {
         }
     }
 
-    /// Runs and commits what waits of a program, by its number from 0, in one step, and gives the log's length after
-    /// it; none where nothing of it waits. Nothing that was read can have changed, so it is never stale.
+    /// Runs and commits the activation of a program that waits, by the program's number from 0, in one step, and gives the
+    /// log's length after it; none if nothing of it waits. Nothing that was read can have changed, so it is never stale.
     ///
-    /// K1 where the log is full, K6 out of memory.
+    /// K1 if the log is full, K6 out of memory.
     pub fn commit_waiting(
         &mut self,
         alloc: Global,
@@ -96,10 +96,10 @@ impl SerialCore {
         self.commit_activation(alloc, Activation { program, row })
     }
 
-    /// Takes, runs and commits the best activation that waits on the resource, in one step, and gives the log's length
-    /// after it; none where nothing waits there. Nothing that was read can have changed, so it is never stale.
+    /// Takes, runs and commits the best activation that waits on the resource, in one step, and gives the log's length after
+    /// it; none if nothing waits there. Nothing that was read can have changed, so it is never stale.
     ///
-    /// K1 where the log is full, K6 out of memory.
+    /// K1 if the log is full, K6 out of memory.
     pub fn commit_here(&mut self, alloc: Global, resource: usize) -> Result<Option<usize>, Refusal>
         ensures { CommitsHere self.old resource result self.new }
     {

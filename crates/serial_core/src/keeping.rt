@@ -1,4 +1,4 @@
-//! What a record keeps of a core.
+//! The part of a core that a record keeps.
 
 ghost use Rattle.std.specs.Prelude.{◌≡◌, ◌≤◌, ◌<◌, ◌^◌, IfSome, ◌+◌, ◌++◌, ◌∷◌, [], map, length, vec_len, vec_capacity};
 ghost use Rattle.std.specs.Prelude.{if◌then◌else◌};
@@ -8,7 +8,7 @@ ghost use Rattle.st_types.specs.Values.{IsHeld};
 ghost use Rattle.st_meaning.specs.Logs.{last_moment};
 ghost use Rattle.st_meaning.specs.Restarts.{kept};
 ghost use Rattle.plan.specs.PlanViews.{plan_view};
-ghost use Rattle.serial_core.specs.Steps.{made};
+ghost use Rattle.serial_core.specs.Steps.{past_in};
 ghost use Rattle.serial_core.specs.Retained.{retained_values, retained_kinds};
 
 use crate::serial::SerialCore;
@@ -63,16 +63,16 @@ impl SerialCore {
 
     /// The moment of the last row in milliseconds, or the one that the first row has to be later than.
     pub fn last_moment(&self) -> Option<u64>
-        ensures last { result ≡ last_moment self.now.before (made self.now).rows }
+        ensures last { result ≡ last_moment self.now.before (past_in self.now).rows }
         ensures early { IfSome result (λ t. t < MOMENT_LIMIT) }
     {
         self.last
     }
 
-    /// Puts the values of the retained variables, in order, in place of what is there. It takes no memory.
+    /// Puts the values of the retained variables, in order, in place of the values there. It takes no memory.
     pub fn retain(&self, values: &mut Vec<Value>)
         requires room { length self.now.plan.variables.items ≤ vec_capacity values.old }
-        ensures values { values.new.items ≡ map (λ e. e.1) (kept (plan_view self.now.plan) (made self.now).store) }
+        ensures values { values.new.items ≡ map (λ e. e.1) (kept (plan_view self.now.plan) (past_in self.now).store) }
         ensures kinds { map (λ d. d.kind) values.new.items ≡ retained_kinds self.now.plan.variables.items }
         ensures held { AllByRecursion IsHeld values.new.items }
         ensures capacity { vec_capacity values.old ≤ vec_capacity values.new }

@@ -13,7 +13,7 @@ use st_types::{Entry, Row};
 impl SerialCore {
     /// Latches a row, and gives its number from 0. It takes no memory.
     ///
-    /// K1 where the log is full, else K3 where the row is not one of the plan's, else K4 where its moment is not later.
+    /// K1 if the log is full, else K3 if the row is not one of the plan's, else K4 if its moment is not later.
     pub fn latch(&mut self, row: Row) -> Result<usize, Refusal>
         ensures { Latches self.old row result self.new }
     {

@@ -1,7 +1,7 @@
 //! The core without a disk: rows are latched, snapshots taken and executions committed.
 //!
-//! It owns the log and the variables. Its type keeps that the log is legal, and that variables, outcomes and the ready
-//! list are what the log makes. A call that is refused changes nothing.
+//! It owns the log and the variables. The invariant of its type is that the log is legal, and that variables, outcomes and
+//! the ready list are those after the log. A call that is refused changes nothing.
 #![tactic(auto)]
 
 mod committing;

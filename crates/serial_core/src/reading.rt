@@ -1,4 +1,4 @@
-//! What a core tells.
+//! Looks at a core.
 
 ghost use Rattle.std.specs.Prelude.{◌≡◌, ◌<◌, ◌≤◌, option_map, option_and_then, slice_get, length, map, Some, None};
 ghost use Rattle.std.specs.Prelude.{MatchBool};
@@ -7,7 +7,7 @@ ghost use Rattle.st_meaning.specs.Logs.{IsLegal, outcomes_of};
 ghost use Rattle.st_meaning.specs.Plans.{schedules_of, initial_value};
 ghost use Rattle.st_meaning.specs.Scopes.{seen};
 ghost use Rattle.plan.specs.PlanViews.{plan_view};
-ghost use Rattle.serial_core.specs.Steps.{made, none_waits, first_image, last_image, inputs_now, store_in, IsWaiting};
+ghost use Rattle.serial_core.specs.Steps.{past_in, none_waits, first_image, last_image, inputs_now, store_in, IsWaiting};
 
 use crate::serial::SerialCore;
 use core_values::row_of;
@@ -62,14 +62,14 @@ impl SerialCore {
 
     /// The values of the variables now, in layout order.
     pub fn values(&self) -> &[Value]
-        ensures { result.now ≡ map (λ e. e.1) (made self.now).store }
+        ensures { result.now ≡ map (λ e. e.1) (past_in self.now).store }
     {
         &self.values
     }
 
     /// How many rows were latched.
     pub fn rows(&self) -> usize
-        ensures { result ≡ length (made self.now).rows }
+        ensures { result ≡ length (past_in self.now).rows }
     {
         self.rows.len()
     }
@@ -81,21 +81,21 @@ impl SerialCore {
         self.ready.waits_on(resource)
     }
 
-    /// The number of the row with which a program waits, by its number from 0; none where nothing of it waits.
+    /// The number of the row with which a program waits, by its number from 0; none if nothing of it waits.
     pub fn waiting(&self, program: usize) -> Option<u64>
         ensures { IsWaiting self.now program result }
     {
         self.ready.waiting(program)
     }
 
-    /// The entry of a number from 0; none where the log has no such entry.
+    /// The entry of a number from 0; none if the log has no such entry.
     pub fn entry(&self, number: usize) -> Option<&Entry>
         ensures { option_map (λ e. e.now) result ≡ slice_get self.now.log number }
     {
         self.log.get(number)
     }
 
-    /// How the execution of an entry ended; none for a row, and where the log has no such entry.
+    /// How the execution of an entry ended; none for a row, and if the log has no such entry.
     pub fn outcome(&self, number: usize) -> Option<Outcome>
         ensures { result ≡ option_and_then (λ o. o)
             (slice_get (outcomes_of (plan_view self.now.plan) self.now.start self.now.log) number) }
@@ -106,10 +106,9 @@ impl SerialCore {
         }
     }
 
-    /// The value of a variable, or of an input at the last row, 0 or FALSE before the first; none where no such path is
-    /// there.
+    /// The value of a variable, or of an input at the last row, 0 or FALSE before the first; none if there is no such path.
     pub fn value(&self, path: &Path) -> Option<Value>
-        ensures { result ≡ seen (inputs_now self.now) (made self.now).store path.now }
+        ensures { result ≡ seen (inputs_now self.now) (past_in self.now).store path.now }
     {
         match self.plan.place(path) {
             Some(SlotPlace::Input(number)) => Some(self.input(number)),
@@ -122,7 +121,7 @@ impl SerialCore {
     fn input(&self, number: usize) -> Value
         requires there { number < length self.now.plan.inputs.items }
         ensures { Some result
-            ≡ slice_get (last_image (first_image self.now.plan.inputs.items) (made self.now).rows) number }
+            ≡ slice_get (last_image (first_image self.now.plan.inputs.items) (past_in self.now).rows) number }
     {
         match self.rows.len().checked_sub(1) {
             Some(last) => row_of(&self.log, &self.rows, last).image()[number],
@@ -134,7 +133,7 @@ impl SerialCore {
     pub fn overruns(&self, program: usize) -> u64
         ensures none { length self.now.plan.programs.items ≤ program → result ≡ 0 }
         ensures overruns { program < length self.now.plan.programs.items
-            → HasOverruns (schedules_of (plan_view self.now.plan)) (made self.now).history program result }
+            → HasOverruns (schedules_of (plan_view self.now.plan)) (past_in self.now).history program result }
     {
         self.ready.overruns(program)
     }

@@ -6,7 +6,7 @@ ghost use Rattle.st_types.specs.declared.limits.TheConstants.{MOMENT_LIMIT};
 ghost use Rattle.st_types.specs.Values.{IsHeld};
 ghost use Rattle.st_meaning.specs.Restarts.{kept, warm_start};
 ghost use Rattle.plan.specs.PlanViews.{plan_view};
-ghost use Rattle.serial_core.specs.Retained.{retained_kinds, told_by};
+ghost use Rattle.serial_core.specs.Retained.{retained_kinds, kept_from};
 
 use crate::serial::SerialCore;
 use core_values::restore;
@@ -24,12 +24,12 @@ impl SerialCore {
         ensures restarted { self.new ≡ record {
           plan = self.old.plan;
           start = (warm_start (plan_view self.old.plan)
-              (Some (told_by self.old.plan values.now moment))).store;
+              (Some (kept_from self.old.plan values.now moment))).store;
           before = moment;
           log = [];
           room = self.old.room;
         } }
-        // What is kept of this start are these values again.
+        // The values kept of this start are these values again.
         ensures kept { map (λ e. e.1) (kept (plan_view self.old.plan) self.new.start) ≡ values.now }
     {
         let plan: &Plan = &self.plan;

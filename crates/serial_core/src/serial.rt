@@ -7,9 +7,9 @@ use st_types::{Entry, Value};
 use std::marker::Model;
 use std::sync::Arc;
 
-/// A core without a disk. Contracts see it as a `State`: its plan, what it started from, its log and its room.
+/// A core without a disk. Contracts see it as a `State`: its plan, its start, its log and its room.
 ///
-/// Its log is legal, and its variables are what the executions of the log give, one after another.
+/// Its log is legal, and its variables are the results of the log's executions, one after another.
 pub struct SerialCore {
     pub(crate) plan: Arc<Plan>,
     /// The values that the variables started with.
@@ -23,7 +23,7 @@ pub struct SerialCore {
     pub(crate) log: Vec<Entry>,
     /// How the execution of each entry ended.
     pub(crate) outcomes: Vec<Option<Outcome>>,
-    /// Where in the log each row stands.
+    /// Where in the log each row is.
     pub(crate) rows: Vec<usize>,
     /// The moment of the last row, or the one from before the log.
     pub(crate) last: Option<u64>,

@@ -25,8 +25,9 @@ fn initial_values(alloc: Global, variables: &[PlanVariable]) -> Result<Vec<Value
 }
 
 impl SerialCore {
-    /// A core of the plan without a disk: every variable has its initial value, and the log is empty with room for so
-    /// many entries, 1 to 65,536. It makes all the memory that `latch`, `commit` and the calls that only tell need.
+    /// A core of the plan without a disk: every variable has its initial value, and the log is empty with room for
+    /// `log_room` entries, 1 to 65,536. It makes all the memory that `latch`, `commit` and the calls that only look at it
+    /// need.
     pub fn start(alloc: Global, plan: Arc<Plan>, log_room: usize) -> Result<SerialCore, AllocError>
         requires room { log_room ≤ MAX_LOG_ROOM }
         ensures { IfOk result (λ core. core ≡ record {

@@ -65,14 +65,14 @@ impl SerialCore {
         Ok(Snapshot::new(code, activation, row.moment(), budget, slots))
     }
 
-    /// The best activation that waits on the resource; none where nothing waits there.
+    /// The best activation that waits on the resource; none if nothing waits there.
     pub(crate) fn best(&self, resource: usize) -> Option<Activation>
         ensures { MatchOption result (none_waits self.now resource) (IsBestIn self.now resource) }
     {
         self.ready.best(resource)
     }
 
-    /// A snapshot of the best activation that waits on the resource; none where nothing waits there, K6 out of memory.
+    /// A snapshot of the best activation that waits on the resource; none if nothing waits there, K6 out of memory.
     pub fn take(&self, alloc: Global, resource: usize) -> Result<Option<Snapshot>, Refusal>
         ensures { Takes self.now resource result }
     {
@@ -113,7 +113,7 @@ impl SerialCore {
         Ok(QuickSnapshot::new(code, activation, row.moment(), budget, values))
     }
 
-    /// What a run of an activation that waits starts from; K6 out of memory.
+    /// The snapshot, quick or whole, of an activation that waits; K6 out of memory.
     pub(crate) fn taken_of(&self, alloc: Global, activation: Activation) -> Result<Taken, Refusal>
         requires waits { waits_in self.now activation }
         ensures taken { IfOk result (IsTakenIn self.now activation) }
@@ -126,8 +126,8 @@ impl SerialCore {
         }
     }
 
-    /// What a run of the best activation that waits on the resource starts from: the values of the slots that its code
-    /// names, where there is quick code, and else a snapshot. None where nothing waits there, K6 out of memory.
+    /// The snapshot of the best activation that waits on the resource: a quick one if there is quick code, and else a whole
+    /// one. None if nothing waits there, K6 out of memory.
     pub fn take_quick(&self, alloc: Global, resource: usize) -> Result<Option<Taken>, Refusal>
         ensures { TakesQuick self.now resource result }
     {

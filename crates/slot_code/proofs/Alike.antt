@@ -1,4 +1,4 @@
--- Parts that are alike answer alike.
+-- Equal parts give equal results.
 use Rattle.std.proofs.Common.{◌≡◌, ◌≤◌, ◌<◌, ◌∙◌, ℕ, List, length, refl, sym, ap, subst, arith, ◌+◌}
 use Rattle.std.specs.Prelude.{Some, slice_get}
 use Rattle.st_types.specs.declared.kind.Kind.{Kind}
@@ -11,12 +11,12 @@ use Rattle.quick_code.specs.QuickSteps.{Memory}
 use Rattle.quick_code.specs.Soundness.{IsSafe, IsSound, LeadsOn, reach}
 use Rattle.quick_trees.specs.Programs.{beginning}
 use Rattle.quick_trees.specs.QuickMemory.{Frame, first_temporary}
-use Rattle.quick_trees.specs.Sites.{IsMemory, whole}
+use Rattle.quick_trees.specs.UnitValues.{IsMemory, whole}
 use Rattle.slot_code.specs.declared.parts.QuickParts.{QuickParts}
 use Rattle.slot_code.specs.Quick.{AnswersFor, HasEnded, IsAnswering, frame_of, kinds_of, run_of, unmarked_slots}
-use Rattle.slot_code.specs.Sharing.{AreAlike}
+use Rattle.slot_code.specs.Sharing.{AreSameCode}
 
-module _ (p q : QuickParts) (alike : AreAlike p q) where
+module _ (p q : QuickParts) (alike : AreSameCode p q) where
   -- they make the same program
   same_frame : (window : List ℕ) (kinds : List Kind) (now : ℕ) → frame_of p window kinds now
       ≡ frame_of q window kinds now

@@ -4,8 +4,8 @@ use Rattle.std.proofs.Common.{Result, Ok, Err, sym, ap, ap₂, subst, ◌∙◌,
 use Rattle.std.specs.Prelude.{false, replicate}
 use Rattle.st_types.specs.declared.fault.Fault.{Fault}
 use Rattle.st_types.specs.declared.kind.Kind.{Kind}
-use Rattle.st_types.specs.Values.{Datum, datum_of_truth}
-use Rattle.st_meaning.specs.Failures.{StandIns, in_runs}
+use Rattle.st_types.specs.Values.{Datum, bool_datum}
+use Rattle.st_meaning.specs.Failures.{StuckFaults, in_runs}
 use Rattle.machine_code.specs.declared.instr.Instr.{Instr}
 use Rattle.machine_code.specs.declared.mark.Mark.{Mark}
 use Rattle.machine_code.specs.Machine.{Ending, finished, failed, runs}
@@ -13,7 +13,7 @@ use Rattle.machine_code.specs.Tracking.{Tracked, tracked, tracking}
 use Rattle.slot_trees.specs.SlotTrees.{SlotLibrary, SlotStmts}
 use Rattle.slot_trees.specs.SlotRuns.{state_of}
 use Rattle.machine_code.specs.MarkedExecution.{MarkedEnd}
-use Rattle.machine_code.specs.MarkedPrograms.{MarkedEndsSo}
+use Rattle.machine_code.specs.MarkedPrograms.{MarkedEndsAs}
 use Rattle.machine_code.specs.MarkedRuns.{marked_ran}
 use Rattle.machine_code.specs.Programs.{program_code, ProgramFits}
 use Rattle.quick_code.specs.QuickRuns.{EndsWell, Left}
@@ -21,21 +21,22 @@ use Rattle.quick_code.specs.QuickSteps.{Memory}
 use Rattle.quick_trees.specs.Notes.{AreTrueOf}
 use Rattle.quick_trees.specs.Points.{Point}
 use Rattle.quick_trees.specs.Programs.{beginning, EndsAs, IsProgram}
-use Rattle.quick_trees.specs.QuickMemory.{Ends, Frame, first_temporary}
-use Rattle.quick_trees.specs.Sites.{IsMemory, whole}
-use Rattle.quick_trees.proofs.Lists.{map_long, replicate_long}
+use Rattle.quick_trees.specs.QuickMemory.{EndsWellAt, Frame, first_temporary}
+use Rattle.quick_trees.specs.UnitValues.{IsMemory, whole}
+use Rattle.quick_trees.proofs.Lists.{replicate_long}
 use Rattle.slot_code.specs.declared.parts.QuickParts.{QuickParts}
 use Rattle.quick_trees.specs.Windows.{StaysOutside}
 use Rattle.slot_code.specs.Quick.{AnswersFor, HasEnded, frame_of, kinds_of, run_of, unmarked, unmarked_slots}
+use Rattle.st_types.proofs.ListLemmas.{length_map}
 
--- so many and so many equal ones
+-- `n` and `k` equal elements
 replicate_both : {A : Type 0} (n k : ℕ) (v : A) → replicate (n + k) v ≡ replicate n v ++ replicate k v
 replicate_both zero k v = (let at : 0 + k ≡ k = omega arith in ap (λ j. replicate j v) at)
 replicate_both (suc n) k v =
     (let at : suc n + k ≡ suc (n + k) = omega arith in
     ap (λ j. replicate j v) at ∙ ap (λ xs. v ∷ xs) (replicate_both n k v))
 
--- the words and notes tell the same of whatever unit has all slots
+-- the words and notes encode the same for whatever unit has all slots
 told_of : (f : Frame) (base : ℕ) (at : Point) (m : Memory) (t : Tracked) → at.noted ≡ (beginning f).noted
     → IsMemory f (whole base) at m t → IsMemory f (whole 0) (beginning f) m t
 told_of f base at m t exact is = record {
@@ -51,7 +52,7 @@ of_base f base m t is = record { room = is.room; long = is.long; values = is.val
 
 -- A program that ends as a run of quick code, and a run of instructions that ends as the program.
 ended : (f : Frame) (base : ℕ) (vs : List Datum) (e : Left) (o : Result (MarkedEnd × ℕ) Fault) (r : Ending Tracked)
-    → EndsAs f base (unmarked_slots vs) o e → MarkedEndsSo (length vs) o r → HasEnded f vs e r
+    → EndsAs f base (unmarked_slots vs) o e → MarkedEndsAs (length vs) o r → HasEnded f vs e r
 ended f base vs e (Ok x) (finished m b) tells so =
     let n = length vs in
     let same : x ≡ (tells.end, e.ticks) = cc in
@@ -76,19 +77,19 @@ ended f base vs e (Err g) (failed m h) tells so =
 -- the law of quick code, and that of instructions
 abbrev pub QuickLaw : Type 0
 QuickLaw =
-    (stand_ins : StandIns) (library : SlotLibrary) (base calls depth budget : ℕ) (body : SlotStmts) (f : Frame)
+    (stuck_faults : StuckFaults) (library : SlotLibrary) (base calls depth budget : ℕ) (body : SlotStmts) (f : Frame)
     (m : Memory) (t : Tracked) (e : Left) → IsProgram f library base calls body → calls ≤ depth
-    → IsMemory f (whole base) (beginning f) m t → Ends f 0 m budget e
-    → EndsAs f base t (marked_ran stand_ins library base body f.now depth t budget) e
+    → IsMemory f (whole base) (beginning f) m t → EndsWellAt f 0 m budget e
+    → EndsAs f base t (marked_ran stuck_faults library base body f.now depth t budget) e
 
 abbrev pub MarkedLaw : Type 0
 MarkedLaw =
-    (stand_ins : StandIns) (library : SlotLibrary) (base : ℕ) (body : SlotStmts) (now n depth memory : ℕ)
+    (stuck_faults : StuckFaults) (library : SlotLibrary) (base : ℕ) (body : SlotStmts) (now n depth memory : ℕ)
     (vs rest : List Datum) (marks others : List Mark) (budget : ℕ)
     → ProgramFits memory library base (length vs) body n → n ≤ depth → length (vs ++ rest) ≡ memory
     → length marks ≡ length vs → let code = program_code library base (length vs) body n in
-    MarkedEndsSo (length vs) (marked_ran stand_ins library base body now depth (tracked vs marks) budget)
-    (runs tracking stand_ins now code (length code) [] (tracked (vs ++ rest) (marks ++ others)) budget)
+    MarkedEndsAs (length vs) (marked_ran stuck_faults library base body now depth (tracked vs marks) budget)
+    (runs tracking stuck_faults now code (length code) [] (tracked (vs ++ rest) (marks ++ others)) budget)
 
 module _ (quick : QuickLaw) (marked : MarkedLaw) (library : SlotLibrary) (base calls depth extra : ℕ)
     (body : SlotStmts) (kinds : List Kind) (p : QuickParts) (window : List ℕ)
@@ -101,28 +102,28 @@ module _ (quick : QuickLaw) (marked : MarkedLaw) (library : SlotLibrary) (base c
   -- the run of instructions over values of the types
   module _ (now budget : ℕ) (vs : List Datum) (memory : Memory) (e : Left) (typed : kinds_of vs ≡ kinds) where
     as_many : length kinds ≡ length vs
-    as_many = ap length (sym typed) ∙ map_long (λ (v : Datum). v.kind) vs
+    as_many = ap length (sym typed) ∙ length_map (λ (v : Datum). v.kind) vs
 
     abbrev rest : List Datum
-    rest = replicate extra (datum_of_truth false)
+    rest = replicate extra (bool_datum false)
 
     abbrev marks : List Mark
     marks = replicate (length vs) unmarked
 
-    ends_so : MarkedEndsSo (length vs)
+    ends_so : MarkedEndsAs (length vs)
         (marked_ran in_runs library base body now (calls + depth) (tracked vs marks) budget)
         (run_of (code_over (length kinds)) extra now vs budget)
     ends_so =
         let memory_long = length-append vs rest in
-        let rest_long = replicate_long extra (datum_of_truth false) in
+        let rest_long = replicate_long extra (bool_datum false) in
         let fits_here = subst (λ n. ProgramFits (n + extra) library base n body depth) as_many fits in
         let whole_run = marked in_runs library base body now depth (calls + depth) (length vs + extra) vs rest marks
         (replicate extra unmarked) budget fits_here (omega arith) (omega (arith, memory_long, rest_long))
         (replicate_long (length vs) unmarked) in
-        subst (λ n. MarkedEndsSo (length vs)
+        subst (λ n. MarkedEndsAs (length vs)
         (marked_ran in_runs library base body now (calls + depth) (tracked vs marks) budget)
         (run_of (code_over n) extra now vs budget)) (sym as_many)
-        (subst (λ ms. MarkedEndsSo (length vs)
+        (subst (λ ms. MarkedEndsAs (length vs)
         (marked_ran in_runs library base body now (calls + depth) (tracked vs marks) budget)
         (runs tracking in_runs now (code_over (length vs)) (length (code_over (length vs))) []
         (tracked (vs ++ rest) ms) budget)) (sym (replicate_both (length vs) extra unmarked)) whole_run)

@@ -1,4 +1,4 @@
--- The words and notes that a run begins with are the values of its slots.
+-- The words and notes with which a run begins are the values of its slots.
 use Rattle.std.proofs.Common.{◌≡◌, ℕ, zero, suc, ◌+◌, ◌-◌, ◌≤◌, ℤ, pos, List, [], ◌∷◌, ◌++◌, length, map}
 use Rattle.std.proofs.Common.{Some, refl, sym, ap, ap₂, subst, ◌∙◌, arith, length-append}
 use Rattle.std.proofs.lemmas.List.Elements.{All-head, All-tail}
@@ -14,14 +14,15 @@ use Rattle.quick_trees.specs.declared.noting.Noting.TheVariants.{Exact}
 use Rattle.quick_trees.specs.Notes.{IsTrueOf}
 use Rattle.quick_trees.specs.Programs.{beginning}
 use Rattle.quick_trees.specs.QuickMemory.{IsRoom}
-use Rattle.quick_trees.specs.Sites.{IsMemory, IsValueAt, whole}
-use Rattle.quick_trees.proofs.Lists.{some_is, map_long, replicate_long}
+use Rattle.quick_trees.specs.UnitValues.{IsMemory, IsValueAt, whole}
+use Rattle.quick_trees.proofs.Lists.{some_is, replicate_long}
 use Rattle.slot_code.specs.declared.parts.QuickParts.{QuickParts}
 use Rattle.quick_trees.specs.Windows.{IsWindow}
-use Rattle.slot_code.specs.Quick.{AreIn, begun, frame_of, kinds_of, unmarked, unmarked_slots, word_of}
+use Rattle.slot_code.specs.Quick.{AreIn, start_memory, frame_of, kinds_of, unmarked, unmarked_slots, word_of}
 use Rattle.slot_code.proofs.Memories.{again}
+use Rattle.st_types.proofs.ListLemmas.{length_map}
 
--- an element of equal ones
+-- an element of a list of equal ones
 of_equals : {A : Type 0} (n k : ℕ) (v x : A) → slice_get (replicate n v) k ≡ Some x → v ≡ x
 of_equals zero k v x at = absurd cc
 of_equals (suc n) zero v x at = some_is at
@@ -32,7 +33,7 @@ no_note zero k = refl
 no_note (suc n) zero = refl
 no_note (suc n) (suc k) = no_note n k
 
--- the word of a value stands at its place, whatever is behind
+-- the word of a value is at its place, whatever comes after
 word_here : (vs : List Datum) (rest : List ℤ) (k : ℕ) (v : Datum) → slice_get vs k ≡ Some v
     → word_at (map word_of vs ++ rest) k ≡ word_of v
 word_here [] rest k v at = absurd cc
@@ -72,18 +73,18 @@ module _ (p : QuickParts) (window : List ℕ) (slots vs : List Datum) (now : ℕ
   words_long =
       let a = length-append (map word_of vs) (map word_of cs ++ rest) in
       let b = length-append (map word_of cs) rest in
-      let c = map_long word_of vs in
-      let d = map_long word_of cs in
+      let c = length_map word_of vs in
+      let d = length_map word_of cs in
       let e = replicate_long (p.words - (length vs + length cs)) (pos 0) in
       omega (arith, a, b, c, d, e)
 
-  room_is : IsRoom (frame_of p window (kinds_of slots) now) (begun p vs)
+  room_is : IsRoom (frame_of p window (kinds_of slots) now) (start_memory p vs)
   room_is =
       let long = is_in.long in record {
         words = words_long;
         notes = replicate_long p.words 0;
         room = omega (arith, long);
-        window = subst (λ n. IsWindow n window) (sym (map_long (λ (v : Datum). v.kind) slots)) is_window;
+        window = subst (λ n. IsWindow n window) (sym (length_map (λ (v : Datum). v.kind) slots)) is_window;
         constants = λ j v at.
             ap (λ n. datum_at v.kind (word_at (map word_of vs ++ (map word_of cs ++ rest)) (n + j))) (sym long)
             ∙ ap (datum_at v.kind) (word_behind vs (map word_of cs ++ rest) j ∙ word_here cs rest j v at) ∙ again v;
@@ -91,7 +92,7 @@ module _ (p : QuickParts) (window : List ℕ) (slots vs : List Datum) (now : ℕ
       }
 
   value_is : (k w : ℕ) (t : Kind) → slice_get (kinds_of slots) k ≡ Some t → slice_get window w ≡ Some k
-      → IsValueAt (begun p vs) slots t k w
+      → IsValueAt (start_memory p vs) slots t k w
   value_is k w t at has =
       let v = value_of slots k t at in
       let there : slice_get vs w ≡ Some v.0 = is_in.each w k has ∙ v.1.0 in
@@ -110,10 +111,10 @@ module _ (p : QuickParts) (window : List ℕ) (slots vs : List Datum) (now : ℕ
 
   -- a run begins with the values of the slots, and nothing is marked
   pub begins : let f = frame_of p window (kinds_of slots) now in
-      IsMemory f (whole 0) (beginning f) (begun p vs) (unmarked_slots slots)
+      IsMemory f (whole 0) (beginning f) (start_memory p vs) (unmarked_slots slots)
   begins = record {
     room = room_is;
-    long = sym (map_long (λ (v : Datum). v.kind) slots);
+    long = sym (length_map (λ (v : Datum). v.kind) slots);
     values = λ k w t at has. value_is k w t at has;
     marks = record {
       each = λ w k n x has at mark. noted n x w (of_equals (length window) w Exact n at)

@@ -6,10 +6,11 @@ use Rattle.std.proofs.lemmas.Bool.Decides.{nat_tests}
 use Rattle.st_types.specs.declared.kind.Kind.{Kind}
 use Rattle.st_types.specs.Values.{Datum}
 use Rattle.quick_trees.specs.Windows.{IsWindow}
-use Rattle.quick_trees.proofs.Lists.{some_is, map_long, there_within, within_there}
+use Rattle.quick_trees.proofs.Lists.{some_is, there_within, within_there}
 use Rattle.slot_code.specs.Quick.{AreIn, AreTyped, kinds_of}
+use Rattle.st_types.proofs.ListLemmas.{length_map}
 
--- the value of a slot, where the window has it
+-- the value of a slot, if the window has it
 abbrev found : List ℕ → List Datum → ℕ → Option Datum
 found [] vs k = None
 found (x ∷ xs) [] k = None
@@ -35,7 +36,7 @@ module _ (window : List ℕ) (vs : List Datum) where
       (let there : suc i + d ≡ i + suc d = omega arith in
       filled_at (suc i) ts d t at ∙ ap (λ n. Some (or_some t (found window vs n))) there)
 
-  -- the types, where what is found is of them
+  -- the types, if the values found are of them
   filled_kinds : (i : ℕ) (ts : List Kind)
       → ((d : ℕ) (t : Kind) (v : Datum) → slice_get ts d ≡ Some t → found window vs (i + d) ≡ Some v → v.kind ≡ t)
       → kinds_of (filled_from i ts) ≡ ts
@@ -52,7 +53,7 @@ module _ (window : List ℕ) (vs : List Datum) where
           are 0 t v refl (ap (found window vs) same ∙ is))
       first None is = refl
 
--- what is found is of its slot's type
+-- the value found is of its slot's type
 found_kind : (kinds : List Kind) (window : List ℕ) (vs : List Datum) (k : ℕ) (v : Datum) → AreTyped kinds window vs
     → found window vs k ≡ Some v → slice_get kinds k ≡ Some v.kind
 found_kind kinds [] vs k v typed is = absurd cc
@@ -68,7 +69,7 @@ found_kind kinds (x ∷ xs) (u ∷ us) k v typed is =
         ap (slice_get kinds) (sym same) ∙ first ∙ ap (λ (v : Datum). Some v.kind) (some_is is)
     by_test false e is later = later is
 
--- what is found of a slot of the window is its value
+-- the value found for a slot of the window is its value
 found_here : (window : List ℕ) (vs : List Datum) (w k : ℕ)
     → ((u w j k : ℕ) → slice_get window u ≡ Some j → slice_get window w ≡ Some k → u < w → j < k)
     → slice_get window w ≡ Some k → found window vs k ≡ slice_get vs w
@@ -98,7 +99,7 @@ module _ (kinds : List Kind) (window : List ℕ) (vs : List Datum) (is_window : 
           some_is (sym (found_kind kinds window vs d v typed (ap (found window vs) (sym same) ∙ is)) ∙ at))
 
   pub as_long : length vs ≡ length window
-  as_long = sym (map_long (λ (v : Datum). Some v.kind) vs) ∙ ap length (sym typed) ∙ map_long (slice_get kinds) window
+  as_long = sym (length_map (λ (v : Datum). Some v.kind) vs) ∙ ap length (sym typed) ∙ length_map (slice_get kinds) window
 
   pub filled_in : AreIn window filled vs
   filled_in = record { long = as_long; each = each }

@@ -1,4 +1,4 @@
--- Other code whose runs end as before answers as before.
+-- Other code whose runs end as before has the same results.
 use Rattle.std.proofs.Common.{◌≡◌, ◌≤◌, ◌↔◌, ℕ, List, length}
 use Rattle.st_types.specs.declared.kind.Kind.{Kind}
 use Rattle.st_types.specs.Values.{Datum}
@@ -11,7 +11,7 @@ use Rattle.quick_code.specs.QuickSteps.{Memory}
 use Rattle.quick_code.specs.Soundness.{IsSound}
 use Rattle.quick_trees.specs.Programs.{beginning}
 use Rattle.quick_trees.specs.QuickMemory.{Frame}
-use Rattle.quick_trees.specs.Sites.{IsMemory, whole}
+use Rattle.quick_trees.specs.UnitValues.{IsMemory, whole}
 use Rattle.slot_code.specs.declared.parts.QuickParts.{QuickParts}
 use Rattle.slot_code.specs.Quick.{AnswersFor, HasEnded, IsAnswering, frame_of}
 
@@ -19,7 +19,7 @@ use Rattle.slot_code.specs.Quick.{AnswersFor, HasEnded, IsAnswering, frame_of}
 abbrev pub with_code : QuickParts → QuickCode → QuickParts
 with_code p code = record { code = code; constants = p.constants; words = p.words }
 
--- what words and notes tell does not depend on the code
+-- the meaning of words and notes does not depend on the code
 module _ (p : QuickParts) (code : QuickCode) (window : List ℕ) (kinds : List Kind) (now : ℕ) where
   abbrev f : Frame
   f = frame_of p window kinds now

@@ -1,4 +1,4 @@
--- What a run of quick code leaves, as values and marks.
+-- The values and marks after a run of quick code.
 use Rattle.std.proofs.Common.{◌≡◌, ℕ, zero, suc, ◌<◌, ◌≤◌, ℤ, List, [], ◌∷◌, ◌++◌, length, map, take, Bool, true, false}
 use Rattle.std.proofs.Common.{Some}
 use Rattle.std.proofs.Common.{refl, sym, ap, ap₂, subst, ◌∙◌, ◌+◌, add-one, arith}
@@ -15,13 +15,13 @@ use Rattle.quick_code.specs.Words.{word_at}
 use Rattle.quick_trees.specs.declared.noting.Noting.TheVariants.{Exact}
 use Rattle.quick_trees.specs.Notes.{note_of}
 use Rattle.quick_trees.specs.QuickMemory.{Frame}
-use Rattle.quick_trees.proofs.Lists.{map_long, map_there, there_within, within_there}
+use Rattle.quick_trees.proofs.Lists.{map_there, there_within, within_there}
 use Rattle.slot_code.specs.Quick.{AreIn, EndsWith, HasEnded, kinds_of}
 use Rattle.slot_code.proofs.Beginning.{value_of}
-use Rattle.slot_code.specs.Told.{AreHeld, mark_of, values_of}
-
-some_is : {A : Type 0} {x y : A} → Some x ≡ Some y → x ≡ y
-some_is e = cc
+use Rattle.slot_code.specs.WordValues.{AreHeld, mark_of, values_of}
+use Rattle.st_types.proofs.ListLemmas.{length_map}
+use Rattle.st_types.proofs.OptionLemmas.{some_is}
+use Rattle.slot_code.proofs.Memories.{kind_at}
 
 equal_at : {A : Type 0} (n k : ℕ) (v : A) → k < n → slice_get (replicate n v) k ≡ Some v
 equal_at zero k v lt = absurd (omega arith)
@@ -36,7 +36,7 @@ value_told (u ∷ ks) [] k t at le = absurd (omega arith)
 value_told (u ∷ ks) (w ∷ ws) zero t at le = ap (λ u. Some (datum_at u w)) (some_is at)
 value_told (u ∷ ks) (w ∷ ws) (suc k) t at le = value_told ks ws k t at (omega arith)
 
--- as many values as types, where there are words for them
+-- as many values as types, if there are words for them
 pub values_long : (ks : List Kind) (ws : List ℤ) → length ks ≤ length ws → length (values_of ks ws) ≡ length ks
 values_long [] ws le = refl
 values_long (t ∷ ks) [] le = absurd (omega arith)
@@ -65,10 +65,6 @@ mark_told (suc n) [] k lt le = absurd (omega arith)
 mark_told (suc n) (x ∷ ns) zero lt le = refl
 mark_told (suc n) (x ∷ ns) (suc k) lt le = mark_told n ns k (omega arith) (omega arith)
 
--- the type of a value
-kind_told : (vs : List Datum) (k : ℕ) (v : Datum) → slice_get vs k ≡ Some v → slice_get (kinds_of vs) k ≡ Some v.kind
-kind_told vs k v at = map_there (λ (v : Datum). v.kind) vs k v at
-
 module _ (f : Frame) (slots begun : List Datum) (ticks : ℕ) (m : Memory) (r : Ending Tracked)
     (h : HasEnded f slots (left m ticks) r) (typed : kinds_of slots ≡ f.kinds) (is_in : AreIn f.window slots begun)
   where
@@ -85,7 +81,7 @@ module _ (f : Frame) (slots begun : List Datum) (ticks : ℕ) (m : Memory) (r : 
     notes_long = (let long = h.told.room.notes in let le = within_words in omega arith)
 
     as_many : length f.kinds ≡ n
-    as_many = ap length (sym typed) ∙ map_long (λ (v : Datum). v.kind) slots
+    as_many = ap length (sym typed) ∙ length_map (λ (v : Datum). v.kind) slots
 
     -- the slot of a word, and its type
     slot_of : (w : ℕ) (t : Kind) → slice_get (kinds_of begun) w ≡ Some t
@@ -97,7 +93,7 @@ module _ (f : Frame) (slots begun : List Datum) (ticks : ℕ) (m : Memory) (r : 
         let k = within_there f.window w (omega arith) in
         let there : slice_get slots k.0 ≡ Some v.0 = sym (is_in.each w k.0 k.1) ∙ v.1.0 in (
           k.0,
-          (k.1, ap (λ ks. slice_get ks k.0) (sym typed) ∙ kind_told slots k.0 v.0 there ∙ ap (λ t. Some t) v.1.1),
+          (k.1, ap (λ ks. slice_get ks k.0) (sym typed) ∙ kind_at slots k.0 v.0 there ∙ ap (λ t. Some t) v.1.1),
         )
 
     pub words_held : AreHeld (kinds_of begun) m.words
@@ -112,9 +108,9 @@ module _ (f : Frame) (slots begun : List Datum) (ticks : ℕ) (m : Memory) (r : 
         let t = within_there f.kinds k inside in
         let v = value_of slots k t.0 (ap (λ ks. slice_get ks k) typed ∙ t.1) in
         let there : slice_get begun w ≡ Some v.0 = is_in.each w k at ∙ v.1.0 in
-        let kind : slice_get (kinds_of begun) w ≡ Some t.0 = kind_told begun w v.0 there ∙ ap (λ t. Some t) v.1.1 in
+        let kind : slice_get (kinds_of begun) w ≡ Some t.0 = kind_at begun w v.0 there ∙ ap (λ t. Some t) v.1.1 in
         let le = words_long in
-        let many = map_long (λ (v : Datum). v.kind) begun in
+        let many = length_map (λ (v : Datum). v.kind) begun in
         (h.told.values k w t.0 t.1 at).is
         ∙ sym (value_told (kinds_of begun) m.words w t.0 kind (omega arith))
 
@@ -133,13 +129,13 @@ module _ (f : Frame) (slots begun : List Datum) (ticks : ℕ) (m : Memory) (r : 
 
     left_long : length (values_of (kinds_of begun) m.words) ≡ length f.window
     left_long =
-        let many = map_long (λ (v : Datum). v.kind) begun in
+        let many = length_map (λ (v : Datum). v.kind) begun in
         let le = words_long in
         values_long (kinds_of begun) m.words (omega arith) ∙ many ∙ is_in.long
 
     marks_long : length (map mark_of (take (length begun) m.notes)) ≡ length f.window
     marks_long =
-        map_long mark_of (take (length begun) m.notes) ∙ take_long (length begun) m.notes notes_long ∙ is_in.long
+        length_map mark_of (take (length begun) m.notes) ∙ take_long (length begun) m.notes notes_long ∙ is_in.long
 
     -- the run of instructions ends with them
     pub ends_with : (values : List Datum) (marks : List Mark) → values ≡ values_of (kinds_of begun) m.words

@@ -7,7 +7,7 @@ use Rattle.slot_code.specs.Quick.{AreIn}
 use Rattle.quick_trees.proofs.Lists.{some_is}
 
 module _ (slots : List Datum) where
-  -- the values of a window whose first slot and the others are so
+  -- the values of a window, from that of its first slot and those of the others
   in_cons : (x : ℕ) (window : List ℕ) (u : Datum) (vs : List Datum) → Some u ≡ slice_get slots x → AreIn window slots vs
       → AreIn (x ∷ window) slots (u ∷ vs)
   in_cons x window u vs first rest = record { long = ap suc rest.long; each = each }

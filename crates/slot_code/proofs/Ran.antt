@@ -1,4 +1,4 @@
--- A run over the values of a window's slots, of all slots that have them.
+-- A run over the values of a window's slots, for all slots that have them.
 use Rattle.std.proofs.Common.{◌≡◌, ◌≤◌, ◌+◌, ℕ, ℤ, List, length, map, take, ap, subst, arith}
 use Rattle.std.specs.Prelude.{All, replicate}
 use Rattle.st_types.specs.declared.kind.Kind.{Kind}
@@ -11,7 +11,7 @@ use Rattle.quick_trees.specs.QuickMemory.{Frame}
 use Rattle.quick_trees.specs.Windows.{IsWindow}
 use Rattle.slot_code.specs.declared.parts.QuickParts.{QuickParts}
 use Rattle.slot_code.specs.Quick.{AreTyped, EndsWith, HasEnded, IsAnswering, Wherever, frame_of, kinds_of, run_of}
-use Rattle.slot_code.specs.Told.{AreHeld, mark_of, values_of}
+use Rattle.slot_code.specs.WordValues.{AreHeld, mark_of, values_of}
 use Rattle.slot_code.proofs.Filled.{as_long, filled, filled_in, filled_typed}
 use Rattle.slot_code.proofs.Leaving.{ends_with, notes_long, words_held, words_long}
 use Rattle.slot_code.proofs.Words.{ends_so, words_over}
@@ -59,7 +59,7 @@ module _ (instrs : List Instr) (kinds : List Kind) (extra now budget : ℕ) (p :
         let is_in = filled_in kinds window vs is.slots typed in
         notes_long f slots vs ticks m _ (ended slots kinds_are is_in) kinds_are is_in
 
--- what it leaves
+-- the values and marks that it leaves
 pub ends : (instrs : List Instr) (kinds : List Kind) (extra now budget : ℕ) (p : QuickParts) (window : List ℕ)
     (vs : List Datum) (m : Memory) (ticks : ℕ) (values : List Datum) (marks : List Mark)
     → Wherever kinds window vs (λ slots. HasEnded (frame_of p window kinds now) slots (left m ticks)

@@ -8,13 +8,13 @@ use Rattle.machine_code.specs.declared.instr.Instr.{Instr}
 use Rattle.quick_code.specs.QuickRuns.{EndsWell, Left}
 use Rattle.quick_code.specs.QuickSteps.{Memory}
 use Rattle.quick_trees.specs.Programs.{beginning}
-use Rattle.quick_trees.specs.Sites.{IsMemory, whole}
-use Rattle.quick_trees.proofs.Lists.{map_long}
+use Rattle.quick_trees.specs.UnitValues.{IsMemory, whole}
 use Rattle.slot_code.specs.declared.parts.QuickParts.{QuickParts}
 use Rattle.quick_trees.specs.Windows.{IsWindow}
-use Rattle.slot_code.specs.Quick.{AreIn, HasEnded, IsAnswering, begun, frame_of, kinds_of, run_of}
+use Rattle.slot_code.specs.Quick.{AreIn, HasEnded, IsAnswering, start_memory, frame_of, kinds_of, run_of}
 use Rattle.slot_code.specs.Quick.{unmarked_slots, word_of}
 use Rattle.slot_code.proofs.Beginning.{begins}
+use Rattle.st_types.proofs.ListLemmas.{length_map}
 
 abbrev pub words_over : QuickParts → List Datum → List ℤ
 words_over p vs = map word_of vs ++ (map word_of p.constants.items
@@ -34,17 +34,17 @@ pub window_over : (instrs : List Instr) (kinds : List Kind) (extra : ℕ) (p : Q
     (slots : List Datum) → IsAnswering instrs kinds extra p window → kinds_of slots ≡ kinds
     → IsWindow (length slots) window
 window_over instrs kinds extra p window slots is typed =
-    subst (λ n. IsWindow n window) (ap length (sym typed) ∙ map_long (λ (v : Datum). v.kind) slots) is.slots
+    subst (λ n. IsWindow n window) (ap length (sym typed) ∙ length_map (λ (v : Datum). v.kind) slots) is.slots
 
 module _ (instrs : List Instr) (kinds : List Kind) (extra now budget : ℕ) (p : QuickParts) (window : List ℕ)
     (slots vs : List Datum) (is : IsAnswering instrs kinds extra p window) (typed : kinds_of slots ≡ kinds)
     (is_in : AreIn window slots vs) (held : All IsHeld vs) (constants : All IsHeld p.constants.items) where
-  ends_by : (e : Left) → EndsWell p.code.instrs.items p.code.ways.items now 0 (begun p vs) budget e
+  ends_by : (e : Left) → EndsWell p.code.instrs.items p.code.ways.items now 0 (start_memory p vs) budget e
       → HasEnded (frame_of p window kinds now) slots e (run_of instrs extra now slots budget)
   ends_by e runs =
-      is.answers.ends now budget slots (begun p vs) e typed
+      is.answers.ends now budget slots (start_memory p vs) e typed
       (subst (λ ks. let f = frame_of p window ks now in IsMemory f
-      (whole 0) (beginning f) (begun p vs) (unmarked_slots slots))
+      (whole 0) (beginning f) (start_memory p vs) (unmarked_slots slots))
       typed (begins p window slots vs now is_in (window_over instrs kinds extra p window slots is typed) held constants
       (has_room instrs kinds extra p window slots vs is is_in))) runs
 

@@ -1,5 +1,5 @@
 pub mod Quick
-pub mod Told
+pub mod WordValues
 pub mod Sharing
 pub mod Codes
 pub mod Meanings

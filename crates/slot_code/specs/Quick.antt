@@ -1,8 +1,8 @@
--- Programs in quick code, and how they answer.
+-- Programs in quick code, and their results.
 use Rattle.std.specs.Prelude.{◌≡◌, ◌≤◌, ◌+◌, ◌-◌, ◌-ℤ◌, ℕ, ℤ, pos, List, [], ◌++◌, length, map, replicate, take, false}
 use Rattle.std.specs.Prelude.{Some, slice_get}
 use Rattle.st_types.specs.declared.kind.Kind.{Kind}
-use Rattle.st_types.specs.Values.{Datum, datum_of_truth}
+use Rattle.st_types.specs.Values.{Datum, bool_datum}
 use Rattle.st_types.specs.Words.{shift_of}
 use Rattle.st_meaning.specs.Failures.{in_runs}
 use Rattle.machine_code.specs.declared.instr.Instr.{Instr}
@@ -13,7 +13,7 @@ use Rattle.quick_code.specs.QuickRuns.{EndsWell, Left}
 use Rattle.quick_code.specs.QuickSteps.{Memory}
 use Rattle.quick_trees.specs.QuickMemory.{Frame, first_temporary}
 use Rattle.quick_trees.specs.Programs.{beginning}
-use Rattle.quick_trees.specs.Sites.{IsMemory, whole}
+use Rattle.quick_trees.specs.UnitValues.{IsMemory, whole}
 use Rattle.quick_trees.specs.Windows.{IsWindow, StaysOutside}
 use Rattle.quick_code.specs.Soundness.{IsSound}
 use Rattle.slot_code.specs.declared.parts.QuickParts.{QuickParts}
@@ -46,9 +46,9 @@ pub record AreIn (window : List ℕ) (slots values : List Datum) : Type 0 where
 abbrev pub AreTyped : List Kind → List ℕ → List Datum → Type 0
 AreTyped kinds window values = map (slice_get kinds) window ≡ map (λ v. Some v.kind) values
 
--- the words that a run begins with over the values of a window's slots, and no notes
-abbrev pub begun : QuickParts → List Datum → Memory
-begun p vs = record {
+-- the words with which a run begins over the values of a window's slots, and no notes
+abbrev pub start_memory : QuickParts → List Datum → Memory
+start_memory p vs = record {
   words = map word_of vs ++ (map word_of p.constants.items
       ++ replicate (p.words - (length vs + length p.constants.items)) (pos 0));
   notes = replicate p.words 0;
@@ -61,18 +61,18 @@ unmarked = record { is_read = false; is_assigned = false }
 abbrev pub unmarked_slots : List Datum → Tracked
 unmarked_slots vs = tracked vs (replicate (length vs) unmarked)
 
--- the values and the marks of the first ones of a memory
+-- the first `n` values and marks of a memory
 abbrev pub first_of : ℕ → Tracked → Tracked
 first_of n m = tracked (take n m.values) (take n m.marks)
 
--- the run of instructions over values of slots, with so many values behind them
+-- the run of instructions over values of slots, with `extra` values after them
 abbrev pub run_of : List Instr → ℕ → ℕ → List Datum → ℕ → Ending Tracked
 run_of instrs extra now vs budget =
     runs tracking in_runs now instrs (length instrs) []
-    (tracked (vs ++ replicate extra (datum_of_truth false)) (replicate (length vs + extra) unmarked)) budget
+    (tracked (vs ++ replicate extra (bool_datum false)) (replicate (length vs + extra) unmarked)) budget
 
--- The run of instructions over values of slots ended well, with as many ticks left, and with the values and the marks
--- of slots that words and notes tell; slots that have no word are as they were.
+-- The run of instructions over values of slots ended well, with as many ticks left, and with the values and the marks of
+-- slots that words and notes encode; slots without a word are as they were.
 pub record HasEnded (f : Frame) (vs : List Datum) (e : Left) (r : Ending Tracked) : Type 0 where
   pub memory : Tracked
   pub is : r ≡ finished memory e.ticks
@@ -80,7 +80,7 @@ pub record HasEnded (f : Frame) (vs : List Datum) (e : Left) (r : Ending Tracked
   pub stays : StaysOutside f.window (unmarked_slots vs) (first_of (length vs) memory)
   pub marks : length (take (length vs) memory.marks) ≡ length vs
 
--- Wherever a run of the quick code over values of these types ends well, the run of the instructions has ended so.
+-- Whenever a run of the quick code over values of these types ends well, the run of the instructions ends in the same way.
 pub record AnswersFor (instrs : List Instr) (kinds : List Kind) (extra : ℕ) (p : QuickParts) (window : List ℕ) : Type 0
   where
     pub room : first_temporary (frame_of p window kinds 0) ≤ p.words
@@ -90,7 +90,7 @@ pub record AnswersFor (instrs : List Instr) (kinds : List Kind) (extra : ℕ) (p
         → EndsWell p.code.instrs.items p.code.ways.items now 0 m budget e
         → HasEnded (frame_of p window kinds now) vs e (run_of instrs extra now vs budget)
 
--- The code may be run, its window is one, and it answers so.
+-- The code may be run, its window is one, and it answers as the instructions do.
 pub record IsAnswering (instrs : List Instr) (kinds : List Kind) (extra : ℕ) (p : QuickParts) (window : List ℕ) :
     Type 0
   where
@@ -98,13 +98,13 @@ pub record IsAnswering (instrs : List Instr) (kinds : List Kind) (extra : ℕ) (
     pub slots : IsWindow (length kinds) window
     pub answers : AnswersFor instrs kinds extra p window
 
--- A run over the values of a window's slots has ended so of all slots that have these values there, whatever values the
--- others have: they all are of the slots' types.
+-- A run over the values of a window's slots ends in this way over all slots that have these values there, whatever values
+-- the others have: they all are of the slots' types.
 abbrev pub Wherever : List Kind → List ℕ → List Datum → (List Datum → Type 0) → Type 0
 Wherever kinds window values Ends = (slots : List Datum) → kinds_of slots ≡ kinds → AreIn window slots values
     → Ends slots
 
--- a program in quick code beside its instructions
+-- a program in quick code next to its instructions
 pub record QuickView : Type 0 where
   pub instrs : List Instr
   pub kinds : List Kind

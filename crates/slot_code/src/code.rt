@@ -9,14 +9,14 @@ use machine_code::Instr;
 use st_types::Kind;
 use std::sync::Arc;
 
-/// The code of a program: instructions over the slots of a layout, and behind these over values for functions.
+/// The code of a program: instructions over the slots of a layout, and after these over values for functions.
 pub struct Code {
     pub instrs: Arc<Vec<Instr>>,
     /// The types of the layout's slots in their order, those of inputs among them. All codes of a plan share them.
     pub kinds: Arc<Vec<Kind>>,
-    /// How many values its memory has behind those of the slots, for the variables of functions.
+    /// How many values its memory has after those of the slots, for the variables of functions.
     pub extra: usize,
-    /// Quick code of the same program, where there is some: a run begins with it.
+    /// Quick code of the same program, if there is some: a run begins with it.
     pub quick: Option<QuickProgram>,
     ghost short: { length instrs.value.items ≤ MAX_INSTRUCTIONS },
     ghost numbered: { length kinds.value.items + extra ≤ MAX_MEMORY },

@@ -7,7 +7,7 @@ use crate::code::Code;
 use machine_code::Instr;
 use st_types::Kind;
 
-/// Whether the two are one type.
+/// Whether the two types are the same.
 fn same_kind(this: Kind, that: Kind) -> bool
     ensures { IsTrue result ↔ (this ≡ that) }
 {
@@ -45,7 +45,7 @@ fn same_instrs(these: &[Instr], those: &[Instr]) -> bool
 }
 
 impl Code {
-    /// Whether the two are one code.
+    /// Whether the two codes are the same.
     pub fn is(&self, other: &Code) -> bool
         ensures { IsTrue result ↔ (code_view self.now ≡ code_view other.now) }
     {

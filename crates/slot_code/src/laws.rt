@@ -12,8 +12,8 @@ ghost use Rattle.slot_code.specs.Quick.{AnswersFor, frame_of};
 use machine_code::marked_code_does_what_its_program_does;
 use quick_trees::quick_code_does_what_its_program_does;
 
-/// Where quick code over a window stands for a program at each moment, and the program fits a memory for which
-/// instructions are its code, a run of the quick code that ends well ends as these do.
+/// If quick code over a window stands for a program at each moment, and the program fits a memory for which instructions are
+/// its code, a run of the quick code that ends well ends as these do.
 pub fn quick_code_answers_as_its_instructions()
     ensures { (library : SlotLibrary) (base calls depth extra : ℕ) (body : SlotStmts) (kinds : List Kind)
         (p : QuickParts) (window : List ℕ)

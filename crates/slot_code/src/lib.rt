@@ -1,7 +1,7 @@
-//! The code of a program: its instructions, with the types of the slots that they run over, and quick code beside them.
+//! The code of a program: its instructions, with the types of the slots that they run over, and quick code next to them.
 //!
-//! What code means is defined here. A run of the quick code that ends well ends as the instructions do: with the same
-//! ticks, values and marks. It goes over the slots alone that the program names.
+//! The meaning of code is defined here. A run of the quick code that ends well ends as the instructions do: with the same
+//! ticks, values and marks. It uses only the slots that the program names.
 #![tactic(auto)]
 
 mod code;

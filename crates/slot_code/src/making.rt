@@ -1,4 +1,4 @@
-//! Code is made with quick code of the same program, where there is some.
+//! Code is made with quick code of the same program, if there is some.
 
 ghost use Rattle.std.specs.Option.{ForSome};
 ghost use Rattle.std.specs.Prelude.{◌≡◌, ◌≤◌, ◌+◌, IfOk, IfSome, length};
@@ -14,7 +14,7 @@ use st_types::Kind;
 use std::alloc::{AllocError, Global};
 use std::sync::Arc;
 
-/// Quick code beside these instructions. Where it is the same as that of the code before, they share it.
+/// Quick code next to these instructions. If it is the same as that of the code before, they share it.
 fn quick_beside(
     alloc: Global,
     instrs: &Arc<Vec<Instr>>,
@@ -44,9 +44,9 @@ fn quick_beside(
 }
 
 impl Code {
-    /// The code of these instructions over slots of these types, with so many values behind them, and with quick code of
-    /// the same program, where there is some. Instances of one program come one after another, and share quick code
-    /// that is the same: this is the code before, if there is one.
+    /// The code of these instructions over slots of these types, with `extra` values after them, and with quick code of the
+    /// same program, if there is some. Instances of one program come one after another, and share quick code that is the
+    /// same: `before` is the code before, if there is one.
     ///
     /// The only error is out of memory.
     pub fn new(

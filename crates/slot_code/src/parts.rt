@@ -1,12 +1,12 @@
-//! What a run of quick code needs.
+//! The parts that a run of quick code needs.
 
 ghost use Rattle.std.specs.Prelude.{◌≡◌};
 
 use quick_code::QuickCode;
 use st_types::Value;
 
-/// Quick code, the constants that stand behind the words of slots, and how many words a run has, and notes. Instances
-/// of a program may share it.
+/// Quick code, the constants that come after the words of slots, and how many words and notes a run has. Instances of a
+/// program may share it.
 pub struct QuickParts {
     pub code: QuickCode,
     pub constants: Vec<Value>,
@@ -23,7 +23,7 @@ impl Drop for QuickParts {
     }
 }
 
-/// Quick code over a window: the slots, in increasing order, whose words the first ones are. All other slots it leaves
+/// Quick code over a window: the slots, in increasing order, whose words are the first ones. It leaves all other slots
 /// alone.
 pub struct PlacedParts {
     pub parts: QuickParts,

@@ -3,7 +3,7 @@
 ghost use Rattle.std.specs.Prelude.{◌≡◌, IfOk, length};
 ghost use Rattle.quick_trees.specs.Windows.{IsWindow};
 ghost use Rattle.slot_code.specs.Quick.{IsAnswering};
-ghost use Rattle.slot_code.specs.Sharing.{AreAlike};
+ghost use Rattle.slot_code.specs.Sharing.{AreSameCode};
 
 use crate::parts::{PlacedParts, QuickParts};
 use machine_code::Instr;
@@ -13,10 +13,9 @@ use std::alloc::{AllocError, Global};
 use std::marker::Model;
 use std::sync::Arc;
 
-/// Quick code of a program, which may be run, beside the program's instructions: a run of it that ends well ends as
-/// theirs. Contracts see the instructions, the types of the slots, how many values the instructions have behind those
-/// of
-/// the slots, the parts of the quick code, and its window.
+/// Quick code of a program, which may be run, next to the program's instructions: a run of it that ends well ends as theirs.
+/// Contracts see the instructions, the types of the slots, how many values the instructions have after those of the slots,
+/// the parts of the quick code, and its window.
 pub struct QuickProgram {
     instrs: Arc<Vec<Instr>>,
     kinds: Arc<Vec<Kind>>,
@@ -58,9 +57,8 @@ impl Model for QuickProgram {
 }
 
 impl QuickProgram {
-    /// The program of these parts beside these instructions. Where the machine has an instruction that does what two
-    /// do, it
-    /// takes their place.
+    /// The program of these parts next to these instructions. If the machine has an instruction that does the work of two,
+    /// it replaces them.
     ///
     /// The only error is out of memory.
     pub fn new(
@@ -86,9 +84,9 @@ impl QuickProgram {
         })
     }
 
-    /// The same program, with parts that are alike.
+    /// The same program, with equal parts.
     pub(crate) fn with_parts(self, parts: Arc<QuickParts>) -> QuickProgram
-        requires { AreAlike self.parts parts.value }
+        requires { AreSameCode self.parts parts.value }
         ensures instrs { result.instrs ≡ self.instrs }
         ensures kinds { result.kinds ≡ self.kinds }
         ensures extra { result.extra ≡ self.extra }

@@ -5,7 +5,7 @@ ghost use Rattle.quick_code.specs.QuickRuns.{EndsWell, left};
 ghost use Rattle.quick_code.specs.Soundness.{IsSound};
 ghost use Rattle.quick_machine.specs.Going.{memory};
 ghost use Rattle.slot_code.specs.Quick.{AreIn, AreTyped, EndsWith, frame_of, HasEnded, kinds_of, run_of, Wherever};
-ghost use Rattle.slot_code.specs.Told.{AreHeld};
+ghost use Rattle.slot_code.specs.WordValues.{AreHeld};
 
 use crate::memory::{marks_of, values_in, values_left, words_over};
 use crate::program::QuickProgram;
@@ -14,7 +14,7 @@ use quick_code::QuickCode;
 use st_types::Value;
 use std::alloc::{AllocError, Global};
 
-/// What a run left that ended well: the words, the notes, and how many ticks.
+/// The result of a run that ended well: the words, the notes, and the ticks left.
 #[derive(Drop)]
 struct Left {
     words: Vec<i64>,
@@ -44,7 +44,7 @@ fn run_over(
     }
 }
 
-/// A run that ended well, of the slots of its window, in order: the values that it left, and their marks. The ticks are
+/// A run that ended well, over the slots of its window, in order: the values that it left, and their marks. The ticks are
 /// those that are left.
 #[derive(Drop)]
 pub struct QuickRun {
@@ -54,7 +54,7 @@ pub struct QuickRun {
 }
 
 impl QuickProgram {
-    /// The values of the slots of the window, of these of all slots.
+    /// The values of the slots of the window, from those of all slots.
     ///
     /// The only error is out of memory.
     pub fn named(&self, alloc: Global, slots: &[Value]) -> Result<Vec<Value>, AllocError>
@@ -65,7 +65,7 @@ impl QuickProgram {
         values_in(alloc, slots, self.window())
     }
 
-    /// Runs the quick code over the words of values. None where the machine cannot tell how the run ends.
+    /// Runs the quick code over the words of values. None if the machine cannot predict how the run ends.
     fn run_words(
         &self,
         alloc: Global,
@@ -88,9 +88,9 @@ impl QuickProgram {
         Ok(run_over(&parts.code, words, notes, now, budget))
     }
 
-    /// Runs the quick code at a moment, in milliseconds, with a budget of ticks, over the values of the slots of the
-    /// window, in order. None where the machine cannot tell how the run ends. Whatever values the other slots have, the
-    /// run of the instructions over all slots ends so.
+    /// Runs the quick code at a moment, in milliseconds, with a budget of ticks, over the values of the slots of the window,
+    /// in order. None if the machine cannot predict how the run ends. Whatever values the other slots have, the run of the
+    /// instructions over all slots ends in the same way.
     ///
     /// The only error is out of memory.
     pub fn run(

@@ -1,7 +1,7 @@
 //! Programs whose quick code is the same share it.
 
 ghost use Rattle.std.specs.Prelude.{◌≡◌, ◌<◌, IfOk, IsTrue, Some, length, slice_get};
-ghost use Rattle.slot_code.specs.Sharing.{AreAlike};
+ghost use Rattle.slot_code.specs.Sharing.{AreSameCode};
 
 use crate::parts::QuickParts;
 use crate::program::QuickProgram;
@@ -66,8 +66,8 @@ fn same_values(these: &[Value], those: &[Value]) -> bool
 }
 
 /// Whether two are the same code, with the same constants and as many words.
-fn are_alike(this: &QuickParts, that: &QuickParts) -> bool
-    ensures { IsTrue result → AreAlike this.now that.now }
+fn are_same_code(this: &QuickParts, that: &QuickParts) -> bool
+    ensures { IsTrue result → AreSameCode this.now that.now }
 {
     this.words == that.words
         && same_instrs(&this.code.instrs, &that.code.instrs)
@@ -76,7 +76,7 @@ fn are_alike(this: &QuickParts, that: &QuickParts) -> bool
 }
 
 impl QuickProgram {
-    /// The same program, with the code of another one where theirs is the same.
+    /// The same program, with the code of another one if theirs is the same.
     ///
     /// The only error is out of memory.
     pub fn sharing(self, other: &QuickProgram) -> Result<QuickProgram, AllocError>
@@ -85,7 +85,7 @@ impl QuickProgram {
         ensures extra { IfOk result (λ q. q.extra ≡ self.extra) }
         ensures window { IfOk result (λ q. q.window ≡ self.window) }
     {
-        if !are_alike(&self.parts, &other.parts) {
+        if !are_same_code(&self.parts, &other.parts) {
             return Ok(self);
         }
         let parts = Arc::clone(&other.parts)?;

@@ -7,7 +7,7 @@ ghost use Rattle.slot_code.specs.Windows.{window_of};
 use crate::code::Code;
 
 impl Code {
-    /// The slots that the quick code names, in increasing order; none where there is no quick code.
+    /// The slots that the quick code names, in increasing order; none if there is no quick code.
     pub fn window(&self) -> &[usize]
         ensures window { result.now ≡ window_of self.now }
         ensures slots { IsWindow (length self.now.kinds.value.items) (window_of self.now) }

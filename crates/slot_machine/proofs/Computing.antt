@@ -7,7 +7,7 @@ use Rattle.std.proofs.lemmas.Bool.Decides.{nat_tests}
 use Rattle.st_types.specs.declared.fault.Fault.{Fault as TheFault}
 use Rattle.st_types.specs.declared.fault.Fault.TheVariants.{Conversion}
 use Rattle.st_types.specs.Values.{Datum}
-use Rattle.st_meaning.specs.Failures.{ill_typed, StandIns, in_runs, run_result}
+use Rattle.st_meaning.specs.Failures.{ill_typed, StuckFaults, in_runs, run_result}
 use Rattle.st_meaning.specs.StandardFunctions.{Standard, standard_value}
 use Rattle.symbols.specs.Standard.{standard_view}
 use Rattle.symbols.specs.declared.standard_functions.Standard as code_function
@@ -39,7 +39,7 @@ pub operated_missing : (f : Standard) (n : ℕ) (st : List Datum) → length st 
 operated_missing f n st lt = sym (ap run_result (missing f n st lt))
 
 -- the machine on the topmost values
-by_test : {M : Type 0} (t : StandIns) (f : Standard) (n : ℕ) (st : List Datum) (m : M)
+by_test : {M : Type 0} (t : StuckFaults) (f : Standard) (n : ℕ) (st : List Datum) (m : M)
     (go : List Datum → Datum → Ending M) (b : Bool) → nat_le n (length st) ≡ b
     → on_tops t n [] st m (λ xs rest. on_result t (standard_value f xs) m (go rest))
     ≡ on_result t (operated f n st) m (go (drop n st))

@@ -2,8 +2,6 @@
 
 ghost use Rattle.std.specs.Prelude.{◌≡◌, ◌-◌, ℕ, List, Some, length, min};
 ghost use Rattle.st_types.specs.Values.{Datum};
-ghost use Rattle.st_meaning.specs.StandardBlocks.{members_of};
-ghost use Rattle.symbols.specs.Standard.{block_view};
 ghost use Rattle.machine_code.specs.Tracking.{tracked, seen, assigned};
 ghost use Rattle.machine_code.specs.declared.instr.Instr.TheVariants as instrs;
 ghost use Rattle.slot_machine.specs.Steps.{StepsOn, marks_from};
@@ -13,22 +11,9 @@ use machine_code::Mark;
 use slot_memory::{mark_assigned, mark_seen};
 use st_types::Value;
 use std_blocks::step;
-use symbols::StandardBlock;
+use symbols::{StandardBlock, member_count};
 
-/// How many members an instance has.
-fn member_count(block: StandardBlock) -> u16
-    ensures { result ≡ length (members_of (block_view block)) }
-{
-    match block {
-        StandardBlock::Sr | StandardBlock::Rs => 3,
-        StandardBlock::RTrig | StandardBlock::FTrig => 3,
-        StandardBlock::Ctu | StandardBlock::Ctd => 6,
-        StandardBlock::Ctud => 10,
-        StandardBlock::Ton | StandardBlock::Tof | StandardBlock::Tp => 6,
-    }
-}
-
-/// How many of so many slots from one on are among so many.
+/// How many of `count` slots from one on are below `length`.
 fn there_from(length: usize, first: u16, count: u16) -> u16
     ensures { result ≡ min count (length - first) }
 {
@@ -40,7 +25,7 @@ fn there_from(length: usize, first: u16, count: u16) -> u16
     }
 }
 
-/// Marks that so many slots were looked up.
+/// Marks that `count` slots were looked up.
 fn mark_all_seen(marks: &mut [Mark], first: u16, count: u16)
     ensures { marks.new ≡ marks_from seen marks.old first count }
 {
@@ -49,7 +34,7 @@ fn mark_all_seen(marks: &mut [Mark], first: u16, count: u16)
     }
 }
 
-/// Marks that so many slots were assigned.
+/// Marks that `count` slots were assigned.
 fn mark_all_assigned(marks: &mut [Mark], first: u16, count: u16)
     ensures { marks.new ≡ marks_from assigned marks.old first count }
 {
@@ -58,7 +43,7 @@ fn mark_all_assigned(marks: &mut [Mark], first: u16, count: u16)
     }
 }
 
-/// A step of a standard block whose members stand from a slot on.
+/// A step of a standard block whose members begin at a slot.
 pub fn step_block(
     block: StandardBlock,
     first: u16,
@@ -69,7 +54,7 @@ pub fn step_block(
     ensures { (size p b : ℕ) (st : List Datum) → StepsOn result now size (Some (instrs.Step block first)) p st
         (tracked values.old marks.old) b p st (tracked values.new marks.new) b }
 {
-    let count = member_count(block);
+    let count = member_count(block) as u16;
     mark_all_seen(marks, first, there_from(values.len(), first, count));
     match step(block, values, first as usize, now) {
         Ok(()) => {

@@ -1,4 +1,4 @@
-//! Instructions that go elsewhere, and ticks.
+//! Instructions that jump, and ticks.
 
 ghost use Rattle.std.specs.Prelude.{◌≡◌, ◌≤◌, ◌∷◌, ℕ, List, Some};
 ghost use Rattle.st_types.specs.Values.{Datum};
@@ -10,9 +10,9 @@ ghost use Rattle.slot_machine.specs.Steps.{Steps, IsDown, IsTick};
 use crate::stack::Stack;
 use crate::stop::Stop;
 use st_types::{Fault, Value};
-use std_blocks::{is_at_most, is_same_number, truth};
+use std_blocks::{condition_of, is_at_most, is_same_number};
 
-/// A jump to a place that is at most the one behind the instruction.
+/// A jump to a place that is at most the one after the instruction.
 #[inline(always)]
 pub fn go_down(place: &mut usize, to: u16) -> Result<(), Stop>
     ensures down { IsDown result to place.old place.new }
@@ -55,10 +55,10 @@ pub fn jump(to: u16, place: &mut usize) -> Result<(), Stop>
 }
 
 #[inline(always)]
-pub fn go_back(size: usize, to: u16, place: &mut usize, ticks: &mut u32) -> Result<(), Stop>
+pub fn loop_back(size: usize, to: u16, place: &mut usize, ticks: &mut u32) -> Result<(), Stop>
     requires { place.old ≤ size }
     ensures steps { (now : ℕ) (st : List Datum) (m : Tracked)
-        → Steps result now size (Some (instrs.Back to)) place.old st m ticks.old place.new st m ticks.new }
+        → Steps result now size (Some (instrs.LoopBack to)) place.old st m ticks.old place.new st m ticks.new }
     ensures within { place.new ≤ size }
 {
     take_tick(ticks)?;
@@ -69,42 +69,42 @@ pub fn go_back(size: usize, to: u16, place: &mut usize, ticks: &mut u32) -> Resu
     Ok(())
 }
 
-/// A condition: where it is FALSE, the jump is made.
+/// A condition: if it is FALSE, the jump is made.
 #[inline(always)]
 #[tactic(auto, using(crate::proofs::Results::result_ok, crate::proofs::Results::result_err))]
-pub fn unless(to: u16, place: &mut usize, stack: &mut Stack) -> Result<(), Stop>
+pub fn jump_if_false(to: u16, place: &mut usize, stack: &mut Stack) -> Result<(), Stop>
     ensures steps { (now size b : ℕ) (m : Tracked)
-        → Steps result now size (Some (instrs.Unless to)) place.old stack.old m b place.new stack.new m b }
+        → Steps result now size (Some (instrs.JumpIfFalse to)) place.old stack.old m b place.new stack.new m b }
     ensures within { place.new ≤ place.old }
 {
     let x = stack.pop()?;
-    match truth(x) {
+    match condition_of(x) {
         Ok(true) => Ok(()),
         Ok(false) => go_down(place, to),
         Err(fault) => Err(Stop::Fault(fault)),
     }
 }
 
-/// A condition: where it is TRUE, the jump is made.
+/// A condition: if it is TRUE, the jump is made.
 #[inline(always)]
 #[tactic(auto, using(crate::proofs::Results::result_ok, crate::proofs::Results::result_err))]
-pub fn when(to: u16, place: &mut usize, stack: &mut Stack) -> Result<(), Stop>
+pub fn jump_if_true(to: u16, place: &mut usize, stack: &mut Stack) -> Result<(), Stop>
     ensures steps { (now size b : ℕ) (m : Tracked)
-        → Steps result now size (Some (instrs.When to)) place.old stack.old m b place.new stack.new m b }
+        → Steps result now size (Some (instrs.JumpIfTrue to)) place.old stack.old m b place.new stack.new m b }
     ensures within { place.new ≤ place.old }
 {
     let x = stack.pop()?;
-    match truth(x) {
+    match condition_of(x) {
         Ok(true) => go_down(place, to),
         Ok(false) => Ok(()),
         Err(fault) => Err(Stop::Fault(fault)),
     }
 }
 
-/// Goes down where a value is the number that is wanted.
+/// Jumps down if a value is the number that is wanted.
 #[inline(always)]
 fn down_if_same(wanted: Value, value: Value, to: u16, place: &mut usize) -> Result<(), Stop>
-    ensures steps { (now size b : ℕ) (rest : List Datum) (m : Tracked) → Steps result now size (Some (instrs.Equals to))
+    ensures steps { (now size b : ℕ) (rest : List Datum) (m : Tracked) → Steps result now size (Some (instrs.JumpIfEqual to))
         place.old (wanted ∷ value ∷ rest) m b place.new (value ∷ rest) m b }
     ensures within { place.new ≤ place.old }
 {
@@ -115,9 +115,9 @@ fn down_if_same(wanted: Value, value: Value, to: u16, place: &mut usize) -> Resu
 }
 
 #[inline(always)]
-pub fn equals(to: u16, place: &mut usize, stack: &mut Stack) -> Result<(), Stop>
+pub fn jump_if_equal(to: u16, place: &mut usize, stack: &mut Stack) -> Result<(), Stop>
     ensures steps { (now size b : ℕ) (m : Tracked)
-        → Steps result now size (Some (instrs.Equals to)) place.old stack.old m b place.new stack.new m b }
+        → Steps result now size (Some (instrs.JumpIfEqual to)) place.old stack.old m b place.new stack.new m b }
     ensures within { place.new ≤ place.old }
 {
     let wanted = stack.pop()?;
@@ -132,7 +132,7 @@ fn is_within(least: Value, greatest: Value, value: Value) -> bool
     is_at_most(least, value) && is_at_most(value, greatest)
 }
 
-/// Goes down where a value is within bounds.
+/// Jumps down if a value is within bounds.
 #[inline(always)]
 fn down_if_within(
     greatest: Value,
@@ -141,7 +141,7 @@ fn down_if_within(
     to: u16,
     place: &mut usize,
 ) -> Result<(), Stop>
-    ensures steps { (now size b : ℕ) (rest : List Datum) (m : Tracked) → Steps result now size (Some (instrs.Within to))
+    ensures steps { (now size b : ℕ) (rest : List Datum) (m : Tracked) → Steps result now size (Some (instrs.JumpIfWithin to))
         place.old (greatest ∷ least ∷ value ∷ rest) m b place.new (value ∷ rest) m b }
     ensures within { place.new ≤ place.old }
 {
@@ -152,9 +152,9 @@ fn down_if_within(
 }
 
 #[inline(always)]
-pub fn within(to: u16, place: &mut usize, stack: &mut Stack) -> Result<(), Stop>
+pub fn jump_if_within(to: u16, place: &mut usize, stack: &mut Stack) -> Result<(), Stop>
     ensures steps { (now size b : ℕ) (m : Tracked)
-        → Steps result now size (Some (instrs.Within to)) place.old stack.old m b place.new stack.new m b }
+        → Steps result now size (Some (instrs.JumpIfWithin to)) place.old stack.old m b place.new stack.new m b }
     ensures within { place.new ≤ place.old }
 {
     let greatest = stack.pop()?;

@@ -50,7 +50,7 @@ pub fn for_begin(
     stack.push(step)
 }
 
-/// Goes down where the control variable has passed a limit.
+/// Jumps down if the control variable has passed a limit.
 #[inline(always)]
 fn test(
     step: Value,
@@ -75,7 +75,7 @@ fn test(
     go_down(place, to)
 }
 
-/// Goes down where the control variable has passed the limit.
+/// Jumps down if the control variable has passed the limit.
 #[inline(always)]
 pub fn for_test(
     k: u16,

@@ -5,13 +5,15 @@ ghost use Rattle.st_meaning.specs.Failures.{in_runs};
 ghost use Rattle.machine_code.specs.declared.limits.TheConstants.{MAX_INSTRUCTIONS};
 ghost use Rattle.machine_code.specs.Machine.{runs};
 ghost use Rattle.machine_code.specs.Tracking.{tracking, tracked};
-ghost use Rattle.slot_machine.specs.Steps.{StepsOn, Ends};
+ghost use Rattle.slot_machine.specs.Steps.{StepsOn, RunEnds};
 
 use crate::blocks::step_block;
-use crate::jumps::{equals, go_back, jump, tick, unless, when, within};
+use crate::jumps::{
+    jump, jump_if_equal, jump_if_false, jump_if_true, jump_if_within, loop_back, tick,
+};
 use crate::loops::{for_begin, for_step, for_test};
-use crate::operations::{binary, compute, leave, push_constant, turn, unary};
-use crate::slots::{fetch, load, load_at, set, store, store_at};
+use crate::operations::{binary, compute, pop_many, push_constant, reverse_top, unary};
+use crate::slots::{load, load_at, load_raw, store, store_at, store_raw};
 use crate::stack::Stack;
 use crate::stop::Stop;
 use crate::subscripts::subscript;
@@ -19,8 +21,8 @@ use machine_code::{Instr, Mark};
 use st_types::{Fault, Value};
 use std::alloc::Global;
 
-/// One instruction of code of a size at a moment, where `place` is the one behind it. It goes on, or ends with a fault or
-/// for want of memory.
+/// One instruction of code of a size at a moment, where `place` is the one after it. It goes on, or ends with a fault
+/// or out of memory.
 #[inline(always)]
 #[tactic(auto, using(crate::proofs::Running::weaker))]
 pub fn step(
@@ -42,19 +44,19 @@ pub fn step(
         Instr::Tick => tick(ticks),
         Instr::Push(value) => push_constant(*value, stack),
         Instr::Load(k) => load(*k, stack, values, marks),
-        Instr::Fetch(k) => fetch(*k, stack, values, marks),
+        Instr::LoadRaw(k) => load_raw(*k, stack, values, marks),
         Instr::Store(k) => store(*k, stack, values, marks),
-        Instr::Reset(k) => set(*k, stack, values, marks),
+        Instr::StoreRaw(k) => store_raw(*k, stack, values, marks),
         Instr::Unary(op) => unary(*op, stack),
         Instr::Binary(op) => binary(*op, stack),
         Instr::Compute(function, n) => compute(*function, *n, stack),
         Instr::Step(block, first) => step_block(*block, *first, now, values, marks),
-        Instr::Turn(n) => turn(*n, stack),
+        Instr::Reverse(n) => reverse_top(*n, stack),
         Instr::Jump(to) => jump(*to, place),
-        Instr::Unless(to) => unless(*to, place, stack),
-        Instr::When(to) => when(*to, place, stack),
-        Instr::Back(to) => go_back(size, *to, place, ticks),
-        Instr::Leave(n) => leave(*n, stack),
+        Instr::JumpIfFalse(to) => jump_if_false(*to, place, stack),
+        Instr::JumpIfTrue(to) => jump_if_true(*to, place, stack),
+        Instr::LoopBack(to) => loop_back(size, *to, place, ticks),
+        Instr::Pop(n) => pop_many(*n, stack),
         Instr::Subscript {
             count,
             stride,
@@ -65,15 +67,15 @@ pub fn step(
         Instr::ForBegin(k) => for_begin(*k, stack, values, marks),
         Instr::ForTest { control, end } => for_test(*control, *end, place, stack, values, marks),
         Instr::ForStep { control, end } => for_step(*control, *end, place, stack, values, marks),
-        Instr::Equals(to) => equals(*to, place, stack),
-        Instr::Within(to) => within(*to, place, stack),
+        Instr::JumpIfEqual(to) => jump_if_equal(*to, place, stack),
+        Instr::JumpIfWithin(to) => jump_if_within(*to, place, stack),
     }
 }
 
 /// Runs the code at a moment on these values with a budget of ticks, and marks what it looks up and assigns. It answers
-/// the ticks that are left. Behind a fault the marks tell what was looked up before it was assigned; of the values
-/// nothing is told then. Whatever the code is, this ends within `(budget + 1) * (length + 1)` instructions, where
-/// `length` is that of the code.
+/// the ticks that are left. After a fault the marks show which slots were looked up before they were assigned; nothing
+/// is said about the values then. Whatever the code is, this ends within `(budget + 1) * (length + 1)` instructions,
+/// where `length` is that of the code.
 pub fn run(
     alloc: Global,
     code: &[Instr],
@@ -83,7 +85,7 @@ pub fn run(
     budget: u32,
 ) -> Result<u32, Stop>
     requires { length code.now ≤ MAX_INSTRUCTIONS }
-    ensures { Ends result (runs tracking in_runs now code.now (length code.now) []
+    ensures { RunEnds result (runs tracking in_runs now code.now (length code.now) []
         (tracked values.old marks.old) budget)
         (tracked values.new marks.new) }
 {

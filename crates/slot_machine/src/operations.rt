@@ -50,15 +50,15 @@ pub fn binary(op: BinaryOperator, stack: &mut Stack) -> Result<(), Stop>
 }
 
 #[inline(always)]
-pub fn leave(n: u16, stack: &mut Stack) -> Result<(), Stop>
+pub fn pop_many(n: u16, stack: &mut Stack) -> Result<(), Stop>
     ensures { (now size p b : ℕ) (m : Tracked)
-        → Steps result now size (Some (instrs.Leave n)) p stack.old m b p stack.new m b }
+        → Steps result now size (Some (instrs.Pop n)) p stack.old m b p stack.new m b }
 {
-    stack.leave(n);
+    stack.pop_many(n);
     Ok(())
 }
 
-/// What a standard function gives for so many topmost values; F4 where there are fewer.
+/// The result of a standard function on the `n` topmost values; F4 if there are fewer.
 fn operated(function: Standard, n: u16, stack: &Stack) -> Result<Value, Fault>
     ensures { result ≡ run_result (operated (standard_view function) n stack.now) }
 {
@@ -68,26 +68,26 @@ fn operated(function: Standard, n: u16, stack: &Stack) -> Result<Value, Fault>
     }
 }
 
-/// A standard function on so many topmost values.
+/// A standard function on the `n` topmost values.
 pub fn compute(function: Standard, n: u16, stack: &mut Stack) -> Result<(), Stop>
     ensures { (now size p b : ℕ) (m : Tracked)
         → Steps result now size (Some (instrs.Compute function n)) p stack.old m b p stack.new m b }
 {
     match operated(function, n, stack) {
         Ok(value) => {
-            stack.leave(n);
+            stack.pop_many(n);
             stack.push(value)
         }
         Err(fault) => Err(Stop::Fault(fault)),
     }
 }
 
-/// Turns so many topmost values round.
-pub fn turn(n: u16, stack: &mut Stack) -> Result<(), Stop>
+/// Reverses the `n` topmost values.
+pub fn reverse_top(n: u16, stack: &mut Stack) -> Result<(), Stop>
     ensures { (now size p b : ℕ) (m : Tracked)
-        → Steps result now size (Some (instrs.Turn n)) p stack.old m b p stack.new m b }
+        → Steps result now size (Some (instrs.Reverse n)) p stack.old m b p stack.new m b }
 {
-    match stack.turn(n) {
+    match stack.reverse_top(n) {
         Some(()) => Ok(()),
         None => Err(Stop::Fault(Fault::Conversion)),
     }

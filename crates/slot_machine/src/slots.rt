@@ -25,8 +25,8 @@ pub fn load(k: u16, stack: &mut Stack, values: &[Value], marks: &mut [Mark]) -> 
 }
 
 #[inline(always)]
-pub fn fetch(k: u16, stack: &mut Stack, values: &[Value], marks: &mut [Mark]) -> Result<(), Stop>
-    ensures { (now size p b : ℕ) → Steps result now size (Some (instrs.Fetch k)) p stack.old
+pub fn load_raw(k: u16, stack: &mut Stack, values: &[Value], marks: &mut [Mark]) -> Result<(), Stop>
+    ensures { (now size p b : ℕ) → Steps result now size (Some (instrs.LoadRaw k)) p stack.old
         (tracked values.now marks.old) b p stack.new (tracked values.now marks.new) b }
 {
     match look(values, marks, k as usize) {
@@ -53,8 +53,13 @@ pub fn store(
 }
 
 #[inline(always)]
-pub fn set(k: u16, stack: &mut Stack, values: &mut [Value], marks: &mut [Mark]) -> Result<(), Stop>
-    ensures { (now size p b : ℕ) → Steps result now size (Some (instrs.Reset k)) p stack.old
+pub fn store_raw(
+    k: u16,
+    stack: &mut Stack,
+    values: &mut [Value],
+    marks: &mut [Mark],
+) -> Result<(), Stop>
+    ensures { (now size p b : ℕ) → Steps result now size (Some (instrs.StoreRaw k)) p stack.old
         (tracked values.old marks.old) b p stack.new (tracked values.new marks.new) b }
 {
     let value = stack.pop()?;
@@ -64,7 +69,7 @@ pub fn set(k: u16, stack: &mut Stack, values: &mut [Value], marks: &mut [Mark]) 
     }
 }
 
-/// A slot's number as it stands on the stack.
+/// A slot's number as it is on the stack.
 #[inline(always)]
 pub fn slot_of(value: Value) -> usize
     ensures { result ≡ natural value.number }

@@ -56,7 +56,7 @@ impl Stack {
         self.values.pop()
     }
 
-    /// Takes the topmost value; F4 where there is none.
+    /// Takes the topmost value; F4 if there is none.
     #[inline(always)]
     pub fn pop(&mut self) -> Result<Value, Stop>
         ensures { IsPopped result self.old self.new }
@@ -67,7 +67,7 @@ impl Stack {
         }
     }
 
-    /// The topmost value, which stays; F4 where there is none.
+    /// The topmost value, which stays; F4 if there is none.
     #[inline(always)]
     #[tactic(auto, using(crate::proofs::Looking::top_is))]
     pub fn top(&self) -> Result<Value, Stop>
@@ -79,7 +79,7 @@ impl Stack {
         }
     }
 
-    /// The two topmost values, which stay, the topmost of them first; F4 where there are fewer.
+    /// The two topmost values, which stay, the topmost of them first; F4 if there are fewer.
     #[inline(always)]
     #[tactic(auto, using(crate::proofs::Looking::tops_are))]
     pub fn two_tops(&self) -> Result<(Value, Value), Stop>
@@ -102,7 +102,7 @@ impl Stack {
         }
     }
 
-    /// The topmost values, the lowest of them first, where there are so many.
+    /// The topmost values, the lowest of them first, if there are `n`.
     #[inline(always)]
     pub fn tops(&self, n: u16) -> Option<&[Value]>
         ensures some { IfSome result (λ xs. xs.now ≡ reverse (take n self.now)) }
@@ -116,18 +116,18 @@ impl Stack {
         Some(&self.values[start..])
     }
 
-    /// Takes so many values away, or all.
+    /// Takes `n` values away, or all.
     #[inline(always)]
     #[tactic(auto, using(crate::proofs::Tops::fewer))]
-    pub fn leave(&mut self, n: u16)
+    pub fn pop_many(&mut self, n: u16)
         ensures { self.new ≡ drop n self.old }
     {
         let kept = self.values.len().saturating_sub(n as usize);
         self.values.truncate(kept);
     }
 
-    /// Turns the topmost values round, where there are so many.
-    pub fn turn(&mut self, n: u16) -> Option<()>
+    /// Reverses the topmost values, if there are `n`.
+    pub fn reverse_top(&mut self, n: u16) -> Option<()>
         ensures some { IfSome result (λ u. self.new ≡ reverse (take n self.old) ++ drop n self.old) }
         ensures enough { IfSome result (λ u. n ≤ length self.old) }
         ensures none { IfNone result (length self.old < n) }
@@ -141,7 +141,7 @@ impl Stack {
     }
 }
 
-/// Turns the values from a place on round.
+/// Reverses the values from a place on.
 fn turn_from(values: &mut [Value], start: usize)
     requires { start ≤ length values.old }
     ensures { values.new ≡ take start values.old ++ reverse (drop start values.old) }

@@ -14,7 +14,7 @@ use crate::stack::Stack;
 use crate::stop::Stop;
 use st_types::{Fault, Kind, Value};
 
-/// The number behind the last subscript.
+/// The number after the last subscript.
 fn upper(lower: Value, count: u16) -> i128
     ensures { result ≡ lower.number +ℤ pos count }
 {
@@ -27,18 +27,18 @@ fn is_bounded(lower: Value, count: u16, subscript: Value) -> bool
     lower.number() <= subscript.number() && subscript.number() < upper(lower, count)
 }
 
-fn behind(lower: Value, subscript: Value) -> i128
+fn offset_from_lower(lower: Value, subscript: Value) -> i128
     ensures { result ≡ subscript.number -ℤ lower.number }
 {
     subscript.number() - lower.number()
 }
 
-/// How many elements stand before the one at a subscript.
+/// How many elements come before the one at a subscript.
 fn distance(lower: Value, count: u16, subscript: Value) -> u16
     requires { in_bounds lower.number count subscript.number ≡ true }
     ensures { result ≡ distance lower.number subscript.number }
 {
-    behind(lower, subscript) as u16
+    offset_from_lower(lower, subscript) as u16
 }
 
 fn moved(first: u16, distance: u16, stride: u16) -> u64
@@ -71,7 +71,7 @@ fn element(
     Ok(slot as u16)
 }
 
-/// A slot's number as it stands on the stack.
+/// A slot's number as it is on the stack.
 fn slot_value(slot: u16) -> Value
     ensures { result ≡ slot_number slot }
 {

@@ -14,11 +14,11 @@ use Rattle.st_types.specs.declared.kind.Kind.{Kind}
 use Rattle.st_types.specs.Kinds.{same_kind}
 use Rattle.st_types.specs.Values.{Datum, same_datum}
 use Rattle.st_types.proofs.KindLemmas.{same_kind_is}
-use Rattle.st_meaning.specs.Slots.{Cell, is_value, agrees, written}
+use Rattle.st_meaning.specs.Slots.{Cell, is_value, agrees, after_writes}
 use Rattle.machine_code.specs.declared.mark.Mark.{Mark}
 use Rattle.machine_code.specs.Tracking.{are_read, read_by, assigned_by}
 use Rattle.slot_memory.specs.declared.cell.Cell as code
-use Rattle.slot_memory.specs.Cells.{cut, picked, AreAscending}
+use Rattle.slot_memory.specs.Cells.{cell_view, picked, AreAscending}
 
 pub picked_none : (bs : List Bool) (n : ℕ) → picked bs n [] ≡ []
 picked_none [] n = refl
@@ -80,7 +80,7 @@ pub assigned_so : (o : Option Mark) → marks_so (λ x. x.is_assigned) o ≡ ass
 assigned_so (Some x) = refl
 assigned_so None = refl
 
--- what is gathered slot by slot
+-- the cells that are gathered slot by slot
 module _ (f : Mark → Bool) (marks : List Mark) (vs : List Datum) (k : ℕ) (cells all : List Cell)
     (so_far : cells ++ picked (map f (drop k marks)) k (drop k vs) ≡ all) where
   abbrev later : ℕ → List Cell
@@ -117,13 +117,13 @@ take_front (x ∷ xs) ys (suc n) e = ap (λ zs. x ∷ zs) (take_front xs ys n (o
 pub value_at : (vs : List Datum) (k : ℕ) (v : Datum) → k < length vs → v ≡ get_or vs k v → slice_get vs k ≡ Some v
 value_at vs k v lt is = slice_get-get_or vs k v lt ∙ ap Some (sym is)
 
--- a cell more
+-- one more cell
 pub cut_more : (cells more : List code.Cell) (slot : ℕ) (value : Datum)
     → more ≡ cells ++ record { slot = slot; value = value } ∷ []
-    → map cut more ≡ map cut cells ++ (slot, value) ∷ []
-cut_more cells more slot value is = ap (map cut) is ∙ map-append cut cells (record { slot = slot; value = value } ∷ [])
+    → map cell_view more ≡ map cell_view cells ++ (slot, value) ∷ []
+cut_more cells more slot value is = ap (map cell_view) is ∙ map-append cell_view cells (record { slot = slot; value = value } ∷ [])
 
--- values that agree with what was picked
+-- values that agree with the picked ones
 abbrev datum : Kind → ℤ → Datum
 datum k z = record { kind = k; number = z }
 
@@ -166,9 +166,9 @@ read_agrees marks us vs k u h m at =
     let z : 0 + k ≡ k = omega arith in
     ap (slice_get vs) (sym z) ∙ agrees_at (λ x. x.is_read) marks us vs 0 k u h (read_so (slice_get marks k) ∙ m) at
 
--- what was picked behind a first slot is written behind it
+-- cells that were picked after a first slot are written after it
 pub written_behind : (bs : List Bool) (us : List Datum) (k : ℕ) (v : Datum) (vs : List Datum)
-    → written (v ∷ vs) (picked bs (suc k) us) ≡ v ∷ written vs (picked bs k us)
+    → after_writes (v ∷ vs) (picked bs (suc k) us) ≡ v ∷ after_writes vs (picked bs k us)
 written_behind [] us k v vs = refl
 written_behind (b ∷ bs) [] k v vs = refl
 written_behind (true ∷ bs) (u ∷ us) k v vs = written_behind bs us (suc k) v (slice_set vs k u)

@@ -9,8 +9,8 @@ use Rattle.machine_code.specs.Tracking.{are_assigned}
 use Rattle.slot_memory.specs.declared.cell.Cell.{Cell}
 
 -- a slot's number with its value
-abbrev pub cut : Cell → slots.Cell
-cut c = (c.slot, c.value)
+abbrev pub cell_view : Cell → slots.Cell
+cell_view c = (c.slot, c.value)
 
 -- the slots that are picked, from a number on, each with its value
 abbrev pub picked : List Bool → ℕ → List Datum → List slots.Cell
@@ -18,12 +18,12 @@ picked [] k vs = []
 picked (b ∷ bs) k [] = []
 picked (b ∷ bs) k (v ∷ vs) = if b then (k, v) ∷ picked bs (suc k) vs else picked bs (suc k) vs
 
--- the writes that a run which ends so leaves in slots with these values and marks: none where it faulted
+-- the writes after a run that ends in this way, in slots with these values and marks: none if it faulted
 abbrev pub writes_left : Outcome → List Datum → List Mark → List slots.Cell
 writes_left Done vs marks = picked (are_assigned marks) 0 vs
 writes_left (Faulted f) vs marks = []
 
--- The slots stand in ascending order, each once, from one number on and below another.
+-- The slots are in ascending order, each once, from one number on and below another.
 abbrev pub AreAscending : ℕ → ℕ → List slots.Cell → Type 0
 AreAscending first most [] = Unit {0}
 AreAscending first most (c ∷ cells) = (first ≤ c.0) × (c.0 < most) × AreAscending (suc c.0) most cells

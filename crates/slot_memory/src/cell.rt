@@ -12,16 +12,15 @@ pub struct Cell {
     pub value: Value,
 }
 
-/// What a run read, or what it wrote. Up to eight of these stand in the value itself, so most runs take no memory for
-/// them.
+/// The reads or the writes of a run. Up to eight of these are in the value itself, so most runs allocate nothing for them.
 pub type Cells = SmallVec<Cell, 8>;
 
 impl Default for Cell {
-    /// FALSE in the first slot, as a list that isn't full has it behind its cells.
+    /// FALSE in the first slot, as a list that isn't full has it after its cells.
     fn default() -> Cell {
         Cell {
             slot: 0,
-            value: Value::truth(false),
+            value: Value::from_bool(false),
         }
     }
 }

@@ -16,7 +16,7 @@ fn sum(a: Value, b: Value) -> i128
     a.number() + b.number()
 }
 
-/// A value one step on by its number, or none where that leaves its type.
+/// A value one step on by its number, or none if that leaves its type.
 fn stepped_by_number(step: Value, value: Value) -> Option<Value>
     ensures { result ≡ stepped_on step.number value }
 {
@@ -26,7 +26,7 @@ fn stepped_by_number(step: Value, value: Value) -> Option<Value>
     }
 }
 
-/// The value of a type that a word is, or none where the type does not hold it.
+/// The value of a type that a word is, or none if the type does not hold it.
 #[inline(always)]
 #[tactic(auto, using(crate::proofs::SteppedLemmas::within, crate::proofs::SteppedLemmas::past))]
 fn of_word(value: Value, word: i64) -> Option<Value>
@@ -39,7 +39,7 @@ fn of_word(value: Value, word: i64) -> Option<Value>
     Some(value.with_word(word))
 }
 
-/// A value one step on, or none where that leaves its type.
+/// A value one step on, or none if that leaves its type.
 #[inline(always)]
 pub fn stepped_on(step: Value, value: Value) -> Option<Value>
     ensures { result ≡ stepped_on step.number value }

@@ -1,5 +1,5 @@
-//! The memory of a run: slots that mark what is looked up and what is assigned, and what a run read and wrote by these
-//! marks, as slots with values.
+//! The memory of a run: slots that mark what is looked up and what is assigned, and the reads and writes of a run by
+//! these marks, as slots with values.
 //!
 //! A control variable of FOR goes one step on here, and never past the end of its type.
 #![tactic(auto)]

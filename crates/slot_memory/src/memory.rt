@@ -113,7 +113,7 @@ pub fn put_seen(values: &mut [Value], marks: &mut [Mark], slot: usize, value: Va
     Some(())
 }
 
-/// Puts a value into a slot, if there is one, whatever stood there.
+/// Puts a value into a slot, if there is one, whatever was there.
 #[inline(always)]
 pub fn reset(values: &mut [Value], marks: &mut [Mark], slot: usize, value: Value) -> Option<()>
     ensures resets { tracking.reset (tracked values.old marks.old) slot value

@@ -1,10 +1,10 @@
--- What a run of quick code leaves is what the run of the instructions did.
+-- The effect of a run of quick code is that of the run of the instructions.
 use Rattle.std.proofs.Common.{◌≡◌, ◌+◌, ◌≤◌, ◌++◌, ◌∷◌, [], ℕ, zero, suc, List, Bool, true, false, length, map, take}
 use Rattle.std.proofs.Common.{if◌then◌else◌, refl, ap, sym, subst, ◌∙◌, arith}
 use Rattle.std.proofs.lemmas.List.{length-append, length-replicate}
 use Rattle.std.specs.Prelude.{Some, replicate, slice_get}
 use Rattle.st_types.specs.declared.kind.Kind.{Kind}
-use Rattle.st_types.specs.Values.{Datum, datum_of_truth}
+use Rattle.st_types.specs.Values.{Datum, bool_datum}
 use Rattle.st_meaning.specs.declared.outcome.Outcome.TheVariants.{Done}
 use Rattle.st_meaning.specs.Failures.{in_runs}
 use Rattle.machine_code.specs.declared.mark.Mark.{Mark}
@@ -12,18 +12,18 @@ use Rattle.machine_code.specs.Machine.{Ending, finished, runs}
 use Rattle.machine_code.specs.Endings.{outcome_at_end}
 use Rattle.machine_code.specs.Tracking.{Tracked, tracked, tracking, are_read, are_assigned}
 use Rattle.quick_trees.specs.Windows.{IsWindow}
-use Rattle.quick_trees.proofs.Lists.{map_long}
-use Rattle.slot_code.specs.Quick.{AreIn, AreTyped, EndsWith, Wherever, run_of}
+use Rattle.slot_code.specs.Quick.{AreIn, AreTyped, EndsWith, Wherever, run_of, unmarked}
 use Rattle.slot_code.proofs.Filled.{filled, filled_in, filled_typed}
 use Rattle.slot_code.specs.Codes.{CodeView}
-use Rattle.slot_memory.specs.Cells.{cut, picked}
-use Rattle.slot_run.specs.Runs.{IsLong, marked_run, reads_of, unmarked, writes_of}
+use Rattle.slot_memory.specs.Cells.{cell_view, picked}
+use Rattle.slot_run.specs.Runs.{HasRoomFor, marked_run, reads_of, writes_of}
 use Rattle.slot_run.specs.Windows.{picked_in}
 use Rattle.slot_run.specs.Executions.{IsRunOf}
 use Rattle.slot_run.specs.declared.runner.Ran.{Ran}
 use Rattle.slot_run.proofs.WindowLemmas.{ArePicked, mapped, none_picked, picked_so}
+use Rattle.st_types.proofs.ListLemmas.{length_map}
 
--- what is picked of the first ones hangs on as many marks
+-- the picks among the first `n` values depend only on the first `n` marks
 picked_of : (f : Mark → Bool) (ms : List Mark) (n k : ℕ) (vs : List Datum) → length vs ≡ n
     → picked (map f (take n ms)) k vs ≡ picked (map f ms) k vs
 picked_of f ms n k [] long = no_values (map f (take n ms)) (map f ms) k
@@ -43,9 +43,9 @@ picked_of f (m ∷ ms) (suc n) k (v ∷ vs) long =
 run_is : (code : CodeView) (now : ℕ) (vs : List Datum) (budget : ℕ)
     → run_of code.instrs code.extra now vs budget ≡ marked_run code now vs budget
 run_is code now vs budget =
-    let rest = replicate code.extra (datum_of_truth false) in
+    let rest = replicate code.extra (bool_datum false) in
     let long : length vs + code.extra ≡ length (vs ++ rest) =
-    (let a = length-append vs rest in let b = length-replicate code.extra (datum_of_truth false) in omega arith) in
+    (let a = length-append vs rest in let b = length-replicate code.extra (bool_datum false) in omega arith) in
     ap (λ n. runs tracking in_runs now code.instrs (length code.instrs) []
     (tracked (vs ++ rest) (replicate n unmarked)) budget) long
 
@@ -62,8 +62,8 @@ module _ (window : List ℕ) (vs begun values : List Datum) (marks : List Mark) 
   are_picked : (f : Mark → Bool) → f unmarked ≡ false → (slots us : List Datum) → length slots ≡ n
       → AreIn window slots us → ArePicked 0 (map f all) slots window (map f marks) us
   are_picked f off slots us long is = record {
-    many = map_long f all ∙ h.marked ∙ sym long;
-    picks = map_long f marks ∙ h.long;
+    many = length_map f all ∙ h.marked ∙ sym long;
+    picks = length_map f marks ∙ h.long;
     values = is.long;
     from = λ w k at. omega arith;
     below = λ w k at. (let inside = is_window.inside w k at in omega arith);
@@ -100,9 +100,9 @@ take_short (suc n) (x ∷ xs) e = (let le = take_short n xs (omega arith) in ome
 
 -- the memory has a value of each slot
 pub is_long : (window : List ℕ) (vs values : List Datum) (marks : List Mark) (ticks : ℕ) (e : Ending Tracked)
-    → EndsWith window vs ticks values marks e → IsLong (length vs) e
+    → EndsWith window vs ticks values marks e → HasRoomFor (length vs) e
 is_long window vs values marks ticks e h =
-    subst (IsLong (length vs)) (sym h.is) (take_short (length vs) h.memory.values h.slots)
+    subst (HasRoomFor (length vs)) (sym h.is) (take_short (length vs) h.memory.values h.slots)
 
 pub ends_here : (code : CodeView) (now : ℕ) (vs : List Datum) (budget ticks : ℕ) (window : List ℕ)
     (values : List Datum) (marks : List Mark)
@@ -111,12 +111,12 @@ pub ends_here : (code : CodeView) (now : ℕ) (vs : List Datum) (budget ticks : 
 ends_here code now vs budget ticks window values marks h =
     subst (EndsWith window vs ticks values marks) (run_is code now vs budget) h
 
--- What a run over a window's values told is what the run of the code over all slots did, wherever it ends so.
+-- The result of a run over a window's values is that of the run of the code over all slots, if that ends so.
 pub ran_so : (code : CodeView) (now budget ticks : ℕ) (window : List ℕ) (vs begun values : List Datum)
     (marks : List Mark) (ran : Ran) → IsWindow (length vs) window → AreIn window vs begun
     → EndsWith window vs ticks values marks (run_of code.instrs code.extra now vs budget)
-    → map cut ran.reads.items ≡ picked_in window (are_read marks) begun
-    → map cut ran.writes.items ≡ picked_in window (are_assigned marks) values → ran.outcome ≡ Done
+    → map cell_view ran.reads.items ≡ picked_in window (are_read marks) begun
+    → map cell_view ran.writes.items ≡ picked_in window (are_assigned marks) values → ran.outcome ≡ Done
     → IsRunOf (marked_run code now vs budget) vs ran
 ran_so code now budget ticks window vs begun values marks ran is_window is_in ends reads writes done =
     let e = marked_run code now vs budget in
@@ -129,12 +129,12 @@ ran_so code now budget ticks window vs begun values marks ran is_window is_in en
 
 pub long_so : (code : CodeView) (now budget ticks : ℕ) (window : List ℕ) (vs values : List Datum) (marks : List Mark)
     → EndsWith window vs ticks values marks (run_of code.instrs code.extra now vs budget)
-    → IsLong (length vs) (marked_run code now vs budget)
+    → HasRoomFor (length vs) (marked_run code now vs budget)
 long_so code now budget ticks window vs values marks ends =
     is_long window vs values marks ticks (marked_run code now vs budget)
     (ends_here code now vs budget ticks window values marks ends)
 
--- What is so wherever slots have these values is so of some.
+-- A property of all slots that have these values holds of some slots.
 pub somewhere : (kinds : List Kind) (window : List ℕ) (vs : List Datum) (P : List Datum → Type 0)
     → IsWindow (length kinds) window → (typed : AreTyped kinds window vs) → Wherever kinds window vs P
     → (slots : List Datum) × P slots

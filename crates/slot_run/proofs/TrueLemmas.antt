@@ -1,15 +1,15 @@
--- What a run did is true over every layout whose programs its code means.
+-- The effect of a run is true over every layout whose programs its code means.
 use Rattle.std.proofs.Common.{◌≡◌, ℕ, zero, suc, ◌≤◌, Bool, true, false, if◌then◌else◌, List, [], ◌∷◌, ◌++◌, map}
 use Rattle.std.proofs.Common.{length, take, Option, Some, None, refl, sym, ap, ◌∙◌, subst, arith}
 use Rattle.std.specs.Prelude.{slice_get, replicate}
 use Rattle.std.proofs.lemmas.List.{length-replicate, length-take, length-append}
-use Rattle.st_types.specs.Values.{Datum, datum_of_truth}
+use Rattle.st_types.specs.Values.{Datum, bool_datum}
 use Rattle.st_types.specs.declared.fault.Fault.{Fault}
 use Rattle.st_types.specs.declared.kind.Kind.{Kind}
 use Rattle.st_meaning.specs.declared.outcome.Outcome.{Outcome}
 use Rattle.st_meaning.specs.declared.outcome.Outcome.TheVariants.{Done, Faulted}
 use Rattle.st_meaning.specs.Failures.{in_runs}
-use Rattle.st_meaning.specs.Slots.{Slot, Cell, AreOfTypes, variables_in, inputs_in, agrees, written}
+use Rattle.st_meaning.specs.Slots.{Slot, Cell, AreOfTypes, variables_with, inputs_in, agrees, after_writes}
 use Rattle.slot_trees.specs.Seeing.{Sees}
 use Rattle.machine_code.specs.declared.mark.Mark.{Mark}
 use Rattle.machine_code.specs.Machine.{Ending, finished, failed, runs}
@@ -21,12 +21,13 @@ use Rattle.machine_code.proofs.Tracks.{marked_reads_suffice}
 use Rattle.slot_code.specs.Codes.{CodeView}
 use Rattle.slot_code.specs.Meanings.{code_run}
 use Rattle.slot_memory.specs.Cells.{picked, writes_left, AreAscending}
-use Rattle.slot_run.specs.Runs.{memory_over, unmarked, beginning, marked_run, reads_of, writes_of, EndsAs}
-use Rattle.slot_run.specs.Runs.{IsLong}
+use Rattle.slot_run.specs.Runs.{memory_over, marked_run, reads_of, writes_of, EndsAs}
+use Rattle.slot_run.specs.Runs.{HasRoomFor}
 use Rattle.slot_run.specs.Effects.{IsTrueOf}
 use Rattle.slot_memory.proofs.PickedLemmas.{picked_ascend, read_agrees, written_behind, picked_none}
+use Rattle.slot_code.specs.Quick.{unmarked, unmarked_slots}
 
--- Values of slots and what stands behind them.
+-- Values of slots and the values after them.
 abbrev kinds_of : List Datum → List Kind
 kinds_of vs = map (λ v. v.kind) vs
 
@@ -54,7 +55,7 @@ as_many_slots [] (v ∷ vs) e = absurd (cc)
 as_many_slots (l ∷ layout) [] e = absurd (cc)
 as_many_slots (l ∷ layout) (v ∷ vs) e = ap suc (as_many_slots layout vs (cc))
 
-in_front : (us rest : List Datum) (k : ℕ) (u : Datum) → slice_get us k ≡ Some u → slice_get (us ++ rest) k ≡ Some u
+pub in_front : (us rest : List Datum) (k : ℕ) (u : Datum) → slice_get us k ≡ Some u → slice_get (us ++ rest) k ≡ Some u
 in_front [] rest k u e = absurd (cc)
 in_front (v ∷ us) rest zero u e = e
 in_front (v ∷ us) rest (suc k) u e = in_front us rest k u e
@@ -77,13 +78,13 @@ same_read us vs rest marks long agree k read = by_value (slice_get us k) refl
     by_value (Some u) e =
         in_front us rest k u e ∙ sym (in_front vs rest k u (read_agrees marks us vs k u agree read e))
 
--- no mark at the beginning
-none_marked : (n k : ℕ) → assigned_by (slice_get (replicate n unmarked) k) ≡ false
+-- no mark at the unmarked_slots
+pub none_marked : (n k : ℕ) → assigned_by (slice_get (replicate n unmarked) k) ≡ false
 none_marked zero k = refl
 none_marked (suc n) zero = refl
 none_marked (suc n) (suc k) = none_marked n k
 
--- What the run assigned, over other values.
+-- The values that the run assigned, over other values.
 abbrev assigned_or_kept : List Mark → List Datum → List Datum → ℕ → Option Datum
 assigned_or_kept marks us vs k = if assigned_by (slice_get marks k) then slice_get us k else slice_get vs k
 
@@ -96,8 +97,8 @@ rest_of ws us w k e = ap (λ xs. slice_get xs (suc k)) e
 
 values_left : (marks : List Mark) (us vs rest ws : List Datum) → length vs ≤ length us
     → ((k : ℕ) → slice_get ws k ≡ assigned_or_kept marks us (vs ++ rest) k)
-    → take (length vs) ws ≡ written vs (picked (are_assigned marks) 0 (take (length vs) us))
-values_left marks us [] rest ws le h = ap (written []) (sym (picked_none (are_assigned marks) 0))
+    → take (length vs) ws ≡ after_writes vs (picked (are_assigned marks) 0 (take (length vs) us))
+values_left marks us [] rest ws le h = ap (after_writes []) (sym (picked_none (are_assigned marks) 0))
 values_left marks [] (v ∷ vs) rest ws le h = absurd (omega arith)
 values_left [] (u ∷ us) (v ∷ vs) rest ws le h =
     let f = first_is ws vs v (h 0) in
@@ -109,8 +110,8 @@ values_left (x ∷ marks) (u ∷ us) (v ∷ vs) rest ws le h =
   where
     by_test : (t : Bool) → slice_get ws 0 ≡ (if t then Some u else Some v)
         → ((w : Datum) (f : List Datum) → ws ≡ w ∷ f → take (length vs) f
-        ≡ written vs (picked (are_assigned marks) 0 (take (length vs) us)))
-        → take (suc (length vs)) ws ≡ written (v ∷ vs)
+        ≡ after_writes vs (picked (are_assigned marks) 0 (take (length vs) us)))
+        → take (suc (length vs)) ws ≡ after_writes (v ∷ vs)
         (if t then (0, u) ∷ picked (are_assigned marks) 1 (take (length vs) us)
         else picked (are_assigned marks) 1 (take (length vs) us))
     by_test true at go =
@@ -122,7 +123,7 @@ values_left (x ∷ marks) (u ∷ us) (v ∷ vs) rest ws le h =
         ap (take (suc (length vs))) f.1 ∙ ap (λ xs. v ∷ xs) (go v f.0 f.1)
         ∙ sym (written_behind (are_assigned marks) (take (length vs) us) 0 v vs)
 
--- Ends that are alike.
+-- Equal ends.
 same_outcome : (us : List Datum) (e : Ending Tracked) (d : Ending (List Datum)) → EndsLike us e d
     → outcome_at_end d ≡ outcome_at_end e
 same_outcome us (finished m b) (finished ws c) h = refl
@@ -131,10 +132,10 @@ same_outcome us (finished m b) (failed ws g) h = absurd h
 same_outcome us (failed m f) (finished ws c) h = absurd h
 
 same_values : (us vs rest : List Datum) (e : Ending Tracked) (d : Ending (List Datum)) → length us ≡ length vs
-    → IsLong (length us) e → EndsLike (vs ++ rest) e d → values_at_end d vs ≡ written vs (writes_of e us)
+    → HasRoomFor (length us) e → EndsLike (vs ++ rest) e d → values_at_end d vs ≡ after_writes vs (writes_of e us)
 same_values us vs rest (finished m b) (finished ws c) long enough h =
     values_left m.marks m.values vs rest ws (omega arith) h.1
-    ∙ ap (λ n. written vs (picked (are_assigned m.marks) 0 (take n m.values))) (sym long)
+    ∙ ap (λ n. after_writes vs (picked (are_assigned m.marks) 0 (take n m.values))) (sym long)
 same_values us vs rest (failed m f) (failed ws g) long enough h = refl
 same_values us vs rest (finished m b) (failed ws g) long enough h = absurd h
 same_values us vs rest (failed m f) (finished ws c) long enough h = absurd h
@@ -152,23 +153,23 @@ writes_ascend us (failed m f) most le = tt
 
 module _ (code : CodeView) (now : ℕ) (us : List Datum) (budget : ℕ) (typed : kinds_of us ≡ code.kinds) where
   abbrev spare : List Datum
-  spare = replicate code.extra (datum_of_truth false)
+  spare = replicate code.extra (bool_datum false)
 
-  -- over other values in which what was read stands
+  -- over other values that agree with the reads
   alike : (vs : List Datum) → kinds_of us ≡ kinds_of vs
       → agrees vs (reads_of (marked_run code now us budget) us) ≡ true
       → EndsLike (vs ++ spare) (marked_run code now us budget) (code_run code now (vs ++ spare) budget)
   alike vs same agree =
       let memory = us ++ spare in
-      marked_reads_suffice in_runs now code.instrs (length code.instrs) (beginning memory) (vs ++ spare) budget
+      marked_reads_suffice in_runs now code.instrs (length code.instrs) (unmarked_slots memory) (vs ++ spare) budget
       (length-replicate (length memory) unmarked) (none_marked (length memory)) (same_kinds us vs spare same)
       (same_read us vs spare (memory_of (marked_run code now us budget)).marks (as_many us vs same) agree)
 
   seen_by : (layout : List Slot) (vs : List Datum) → AreOfTypes layout vs
-      → Sees layout (inputs_in layout vs) (variables_in layout vs) vs
+      → Sees layout (inputs_in layout vs) (variables_with layout vs) vs
   seen_by layout vs typed = record { variables = refl; inputs = refl; length = as_many_slots layout vs typed }
 
-  pub run_is_true : IsLong (length us) (marked_run code now us budget)
+  pub run_is_true : HasRoomFor (length us) (marked_run code now us budget)
       → IsTrueOf code now budget (reads_of (marked_run code now us budget) us)
       (writes_of (marked_run code now us budget) us) (outcome_at_end (marked_run code now us budget))
   run_is_true enough =
@@ -179,11 +180,11 @@ module _ (code : CodeView) (now : ℕ) (us : List Datum) (budget : ℕ) (typed :
             let same = typed ∙ sym means.kinds ∙ sym right in
             let like = alike vs same agree in
             let sees = seen_by layout vs right in
-            let room = length-replicate code.extra (datum_of_truth false) in (
-              means.outcome (inputs_in layout vs) (variables_in layout vs) vs spare now budget sees room
+            let room = length-replicate code.extra (bool_datum false) in (
+              means.outcome (inputs_in layout vs) (variables_with layout vs) vs spare now budget sees room
                   ∙ same_outcome (vs ++ spare) e _ like,
-              (means.store (inputs_in layout vs) (variables_in layout vs) vs spare now budget sees room).variables
-                  ∙ ap (variables_in layout) (same_values us vs spare e _ (as_many us vs same) enough like),
+              (means.store (inputs_in layout vs) (variables_with layout vs) vs spare now budget sees room).variables
+                  ∙ ap (variables_with layout) (same_values us vs spare e _ (as_many us vs same) enough like),
             );
         reads_once = picked_ascend (are_read (memory_of e).marks) 0 (length code.kinds) us (omega (arith, many));
         writes_once = writes_ascend us e (length code.kinds) many;
@@ -198,10 +199,10 @@ module _ (code : CodeView) (now : ℕ) (us : List Datum) (budget : ℕ) (typed :
       many_kinds = let a = many_of us in let b = ap length typed in omega arith
 
 -- The effect of a run, by how it ended.
--- what a run begins with
+-- the memory with which a run begins
 pub begins : (us memory : List Datum) (n : ℕ) (marks : List Mark) → memory ≡ memory_over us n
-    → marks ≡ replicate (length memory) unmarked → tracked memory marks ≡ beginning (memory_over us n)
-begins us memory n marks is clean = ap (tracked memory) clean ∙ ap beginning is
+    → marks ≡ replicate (length memory) unmarked → tracked memory marks ≡ unmarked_slots (memory_over us n)
+begins us memory n marks is clean = ap (tracked memory) clean ∙ ap unmarked_slots is
 
 pub outcome_told : (o : Outcome) (e : Ending Tracked) (n : Tracked) → EndsAs o e n → o ≡ outcome_at_end e
 outcome_told Done (finished m b) n h = refl
@@ -224,14 +225,14 @@ writes_told Done (failed m g) n vs h = absurd h
 writes_told (Faulted f) (finished m b) n vs h = absurd h
 
 pub long_told : (o : Outcome) (e : Ending Tracked) (n : Tracked) (k : ℕ) → EndsAs o e n → k ≤ length n.values
-    → IsLong k e
+    → HasRoomFor k e
 long_told Done (finished m b) n k h le = subst (λ m. k ≤ length m.values) h le
 long_told (Faulted f) (failed m g) n k h le = tt
 long_told Done (failed m g) n k h le = absurd h
 long_told (Faulted f) (finished m b) n k h le = absurd h
 
 module _ (code : CodeView) (now : ℕ) (us : List Datum) (budget : ℕ) (o : Outcome) (n begun : Tracked)
-    (reads writes : List Cell) (starts : begun ≡ beginning (memory_over us code.extra))
+    (reads writes : List Cell) (starts : begun ≡ unmarked_slots (memory_over us code.extra))
     (ends : EndsAs o (runs tracking in_runs now code.instrs (length code.instrs) [] begun budget) n)
     (reads_are : reads ≡ picked (are_read n.marks) 0 us)
     (writes_are : writes ≡ writes_left o (take (length us) n.values) n.marks) where
@@ -247,12 +248,12 @@ module _ (code : CodeView) (now : ℕ) (us : List Datum) (budget : ℕ) (o : Out
   pub writes_is : writes ≡ writes_of (marked_run code now us budget) us
   writes_is = writes_are ∙ writes_told o (marked_run code now us budget) n us ended
 
-  pub is_long : length us ≤ length n.values → IsLong (length us) (marked_run code now us budget)
+  pub is_long : length us ≤ length n.values → HasRoomFor (length us) (marked_run code now us budget)
   is_long le = long_told o (marked_run code now us budget) n (length us) ended le
 
--- what is told of a run is true
+-- the reported result of a run is true
 pub told_is_true : (code : CodeView) (now : ℕ) (us : List Datum) (budget : ℕ) (reads writes : List Cell) (o : Outcome)
-    → kinds_of us ≡ code.kinds → IsLong (length us) (marked_run code now us budget)
+    → kinds_of us ≡ code.kinds → HasRoomFor (length us) (marked_run code now us budget)
     → reads ≡ reads_of (marked_run code now us budget) us → writes ≡ writes_of (marked_run code now us budget) us
     → o ≡ outcome_at_end (marked_run code now us budget) → IsTrueOf code now budget reads writes o
 told_is_true code now us budget reads writes o typed long reads_are writes_are outcome_is =
@@ -262,7 +263,7 @@ told_is_true code now us budget reads writes o typed long reads_are writes_are o
     (subst (λ x. IsTrueOf code now budget x (writes_of e us) (outcome_at_end e)) (sym reads_are)
     (run_is_true code now us budget typed long)))
 
--- the memory that a run begins with has the values of the slots
+-- the memory with which a run begins has the values of the slots
 pub begins_long : (us memory : List Datum) (n k : ℕ) → memory ≡ memory_over us n → k ≡ length memory → length us ≤ k
 begins_long us memory n k is long =
-    let a = length-append us (replicate n (datum_of_truth false)) in let b = ap length is in omega arith
+    let a = length-append us (replicate n (bool_datum false)) in let b = ap length is in omega arith

@@ -1,4 +1,4 @@
--- Slots of a window that are picked are all that are.
+-- The picked slots of a window are all that are picked.
 use Rattle.std.proofs.Common.{◌≡◌, ◌≢◌, ℕ, zero, suc, ◌+◌, ◌<◌, ◌≤◌, ◌==◌, ◌++◌, Bool, true, false, List, [], ◌∷◌}
 use Rattle.std.proofs.Common.{length, map, take, Option, Some, None, if◌then◌else◌, refl, sym, ap, ap₂, subst, ◌∙◌}
 use Rattle.std.proofs.Common.{add-one, arith}
@@ -9,8 +9,8 @@ use Rattle.st_meaning.specs.Slots.{Cell}
 use Rattle.machine_code.specs.declared.mark.Mark.{Mark}
 use Rattle.quick_trees.proofs.Lists.{some_is, there_within}
 use Rattle.slot_memory.specs.Cells.{picked}
-use Rattle.slot_run.specs.Runs.{unmarked}
 use Rattle.slot_run.specs.Windows.{picked_in}
+use Rattle.slot_code.specs.Quick.{unmarked}
 
 -- Of values and picks from a number on, those of a window's slots are these, and no other is picked.
 pub record ArePicked (j : ℕ) (bs : List Bool) (vs : List Datum) (window : List ℕ) (cs : List Bool)
@@ -25,7 +25,7 @@ pub record ArePicked (j : ℕ) (bs : List Bool) (vs : List Datum) (window : List
   pub value : (w d k : ℕ) → slice_get window w ≡ Some k → k ≡ j + d → slice_get us w ≡ slice_get vs d
   pub off : (d : ℕ) → ((w k : ℕ) → slice_get window w ≡ Some k → k ≡ j + d → ⊥) → slice_get bs d ≡ Some true → ⊥
 
--- the next slot is none of the window's
+-- the next slot isn't one of the window's
 past_other : (j : ℕ) (b : Bool) (bs : List Bool) (v : Datum) (vs : List Datum) (window : List ℕ) (cs : List Bool)
     (us : List Datum) → ArePicked j (b ∷ bs) (v ∷ vs) window cs us
     → ((w k : ℕ) → slice_get window w ≡ Some k → k ≡ j → ⊥) → ArePicked (suc j) bs vs window cs us

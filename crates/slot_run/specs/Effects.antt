@@ -1,4 +1,4 @@
--- What a run did, and when that is true of it.
+-- The effect of a run, and when it is true.
 use Rattle.std.specs.Prelude.{◌≡◌, ℕ, List, [], length, true}
 use Rattle.st_types.specs.Values.{Datum}
 use Rattle.st_types.specs.declared.fault.Fault.{Fault}
@@ -6,12 +6,12 @@ use Rattle.st_types.specs.declared.entry.Activation.{Activation}
 use Rattle.st_meaning.specs.declared.outcome.Outcome.{Outcome}
 use Rattle.st_meaning.specs.declared.outcome.Outcome.TheVariants.{Faulted}
 use Rattle.st_meaning.specs.Runs.{Program, outcome_of, store_after}
-use Rattle.st_meaning.specs.Slots.{Slot, Cell, AreOfTypes, variables_in, inputs_in, agrees, written}
+use Rattle.st_meaning.specs.Slots.{Slot, Cell, AreOfTypes, variables_with, inputs_in, agrees, after_writes}
 use Rattle.slot_code.specs.Codes.{CodeView}
 use Rattle.slot_code.specs.Meanings.{Means}
 use Rattle.slot_memory.specs.Cells.{AreAscending}
 
--- an execution: what ran, what it read, what it writes, and how it ended
+-- an execution: its code, its reads, its writes, and how it ended
 pub record Effect : Type 0 where
   pub code : CodeView
   pub activation : Activation
@@ -21,18 +21,18 @@ pub record Effect : Type 0 where
   pub writes : List Cell
   pub outcome : Outcome
 
--- Over every layout, each program that the code means ends so and leaves these writes, whatever values of their slots'
--- types are there, where what was read stands.
+-- Over every layout, each program that the code means ends so and leaves these writes, whatever values of their slots' types
+-- are there, if the reads hold.
 abbrev pub IsExecutionOf : CodeView → ℕ → ℕ → List Cell → List Cell → Outcome → Type 0
 IsExecutionOf code moment budget reads writes outcome =
     (layout : List Slot) (program : Program) (vs : List Datum) → Means layout code program → AreOfTypes layout vs
     → agrees vs reads ≡ true
-    → (outcome_of program budget (variables_in layout vs) (inputs_in layout vs) moment ≡ outcome)
-    × (store_after program budget (variables_in layout vs) (inputs_in layout vs) moment
-    ≡ variables_in layout (written vs writes))
+    → (outcome_of program budget (variables_with layout vs) (inputs_in layout vs) moment ≡ outcome)
+    × (store_after program budget (variables_with layout vs) (inputs_in layout vs) moment
+    ≡ variables_with layout (after_writes vs writes))
 
--- What a run did is true of it. Its reads and its writes stand in the order of the code's slots, each slot at most once
--- among either; and a fault leaves no writes.
+-- The effect of a run is true. Its reads and its writes are in the order of the code's slots, each slot at most once among
+-- either; and a fault leaves no writes.
 pub record IsTrueOf (code : CodeView) (moment budget : ℕ) (reads writes : List Cell)
     (outcome : Outcome) : Type 0 where
   pub run : IsExecutionOf code moment budget reads writes outcome

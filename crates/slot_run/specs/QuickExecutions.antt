@@ -1,4 +1,4 @@
--- What a run of quick code makes of a quick snapshot.
+-- The run of a quick snapshot.
 use Rattle.std.specs.Prelude.{◌≡◌, List}
 use Rattle.st_types.specs.Values.{Datum}
 use Rattle.machine_code.specs.Machine.{Ending}
@@ -16,7 +16,7 @@ use Rattle.slot_run.specs.declared.snapshot.Snapshot.{Snapshot}
 abbrev pub run_over : QuickSnapshot → List Datum → Ending Tracked
 run_over quick slots = marked_run (code_view quick.code.value) quick.moment slots quick.budget
 
--- The effect tells what this run did, in the sense in which it tells that of a snapshot.
+-- The effect is that of this run, as with a snapshot.
 pub record IsRunOver (quick : QuickSnapshot) (slots : List Datum) (effect : Effect) : Type 0 where
   pub reads : effect.reads ≡ reads_of (run_over quick slots) slots
   pub writes : effect.writes ≡ writes_of (run_over quick slots) slots
@@ -31,7 +31,7 @@ pub record IsQuickEffectOf (quick : QuickSnapshot) (effect : Effect) : Type 0 wh
   pub run : Wherever quick.code.value.kinds.value.items (window_of quick.code.value) quick.values.items
       (λ slots. IsRunOver quick slots effect)
 
--- A quick snapshot is what the code names of this snapshot.
+-- A quick snapshot is the part of this snapshot that the code names.
 pub record IsPartOf (snapshot : Snapshot) (quick : QuickSnapshot) : Type 0 where
   pub code : quick.code.value ≡ snapshot.code.value
   pub activation : quick.activation ≡ snapshot.activation

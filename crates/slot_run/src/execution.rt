@@ -1,8 +1,8 @@
-//! What a run did.
+//! The result of a run.
 
 ghost use Rattle.std.specs.Prelude.{◌≡◌, map};
 ghost use Rattle.slot_code.specs.Codes.{code_view};
-ghost use Rattle.slot_memory.specs.Cells.{cut};
+ghost use Rattle.slot_memory.specs.Cells.{cell_view};
 ghost use Rattle.slot_run.specs.Effects.{IsTrueOf};
 
 use slot_code::Code;
@@ -12,20 +12,19 @@ use st_types::Activation;
 use std::marker::Model;
 use std::sync::Arc;
 
-/// The machine that a run went by.
+/// The machine that made a run.
 #[derive(Clone, Copy, Debug, PartialEq, Eq)]
 pub enum Machine {
-    /// The quick machine, which could tell how the run ends.
+    /// The quick machine, which could predict how the run ends.
     Quick,
-    /// The machine on values: the program has no quick code, or the quick machine could not tell.
+    /// The machine on values: the program has no quick code, or the quick machine could not predict the end.
     Values,
 }
 
-/// A run of an activation's code: what it read, what it writes, and how it ended. Contracts see these as an `Effect`.
+/// A run of an activation's code: its reads, its writes, and how it ended. Contracts see these as an `Effect`.
 ///
-/// Wherever what it read stands, each program that the code means ends so and leaves these writes; one that faulted
-/// writes nothing. No slot stands twice among its reads or among its writes. Which reads it has is up to the run that
-/// makes it.
+/// Wherever its reads hold, each program that the code means ends so and leaves these writes; one that faulted writes
+/// nothing. No slot occurs twice among its reads or among its writes. The run that makes it decides which reads it has.
 #[derive(Drop)]
 pub struct Execution {
     code: Arc<Code>,
@@ -46,24 +45,24 @@ impl Model for Execution {
     ghost use Rattle.std.specs.Prelude.{map};
     ghost use Rattle.slot_code.specs.Codes.{code_view};
     ghost use Rattle.slot_run.specs.Effects.{IsTrueOf};
-    ghost use Rattle.slot_memory.specs.Cells.{cut};
+    ghost use Rattle.slot_memory.specs.Cells.{cell_view};
 
     ghost view = { λ x. record {
       code = code_view x.code.value;
       activation = x.activation;
       moment = x.moment;
       budget = x.budget;
-      reads = map cut x.reads.items;
-      writes = map cut x.writes.items;
+      reads = map cell_view x.reads.items;
+      writes = map cell_view x.writes.items;
       outcome = x.outcome;
     } };
 
-    ghost invariant = { λ x. IsTrueOf (code_view x.code.value) x.moment x.budget (map cut x.reads.items)
-        (map cut x.writes.items) x.outcome };
+    ghost invariant = { λ x. IsTrueOf (code_view x.code.value) x.moment x.budget (map cell_view x.reads.items)
+        (map cell_view x.writes.items) x.outcome };
 }
 
 impl Execution {
-    /// The run that these make.
+    /// The execution with these parts.
     pub(crate) fn new(
         code: Arc<Code>,
         activation: Activation,
@@ -74,14 +73,14 @@ impl Execution {
         outcome: Outcome,
         machine: Machine,
     ) -> Execution
-        requires { IsTrueOf (code_view code.value) moment budget (map cut reads.items) (map cut writes.items) outcome }
+        requires { IsTrueOf (code_view code.value) moment budget (map cell_view reads.items) (map cell_view writes.items) outcome }
         ensures { result ≡ record {
           code = code_view code.value;
           activation = activation;
           moment = moment;
           budget = budget;
-          reads = map cut reads.items;
-          writes = map cut writes.items;
+          reads = map cell_view reads.items;
+          writes = map cell_view writes.items;
           outcome = outcome;
         } }
     {
@@ -120,23 +119,23 @@ impl Execution {
         self.moment
     }
 
-    /// The ticks that it might have taken.
+    /// The ticks that it may take.
     pub fn budget(&self) -> u32
         ensures { result ≡ self.now.budget }
     {
         self.budget
     }
 
-    /// What it read, by slots in ascending order.
+    /// Its reads, by slots in ascending order.
     pub fn reads(&self) -> &[Cell]
-        ensures { map cut result.now ≡ self.now.reads }
+        ensures { map cell_view result.now ≡ self.now.reads }
     {
         self.reads.as_slice()
     }
 
-    /// What it writes, by slots in ascending order.
+    /// Its writes, by slots in ascending order.
     pub fn writes(&self) -> &[Cell]
-        ensures { map cut result.now ≡ self.now.writes }
+        ensures { map cell_view result.now ≡ self.now.writes }
     {
         self.writes.as_slice()
     }
@@ -148,7 +147,7 @@ impl Execution {
         self.outcome
     }
 
-    /// The machine that it went by. What it did is the same by either.
+    /// The machine that made it. The result is the same with either.
     pub fn machine(&self) -> Machine {
         self.machine
     }

@@ -1,7 +1,7 @@
 //! Runs of code on snapshots, outside the lock.
 //!
-//! The type of `Execution` keeps that wherever what it read stands, each program that the code means ends as it says
-//! and leaves its writes. A faulted execution writes nothing, and a run changes no variable: a commit does.
+//! The type of `Execution` guarantees that, wherever its reads hold, each program that the code means ends as it says and
+//! leaves its writes. A faulted execution writes nothing, and a run changes no variable: a commit does.
 #![tactic(auto)]
 
 mod execution;

@@ -1,4 +1,4 @@
-//! What a run of quick code starts from.
+//! The start of a run of quick code.
 
 ghost use Rattle.std.specs.Prelude.{◌≡◌};
 ghost use Rattle.slot_code.specs.Quick.{AreTyped};
@@ -8,8 +8,8 @@ use slot_code::Code;
 use st_types::{Activation, Value};
 use std::sync::Arc;
 
-/// The code of a program, the activation that it serves, and the values of those slots alone that the code names, which
-/// are of their types.
+/// The code of a program, the activation that it serves, and the values of only those slots that the code names, which are
+/// of their types.
 #[derive(Drop)]
 pub struct QuickSnapshot {
     pub code: Arc<Code>,

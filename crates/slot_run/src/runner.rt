@@ -4,13 +4,13 @@ ghost use Rattle.std.specs.Prelude.{◌≡◌, [], IfOk, IfSome, length, map, re
 ghost use Rattle.st_meaning.specs.Failures.{in_runs};
 ghost use Rattle.machine_code.specs.Machine.{runs};
 ghost use Rattle.machine_code.specs.Tracking.{are_assigned, are_read, tracking, tracked};
-ghost use Rattle.slot_memory.specs.Cells.{cut};
+ghost use Rattle.slot_memory.specs.Cells.{cell_view};
 ghost use Rattle.st_meaning.specs.declared.outcome.Outcome.TheVariants.{Done};
-ghost use Rattle.slot_machine.specs.Steps.{Ends};
-ghost use Rattle.slot_code.specs.Quick.{AreTyped, Wherever};
+ghost use Rattle.slot_machine.specs.Steps.{RunEnds};
+ghost use Rattle.slot_code.specs.Quick.{AreTyped, Wherever, unmarked};
 ghost use Rattle.slot_code.specs.Codes.{code_view};
 ghost use Rattle.slot_code.specs.Windows.{window_of};
-ghost use Rattle.slot_run.specs.Runs.{EndsAs, IsLong, marked_run, unmarked};
+ghost use Rattle.slot_run.specs.Runs.{EndsAs, HasRoomFor, marked_run};
 ghost use Rattle.slot_run.specs.Executions.{IsEffectOf, IsRunOf, run_of};
 ghost use Rattle.slot_run.specs.QuickExecutions.{IsQuickEffectOf, run_over};
 ghost use Rattle.slot_run.specs.Windows.{picked_in};
@@ -28,7 +28,7 @@ use st_meaning::Outcome;
 use st_types::Value;
 use std::alloc::{AllocError, Global};
 
-/// How a run of the code ends, with what it leaves in memory and marks.
+/// How a run of the code ends, with its memory and marks.
 fn end_of(
     alloc: Global,
     code: &Code,
@@ -49,7 +49,7 @@ fn end_of(
     }
 }
 
-/// What a run read and wrote, and how it ended.
+/// The reads and writes of a run, and how it ended.
 #[derive(Drop)]
 pub struct Ran {
     pub reads: Cells,
@@ -58,8 +58,8 @@ pub struct Ran {
     pub machine: Machine,
 }
 
-/// What a run of quick code over the slots of a window, which had these values, did.
-fn told(
+/// The result of a run of quick code over the slots of a window, which had these values.
+fn ran_of(
     alloc: Global,
     window: &[usize],
     begun: &[Value],
@@ -68,9 +68,9 @@ fn told(
     requires begun { length begun.now ≡ length window.now }
     requires values { length left.now.values.items ≡ length window.now }
     requires marks { length left.now.marks.items ≡ length window.now }
-    ensures reads { IfOk result (λ ran. map cut ran.reads.items
+    ensures reads { IfOk result (λ ran. map cell_view ran.reads.items
         ≡ picked_in window.now (are_read left.now.marks.items) begun.now) }
-    ensures writes { IfOk result (λ ran. map cut ran.writes.items
+    ensures writes { IfOk result (λ ran. map cell_view ran.writes.items
         ≡ picked_in window.now (are_assigned left.now.marks.items) left.now.values.items) }
     ensures done { IfOk result (λ ran. ran.outcome ≡ Done) }
 {
@@ -84,8 +84,8 @@ fn told(
     })
 }
 
-/// Runs code on the values of the slots that it names, by the quick machine. None where it cannot tell how the run ends,
-/// or where there is no quick code.
+/// Runs code on the values of the slots that it names, by the quick machine. None if the machine cannot predict how the run
+/// ends, or if there is no quick code.
 fn run_named(
     alloc: Global,
     code: &Code,
@@ -97,13 +97,13 @@ fn run_named(
     ensures ran { IfOk result (λ o. IfSome o (λ ran. Wherever code.now.kinds.value.items (window_of code.now) values.now
         (λ slots. IsRunOf (marked_run (code_view code.now) moment slots budget) slots ran))) }
     ensures long { IfOk result (λ o. IfSome o (λ ran. Wherever code.now.kinds.value.items (window_of code.now) values.now
-        (λ slots. IsLong (length slots) (marked_run (code_view code.now) moment slots budget)))) }
+        (λ slots. HasRoomFor (length slots) (marked_run (code_view code.now) moment slots budget)))) }
 {
     let Some(quick) = &code.quick else {
         return Ok(None);
     };
     match quick.run(alloc, values, moment, budget)? {
-        Some(left) => Ok(Some(told(alloc, quick.window(), values, &left)?)),
+        Some(left) => Ok(Some(ran_of(alloc, quick.window(), values, &left)?)),
         None => Ok(None),
     }
 }
@@ -119,7 +119,7 @@ fn run_quick_code(
     requires typed { map (λ v. v.kind) slots.now ≡ code.now.kinds.value.items }
     ensures ran { IfOk result (λ o. IfSome o (IsRunOf (marked_run (code_view code.now) moment slots.now budget)
         slots.now)) }
-    ensures long { IfOk result (λ o. IfSome o (λ _. IsLong (length slots.now) (marked_run (code_view code.now) moment
+    ensures long { IfOk result (λ o. IfSome o (λ _. HasRoomFor (length slots.now) (marked_run (code_view code.now) moment
         slots.now budget))) }
 {
     let Some(quick) = &code.quick else {
@@ -139,7 +139,7 @@ fn run_values(
 ) -> Result<Ran, AllocError>
     requires typed { map (λ v. v.kind) slots.now ≡ code.now.kinds.value.items }
     ensures ran { IfOk result (IsRunOf (marked_run (code_view code.now) moment slots.now budget) slots.now) }
-    ensures long { IfOk result (λ _. IsLong (length slots.now) (marked_run (code_view code.now) moment slots.now
+    ensures long { IfOk result (λ _. HasRoomFor (length slots.now) (marked_run (code_view code.now) moment slots.now
         budget)) }
 {
     let mut memory = memory_over(alloc, slots, code.extra)?;
@@ -155,7 +155,7 @@ fn run_values(
     })
 }
 
-/// Runs code on the values of its slots: by the quick machine where that can tell how the run ends.
+/// Runs code on the values of its slots: by the quick machine if it can predict how the run ends.
 fn run_code(
     alloc: Global,
     code: &Code,
@@ -165,7 +165,7 @@ fn run_code(
 ) -> Result<Ran, AllocError>
     requires typed { map (λ v. v.kind) slots.now ≡ code.now.kinds.value.items }
     ensures ran { IfOk result (IsRunOf (marked_run (code_view code.now) moment slots.now budget) slots.now) }
-    ensures long { IfOk result (λ _. IsLong (length slots.now) (marked_run (code_view code.now) moment slots.now
+    ensures long { IfOk result (λ _. HasRoomFor (length slots.now) (marked_run (code_view code.now) moment slots.now
         budget)) }
 {
     match run_quick_code(alloc, code, moment, slots, budget)? {
@@ -174,10 +174,10 @@ fn run_code(
     }
 }
 
-/// The execution of a snapshot's code that did this.
+/// The execution of a snapshot's code with this result.
 fn execution_of(snapshot: Snapshot, ran: Ran) -> Execution
     requires ran { IsRunOf (run_of snapshot) snapshot.slots.items ran }
-    requires long { IsLong (length snapshot.slots.items) (run_of snapshot) }
+    requires long { HasRoomFor (length snapshot.slots.items) (run_of snapshot) }
     ensures { IsEffectOf snapshot result }
 {
     let Snapshot {
@@ -200,12 +200,12 @@ fn execution_of(snapshot: Snapshot, ran: Ran) -> Execution
     )
 }
 
-/// The execution of a quick snapshot's code that did this.
+/// The execution of a quick snapshot's code with this result.
 fn quick_execution_of(quick: QuickSnapshot, ran: Ran) -> Execution
     requires ran { Wherever quick.code.value.kinds.value.items (window_of quick.code.value) quick.values.items
         (λ slots. IsRunOf (run_over quick slots) slots ran) }
     requires long { Wherever quick.code.value.kinds.value.items (window_of quick.code.value) quick.values.items
-        (λ slots. IsLong (length slots) (run_over quick slots)) }
+        (λ slots. HasRoomFor (length slots) (run_over quick slots)) }
     ensures { IsQuickEffectOf quick result }
 {
     let _window = quick.code.window();
@@ -229,7 +229,7 @@ fn quick_execution_of(quick: QuickSnapshot, ran: Ran) -> Execution
     )
 }
 
-/// Runs a quick snapshot's code on its values, by the quick machine. None where that cannot tell how the run ends: it
+/// Runs a quick snapshot's code on its values, by the quick machine. None if the machine cannot predict how the run ends: it
 /// faults, or the budget is short, say. The execution is that of each snapshot that the quick one is part of, whatever
 /// values the slots have that the code does not name.
 ///
@@ -249,9 +249,9 @@ pub fn run_quick(alloc: Global, quick: QuickSnapshot) -> Result<Option<Execution
     }
 }
 
-/// Runs a snapshot's code on its values. Its reads are what it looked up before it had assigned it, and its writes what
-/// it assigned. Whatever the code is, the machine on values ends within `(budget + 1) * (length + 1)` instructions, where
-/// `length` is that of the code. Those of quick code, by which a run begins, are not counted in that.
+/// Runs a snapshot's code on its values. Its reads are the slots that it looked up before it assigned them, and its writes
+/// those that it assigned. Whatever the code is, the machine on values ends within `(budget + 1) * (length + 1)`
+/// instructions, where `length` is that of the code. Those of quick code, with which a run begins, are not counted in that.
 ///
 /// The only error is out of memory.
 pub fn run(alloc: Global, snapshot: Snapshot) -> Result<Execution, AllocError>
@@ -267,7 +267,7 @@ pub fn run(alloc: Global, snapshot: Snapshot) -> Result<Execution, AllocError>
     Ok(execution_of(snapshot, ran))
 }
 
-/// The same by the machine on values alone. Whoever compares the two machines calls both.
+/// The same by the machine on values alone. A comparison of the two machines calls both.
 ///
 /// The only error is out of memory.
 pub fn run_by_values(alloc: Global, snapshot: Snapshot) -> Result<Execution, AllocError>

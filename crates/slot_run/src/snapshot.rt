@@ -1,4 +1,4 @@
-//! What a run starts from.
+//! The start of a run.
 
 ghost use Rattle.std.specs.Prelude.{◌≡◌, map};
 

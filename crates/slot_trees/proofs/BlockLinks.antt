@@ -11,10 +11,9 @@ use Rattle.layout.specs.LayoutVariables.{Owned, owned_variable}
 use Rattle.layout.specs.Libraries.{instances_among, block_of_unit, program_of_unit}
 use Rattle.layout.specs.Names.{are_different, names_of_sites}
 use Rattle.layout.specs.Shapes.{of_instance}
-use Rattle.layout.specs.Standing.{are_declared_once, variable_at}
+use Rattle.layout.specs.VariableSlots.{are_declared_once, variable_at}
 use Rattle.layout.specs.TextLayouts.{slots_of, variable_shape}
 use Rattle.layout.specs.Types.{Site, shape_of_type, parts_of, sites_of_blocks, site_named, is_within_depth}
-use Rattle.layout.proofs.ListLemmas.{both, turned, some_is}
 use Rattle.slot_trees.specs.SlotTrees.{SlotStmts}
 use Rattle.slot_trees.specs.Tables.{Symbol, named_in}
 use Rattle.slot_trees.specs.LinkedTexts.{IsInstance, EachInstance, IsBlockLink}
@@ -26,6 +25,9 @@ use Rattle.slot_trees.proofs.BlockTableLemmas.{externals_stand, members_stand}
 use Rattle.slot_trees.proofs.InstanceLemmas.{IsInstanceSite, instance_site, site_part, orderly_site, instance_shape}
 use Rattle.slot_trees.proofs.InstanceLemmas.{members_known}
 use Rattle.slot_trees.proofs.ProgramTableLemmas.{named}
+use Rattle.st_types.proofs.OptionLemmas.{some_is}
+use Rattle.std.proofs.lemmas.Bool.{and_parts}
+use Rattle.st_types.proofs.TestLemmas.{false_from_not}
 
 -- the layout has each of the unit's own variables, as one of the owner
 abbrev pub HasVariables : Declared → OrganisationUnit → List Owned → Owner → Type 0
@@ -37,15 +39,15 @@ HasVariables text u vs owner =
 module _ (text : Declared) (u : OrganisationUnit)
     (differ : are_different (names_of_sites (sites_of_blocks u.blocks)) ≡ true)
     (orderly : has_orderly_variables text u ≡ true) where
-  -- an instance of the unit is no external, and is not too deep
+  -- an instance of the unit isn't an external, and isn't too deep
   apart : (x : Name) (s : Site) → site_named (sites_of_blocks u.blocks) x ≡ Some s
       → (contains_name (externals_in u.blocks) x ≡ false) × (is_within_depth MAX_TYPE_DEPTH text s.declared ≡ true)
   apart x s h =
-      let b = both (not (contains_name (externals_in u.blocks) x)) (is_within_depth MAX_TYPE_DEPTH text s.declared)
+      let b = and_parts (not (contains_name (externals_in u.blocks) x)) (is_within_depth MAX_TYPE_DEPTH text s.declared)
       (orderly_site text (externals_in u.blocks) (sites_of_blocks u.blocks) orderly x s h) in
-      (turned (contains_name (externals_in u.blocks) x) b.0, b.1)
+      (false_from_not (contains_name (externals_in u.blocks) x) b.0, b.1)
 
-  -- what has the shape of an instance's type has the members of its block
+  -- a symbol with the shape of an instance's type has the members of its block
   is_instance : (x b : Name) (y : Symbol) (i : IsInstanceSite text (sites_of_blocks u.blocks) x b)
       → y.shape ≡ shape_of_type text i.site.declared → y.is_input ≡ false → IsInstance (numbers_of text) b y
   is_instance x b y i shape input = record {

@@ -1,4 +1,4 @@
--- The names of a block's body stand where declarations tell.
+-- The names of a block's body are at the places that declarations give.
 use Rattle.std.proofs.Common.{◌≡◌, Bool, true, false, if◌then◌else◌, List, [], ◌∷◌, Option, Some, None, option_map}
 use Rattle.std.proofs.Common.{refl, sym, ap, ◌∙◌, subst}
 use Rattle.std.specs.Prelude.{bytes_eq}
@@ -6,14 +6,15 @@ use Rattle.st_meaning.specs.NameTypes.{Declared}
 use Rattle.st_meaning.specs.Scopes.{Name, contains_name}
 use Rattle.layout.specs.LayoutVariables.{Owned}
 use Rattle.layout.specs.Shapes.{Parts}
-use Rattle.layout.specs.Standing.{are_declared_once, variable_at}
+use Rattle.layout.specs.VariableSlots.{are_declared_once, variable_at}
 use Rattle.layout.specs.TextLayouts.{slots_of}
-use Rattle.layout.proofs.ListLemmas.{map_some, some_is, same_name}
+use Rattle.layout.proofs.ListLemmas.{same_name}
 use Rattle.layout.proofs.VariableLemmas.{variable_stands}
 use Rattle.slot_trees.specs.Tables.{Symbol, symbol_of, part_at}
 use Rattle.slot_trees.specs.ProgramTables.{symbol_at}
 use Rattle.slot_trees.specs.BlockTables.{part_symbol, block_symbol, if_there, block_symbols}
 use Rattle.slot_trees.specs.LinkedTexts.{IsExternal, IsPart}
+use Rattle.st_types.proofs.OptionLemmas.{some_is, map_some}
 
 of_two : {A : Type 0} (b c : Bool) (o p q : Option A) → b ≡ c → (if b then o else p) ≡ q → (if c then o else p) ≡ q
 of_two b c o p q e h = subst (λ d. (if d then o else p) ≡ q) e h

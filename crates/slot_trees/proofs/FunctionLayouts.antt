@@ -1,4 +1,4 @@
--- A function's variables lie as its declarations tell.
+-- A function's variables lie as its declarations say.
 use Rattle.std.proofs.Common.{◌≡◌, false, List, [], ◌∷◌, ◌++◌, None, map, refl, ap, ◌∙◌}
 use Rattle.st_types.specs.declared.kind.Kind.{Kind}
 use Rattle.st_types.specs.Paths.{Path}
@@ -8,7 +8,7 @@ use Rattle.st_meaning.specs.Stores.{Store, shape_of}
 use Rattle.layout.specs.LayoutVariables.{owned_variable}
 use Rattle.layout.specs.Libraries.{fresh_values}
 use Rattle.layout.specs.Shapes.{Leaf}
-use Rattle.layout.specs.Standing.{slot}
+use Rattle.layout.specs.VariableSlots.{slot}
 use Rattle.layout.specs.TextLayouts.{slots_of, slot_of_leaf, leaves_of_variable, types_of_slots}
 use Rattle.layout.specs.TextLayouts.{variable_slots}
 use Rattle.layout.specs.Types.{NamedSite}
@@ -23,7 +23,7 @@ fresh_by_shape : (s : Store) → layout_of_fresh s ≡ map typed_slot (shape_of 
 fresh_by_shape [] = refl
 fresh_by_shape (e ∷ s) = ap (λ ls. slot e.0 e.1.kind false ∷ ls) (fresh_by_shape s)
 
--- the slots of variables that are no inputs come back from their paths and types
+-- the slots of variables that aren't inputs come back from their paths and types
 leaves_back : (d : NamedSite) (rest : List Slot) → map typed_slot (types_of_slots (variable_slots rest)) ≡ rest
     → (ls : List Leaf)
     → map typed_slot (types_of_slots (variable_slots (map (slot_of_leaf (owned_variable None d)) ls ++ rest)))

@@ -23,14 +23,17 @@ use Rattle.layout.specs.Names.{are_different, names_of_sites}
 use Rattle.layout.specs.Libraries.{instance_then, instances_among}
 use Rattle.layout.proofs.DepthLemmas.{expanded_whole}
 use Rattle.layout.proofs.LibraryLemmas.{instance_made}
-use Rattle.layout.proofs.ListLemmas.{both, turned, neither, same_name, if_some, some_is, map_some}
-use Rattle.slot_trees.specs.Tables.{Part, part_at, part_beyond, named_in}
+use Rattle.layout.proofs.ListLemmas.{same_name}
+use Rattle.slot_trees.specs.Tables.{Part, part_at, part_after, named_in}
 use Rattle.slot_trees.specs.LinkedTexts.{parts_of_members}
 use Rattle.slot_trees.specs.TextNumbers.{members_of_block, members_then, own_members, standard_members, numbers_of}
 use Rattle.slot_trees.specs.Orderly.{is_orderly}
 use Rattle.slot_trees.proofs.NamedLemmas.{named_first, named_behind, standard_member}
+use Rattle.std.proofs.lemmas.Bool.{or_parts, and_parts}
+use Rattle.st_types.proofs.OptionLemmas.{some_is, map_some, if_some}
+use Rattle.st_types.proofs.TestLemmas.{false_from_not}
 
--- an instance has a declaration, of whose type it is
+-- an instance has a declaration of its type
 pub record IsInstanceSite (text : Declared) (ds : List NamedSite) (x b : Name) : Type 0 where
   pub site : Site
   pub block : BlockType
@@ -43,7 +46,7 @@ module _ (text : Declared) (x : Name) where
       → block_named (instances_among text ds) x ≡ None
   not_among [] h = refl
   not_among (d ∷ ds) h =
-      let n = neither (bytes_eq x d.name) (contains_name (names_of_sites ds) x) h in
+      let n = or_parts (bytes_eq x d.name) (contains_name (names_of_sites ds) x) h in
       by_instance (instance_of text d.site.declared) n.0 (not_among ds n.1)
     where
       by_instance : (o : Option BlockType) → bytes_eq x d.name ≡ false
@@ -81,9 +84,9 @@ module _ (text : Declared) (x : Name) where
         → block_named (instances_among text ds) x ≡ Some b → IsInstanceSite text ds x b
     instance_site [] differ h = absurd (cc)
     instance_site (d ∷ ds) differ h =
-        let a = both (not (contains_name (names_of_sites ds) d.name)) (are_different (names_of_sites ds)) differ in
+        let a = and_parts (not (contains_name (names_of_sites ds) d.name)) (are_different (names_of_sites ds)) differ in
         site_cases d ds (instance_of text d.site.declared) refl (bytes_eq x d.name) refl
-        (turned (contains_name (names_of_sites ds) d.name) a.0) (instance_site ds a.1) h
+        (false_from_not (contains_name (names_of_sites ds) d.name) a.0) (instance_site ds a.1) h
 
 -- the part of a name has the shape of its declaration's type
 pub site_part : (shape : VariableType → Shape) (ds : List NamedSite) (x : Name) (s : Site) (e : Part)
@@ -93,7 +96,7 @@ site_part shape (d ∷ ds) x s e h g = by_test (bytes_eq x d.name) h g (site_par
   where
     by_test : (b : Bool) → (if b then Some d.site else site_named ds x) ≡ Some s
         → (if b then Some (record { offset = 0; shape = shape d.site.declared })
-        else option_map (part_beyond (size (shape d.site.declared))) (part_at (parts_of shape ds) x)) ≡ Some e
+        else option_map (part_after (size (shape d.site.declared))) (part_at (parts_of shape ds) x)) ≡ Some e
         → ((f : Part) → site_named ds x ≡ Some s → part_at (parts_of shape ds) x ≡ Some f
         → f.shape ≡ shape s.declared)
         → e.shape ≡ shape s.declared
@@ -101,16 +104,16 @@ site_part shape (d ∷ ds) x s e h g = by_test (bytes_eq x d.name) h g (site_par
         let p : record { offset = 0; shape = shape d.site.declared } ≡ e = some_is j in
         ap (λ f. f.shape) (sym p) ∙ ap (λ t. shape t.declared) (some_is i)
     by_test false i j ih =
-        let m = map_some (part_beyond (size (shape d.site.declared))) (part_at (parts_of shape ds) x) e j in
+        let m = map_some (part_after (size (shape d.site.declared))) (part_at (parts_of shape ds) x) e j in
         ap (λ f. f.shape) (sym m.2) ∙ ih m.0 i m.1
 
--- what is asked of all of a unit's variables is so of one
+-- a condition on all of a unit's variables holds for one
 pub orderly_site : (text : Declared) (externals : List Name) (ds : List NamedSite)
     → list_all (is_orderly text externals) ds ≡ true → (x : Name) (s : Site) → site_named ds x ≡ Some s
     → is_orderly text externals (record { name = x; site = s }) ≡ true
 orderly_site text externals [] all x s h = absurd (cc)
 orderly_site text externals (d ∷ ds) all x s h =
-    let b = both (is_orderly text externals d) (list_all (is_orderly text externals) ds) all in
+    let b = and_parts (is_orderly text externals d) (list_all (is_orderly text externals) ds) all in
     by_test (bytes_eq x d.name) refl h b.0 (orderly_site text externals ds b.1 x s)
   where
     by_test : (b : Bool) → bytes_eq x d.name ≡ b → (if b then Some d.site else site_named ds x) ≡ Some s
@@ -128,7 +131,7 @@ same_parts : (inner other : VariableType → Shape) (within : VariableType → B
     → list_all (λ d. within d.site.declared) ds ≡ true → parts_of inner ds ≡ parts_of other ds
 same_parts inner other within same [] h = refl
 same_parts inner other within same (d ∷ ds) h =
-    let b = both (within d.site.declared) (list_all (λ d. within d.site.declared) ds) h in
+    let b = and_parts (within d.site.declared) (list_all (λ d. within d.site.declared) ds) h in
     ap₂ (λ sh ps. part_then d.name sh ps) (same d.site.declared b.0) (same_parts inner other within same ds b.1)
 
 instance_within : (text : Declared) (n : ℕ) (t : VariableType) (b : BlockType) → instance_of text t ≡ Some b

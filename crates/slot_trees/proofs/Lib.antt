@@ -1,7 +1,7 @@
 pub mod Sim
 pub mod LoopSim
 pub mod OptionLemmas
-pub mod Standings
+pub mod SlotLemmas
 pub mod Sights
 pub mod ExpressionSim
 pub mod StatementSim

@@ -1,4 +1,4 @@
--- The functions and blocks of a linked text are found by their numbers as by their names, and are linked.
+-- The functions and blocks of a linked text are found by number as by name, and are linked.
 use Rattle.std.proofs.Common.{◌≡◌, inl, inr, ℕ, suc, ◌+◌, Bool, true, false, if◌then◌else◌, List, [], ◌∷◌}
 use Rattle.std.proofs.Common.{slice_get, Option, Some, None, option_map, refl, sym, ap, ◌∙◌, subst, arith}
 use Rattle.std.specs.Prelude.{bytes_eq}
@@ -16,10 +16,9 @@ use Rattle.layout.specs.Libraries.{blocks_among, library_of}
 use Rattle.layout.specs.Names.{are_different, names_of_sites, variable_names, has_different_variables}
 use Rattle.layout.specs.Names.{has_different_fields, are_types_and_units_different}
 use Rattle.layout.specs.Shapes.{Parts}
-use Rattle.layout.specs.Standing.{are_declared_once}
+use Rattle.layout.specs.VariableSlots.{are_declared_once}
 use Rattle.layout.specs.TextLayouts.{slots_of}
 use Rattle.layout.specs.Types.{sites_of_blocks}
-use Rattle.layout.proofs.ListLemmas.{both, map_some, some_is}
 use Rattle.layout.proofs.NameLemmas.{variables_once}
 use Rattle.slot_trees.specs.SlotTrees.{own_block, standard_block, SlotStmts, SlotFunction, SlotLibrary}
 use Rattle.slot_trees.specs.Tables.{named_in}
@@ -33,11 +32,13 @@ use Rattle.slot_trees.specs.TextLinks.{linked_then, sites_of_call, linked_functi
 use Rattle.slot_trees.specs.TextLinks.{linked_functions}
 use Rattle.slot_trees.specs.TextLinks.{linked_block, linked_block_then, linked_blocks, library_with, linked_library}
 use Rattle.slot_trees.specs.Orderly.{has_orderly_variables, are_units_orderly}
-use Rattle.slot_trees.proofs.OptionLemmas.{then_some}
 use Rattle.slot_trees.proofs.NamedLemmas.{named_split, named_first, named_behind, named_mapped, standard_code}
 use Rattle.slot_trees.proofs.NamedLemmas.{standard_member}
 use Rattle.slot_trees.proofs.FunctionLinks.{function_link}
 use Rattle.slot_trees.proofs.BlockLinks.{block_link}
+use Rattle.st_types.proofs.TestLemmas.{without_zero}
+use Rattle.st_types.proofs.OptionLemmas.{some_is, map_some, then_some}
+use Rattle.std.proofs.lemmas.Bool.{and_parts}
 
 -- the first of a linked list, and the others
 pub record IsLinkedList {A : Type 0} (o : Option A) (rest : Option (List A)) (ys : List A) : Type 0 where
@@ -54,7 +55,7 @@ linked_list o rest ys h =
     let m = map_some (λ zs. t.0 ∷ zs) rest ys t.2 in
     record { first = t.0; others = m.0; first_is = t.1; others_are = m.1; all = m.2 }
 
--- a function by its name and its number, where the first one has the number n
+-- a function by its name and its number, if the first one has the number n
 record IsFunction (text : Declared) (named : List Function) (fs : List SlotFunction) (x : Name) (n i : ℕ)
     : Type 0 where
   pub unit : OrganisationUnit
@@ -133,7 +134,7 @@ module _ (text : Declared) (x : Name) (i : ℕ) where
       → IsFunction text (functions_among text us) fs x n i
   function_numbered [] n fs all l h = absurd (cc)
   function_numbered (v ∷ us) n fs all l h =
-      let b = both (has_different_variables v) (list_all has_different_variables us) all in
+      let b = and_parts (has_different_variables v) (list_all has_different_variables us) all in
       function_by_sort v us n fs (λ m gs k g. function_numbered us m gs b.1 k g) v.sort b.0 l h
 
 -- a block by its name and its number
@@ -223,8 +224,8 @@ module _ (text : Declared) (vs : List Owned) (x : Name) (i : ℕ) where
       → IsBlock text vs (blocks_among text us) (own_members text us) cs x n i
   block_numbered [] n cs all orderly l h = absurd (cc)
   block_numbered (v ∷ us) n cs all orderly l h =
-      let b = both (has_different_variables v) (list_all has_different_variables us) all in
-      let c = both (has_orderly_variables text v) (list_all (has_orderly_variables text) us) orderly in
+      let b = and_parts (has_different_variables v) (list_all has_different_variables us) all in
+      let c = and_parts (has_orderly_variables text v) (list_all (has_orderly_variables text) us) orderly in
       block_by_sort v us n cs c.0 (λ m ds k g. block_numbered us m ds b.1 c.1 k g) v.sort b.0 l h
 
 -- numbers of standard blocks and of blocks of the text
@@ -249,18 +250,15 @@ no_number : (o : Option ℕ) (k : StandardBlock) → option_map own_block o ≡ 
 no_number None k h = cc
 no_number (Some j) k h = let e : own_block j ≡ standard_block k = some_is h in cc
 
-no_base : (i j : ℕ) → i ≡ 0 + j → j ≡ i
-no_base i j h = omega arith
-
 module _ (text : Declared) (vs : List Owned) (code : SlotLibrary)
     (once : are_declared_once text vs ≡ true) (differ : are_types_and_units_different text ≡ true)
     (orderly : are_units_orderly text ≡ true) (h : linked_library text vs ≡ Some code) where
   units_differ : list_all has_different_variables text.units ≡ true
   units_differ =
-      (both (list_all (λ t. has_different_fields t.definition) text.types)
+      (and_parts (list_all (λ t. has_different_fields t.definition) text.types)
       (list_all has_different_variables text.units) differ).1
 
-  -- both lists of the library
+  -- and_parts lists of the library
   record AreLinked : Type 0 where
     functions : linked_functions text text.units ≡ Some code.functions
     blocks : linked_blocks text vs text.units ≡ Some code.blocks
@@ -280,7 +278,7 @@ module _ (text : Declared) (vs : List Owned) (code : SlotLibrary)
         named = function_of_unit text d.result d.unit;
         linked = d.linked;
         there = d.there;
-        numbered = subst (λ j. slice_get code.functions j ≡ Some d.linked) (no_base i d.position d.number) d.numbered;
+        numbered = subst (λ j. slice_get code.functions j ≡ Some d.linked) (without_zero i d.position d.number) d.numbered;
         link = function_link text d.result d.unit d.linked
             (variables_once text differ (sites_of_call d.result d.unit) d.differ) d.is;
       }
@@ -302,7 +300,7 @@ module _ (text : Declared) (vs : List Owned) (code : SlotLibrary)
         linked = d.linked;
         own = own;
         there = d.there;
-        numbered = subst (λ j. slice_get code.blocks j ≡ Some d.linked) (no_base i d.position d.number) d.numbered;
+        numbered = subst (λ j. slice_get code.blocks j ≡ Some d.linked) (without_zero i d.position d.number) d.numbered;
         link = subst
             (λ qs. IsBlockLink (slots_of text vs) (numbers_of text) qs (block_of_unit text d.unit) d.linked) members
             (block_link text d.unit d.differ d.orderly vs once d.linked d.is);

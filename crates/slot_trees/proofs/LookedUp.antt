@@ -1,4 +1,4 @@
--- What tables made of declarations have for a name.
+-- The entry for a name in a table made of declarations.
 use Rattle.std.proofs.Common.{◌≡◌, ℕ, suc, ◌+◌, Bool, true, false, ◌||◌, if◌then◌else◌, List, [], ◌∷◌, map, Option}
 use Rattle.std.proofs.Common.{Some, None, option_map, refl, sym, ap, ◌∙◌, arith}
 use Rattle.std.specs.Prelude.{bytes_eq}
@@ -9,9 +9,9 @@ use Rattle.st_meaning.specs.Scopes.{Name, contains_name}
 use Rattle.st_meaning.specs.StandardBlocks.{StandardBlock, block_of}
 use Rattle.layout.specs.LayoutVariables.{Owned, owned_variable}
 use Rattle.layout.specs.Shapes.{Parts}
-use Rattle.layout.specs.Standing.{variable_at}
+use Rattle.layout.specs.VariableSlots.{variable_at}
 use Rattle.layout.specs.Types.{NamedSite}
-use Rattle.layout.proofs.ListLemmas.{map_some, same_name, name_itself}
+use Rattle.layout.proofs.ListLemmas.{same_name, name_itself}
 use Rattle.slot_trees.specs.SlotTrees.{own_block, standard_block}
 use Rattle.slot_trees.specs.Tables.{Symbol, symbol_of, part_at, named_in}
 use Rattle.slot_trees.specs.ProgramTables.{owner_of_name, symbol_at, symbol_then, program_symbols}
@@ -19,17 +19,18 @@ use Rattle.slot_trees.specs.BlockTables.{part_symbol, block_symbol, if_there, bl
 use Rattle.slot_trees.specs.FunctionTables.{call_symbol, function_symbols}
 use Rattle.slot_trees.specs.TextNumbers.{numbered_from, block_names, standard_codes, own_codes, numbers_of, code_named}
 use Rattle.slot_trees.proofs.NamedLemmas.{named_first, named_behind, named_mapped, standard_code}
+use Rattle.st_types.proofs.OptionLemmas.{map_some}
 
 -- the symbols of names, each of which makes its own
 symbols_by : (Name → Option Symbol) → List Name → List Symbol
 symbols_by make [] = []
 symbols_by make (x ∷ xs) = if_there (make x) (symbols_by make xs)
 
--- what a list of names has for one of them
+-- the entry of a list of names for one of them
 abbrev Found : (Name → Option Symbol) → List Name → Name → Option Symbol → Type 0
 Found make xs x o = o ≡ (if contains_name xs x then make x else None)
 
-either_none : {A : Type 0} (b : Bool) (o : Option A) → o ≡ None → ◌≡◌ {A = Option A} (if b then o else None) None
+pub either_none : {A : Type 0} (b : Bool) (o : Option A) → o ≡ None → ◌≡◌ {A = Option A} (if b then o else None) None
 either_none true o h = h
 either_none false o h = refl
 

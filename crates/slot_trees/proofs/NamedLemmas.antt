@@ -1,4 +1,4 @@
--- What lists of names have for a name.
+-- The entries of lists of names.
 use Rattle.std.proofs.Common.{◌≡◌, ◌⊎◌, inl, inr, Bool, true, false, if◌then◌else◌, List, [], ◌∷◌, ◌++◌, map}
 use Rattle.std.proofs.Common.{Some, None, option_map, refl, ap, ◌∙◌}
 use Rattle.std.specs.Prelude.{bytes_eq}
@@ -10,7 +10,7 @@ use Rattle.slot_trees.specs.LinkedTexts.{parts_of_members}
 use Rattle.slot_trees.specs.TextNumbers.{standard_blocks, standard_codes, standard_members}
 
 module _ {A : Type 0} where
-  -- of two lists, the first one's comes first
+  -- of two lists, the first one's entry takes precedence
   pub named_split : (es fs : List (Name × A)) (x : Name) (a : A) → named_in (es ++ fs) x ≡ Some a
       → (named_in es x ≡ Some a) ⊎ ((named_in es x ≡ None) × (named_in fs x ≡ Some a))
   named_split [] fs x a h = inr (refl, h)

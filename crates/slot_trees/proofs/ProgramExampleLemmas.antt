@@ -7,9 +7,9 @@ use Rattle.st_meaning.specs.Scopes.{Name, Library, of_program, path_in}
 use Rattle.st_meaning.specs.Slots.{Slot}
 use Rattle.st_meaning.specs.StandardBlocks.{StandardBlock, TON, block_of, members_of}
 use Rattle.layout.specs.Shapes.{of_instance, parts, Parts}
-use Rattle.layout.specs.Standing.{Stands, are_declared_once}
+use Rattle.layout.specs.VariableSlots.{LiesAt, are_declared_once}
 use Rattle.layout.specs.Types.{shape_within}
-use Rattle.layout.proofs.ListLemmas.{some_is, same_name}
+use Rattle.layout.proofs.ListLemmas.{same_name}
 use Rattle.layout.proofs.VariableLemmas.{variables_layout}
 use Rattle.slot_trees.specs.SlotTrees.{own_block, standard_block}
 use Rattle.slot_trees.specs.SlotEvaluation.{slot_at}
@@ -21,6 +21,7 @@ use Rattle.slot_trees.specs.ProgramTables.{program_symbols}
 use Rattle.slot_trees.specs.ProgramExample.{its_text, its_variables, its_layout, its_program, its_names, timer_members}
 use Rattle.slot_trees.specs.ProgramExample.{symbol_with, its_symbols, its_numbers, no_units, its_code}
 use Rattle.slot_trees.proofs.ProgramTableLemmas.{program_names}
+use Rattle.st_types.proofs.OptionLemmas.{some_is}
 
 its_declarations : are_declared_once its_text its_variables ≡ true
 unfolding shape_within block_of
@@ -30,9 +31,9 @@ symbols_are : program_symbols its_text its_variables its_program its_names ≡ i
 unfolding shape_within block_of
 symbols_are = refl
 
--- its names stand
+-- its names are in the layout
 names_stand : (x : Name) (y : Symbol) → symbol_of its_symbols x ≡ Some y
-    → Stands its_layout y.is_input (path_in (of_program its_program.owner) its_program.body x) y.shape
+    → LiesAt its_layout y.is_input (path_in (of_program its_program.owner) its_program.body x) y.shape
     (slot_at 0 y.anchor)
 names_stand x y h =
     program_names its_text its_variables its_declarations its_program its_names 0 x y

@@ -22,11 +22,11 @@ use Rattle.layout.specs.Libraries.{program_of_unit, program_by_sort, program_if_
 use Rattle.layout.specs.Libraries.{programs_of_resources, programs_of_configuration, programs_of_text}
 use Rattle.layout.specs.Names.{are_different, names_of_sites, variable_names, has_different_variables}
 use Rattle.layout.specs.Names.{has_different_fields, are_types_and_units_different, is_configuration_different}
-use Rattle.layout.specs.Standing.{is_named_so, has_variable, are_declared_once, variable_at}
+use Rattle.layout.specs.VariableSlots.{is_variable, has_variable, are_declared_once, variable_at}
 use Rattle.layout.specs.TextLayouts.{slots_of, slots_of_text, variable_shape, variable_path}
 use Rattle.layout.specs.Types.{Site, NamedSite, site_named, sites_of_blocks}
 use Rattle.layout.specs.Shapes.{is_sound, size}
-use Rattle.layout.proofs.ListLemmas.{both, turned, map_some, some_is, same_name, or_here, or_later}
+use Rattle.layout.proofs.ListLemmas.{same_name}
 use Rattle.layout.proofs.NameLemmas.{found_unit, configuration_once}
 use Rattle.layout.proofs.VariableLemmas.{variable_is, variable_itself, variables_layout}
 use Rattle.slot_trees.specs.SlotTrees.{SlotStmts, SlotLibrary}
@@ -37,10 +37,12 @@ use Rattle.slot_trees.specs.TextLinks.{linked_program_by_sort, linked_program_th
 use Rattle.slot_trees.specs.TextLinks.{linked_programs, LinkedText, text_with, linked_text}
 use Rattle.slot_trees.specs.LinkedPrograms.{IsLinkOf, HasProgram}
 use Rattle.slot_trees.specs.Orderly.{has_orderly_variables, are_units_orderly}
-use Rattle.slot_trees.proofs.OptionLemmas.{then_some}
 use Rattle.slot_trees.proofs.BlockLinks.{HasVariables, program_instances}
 use Rattle.slot_trees.proofs.LibraryLinks.{linked_list, library_link}
 use Rattle.slot_trees.proofs.ProgramTableLemmas.{program_names}
+use Rattle.st_types.proofs.OptionLemmas.{some_is, map_some, then_some}
+use Rattle.std.proofs.lemmas.Bool.{and_parts, or_left, or_right}
+use Rattle.st_types.proofs.TestLemmas.{false_from_not}
 
 -- one of a list
 pub data Among {A : Type 0} : A → List A → Type 0 where
@@ -60,16 +62,16 @@ among_right a (x ∷ xs) ys h = behind (among_right a xs ys h)
 among_named : (v : Owned) (vs : List Owned) → Among v vs → has_variable vs v.owner v.name ≡ true
 among_named v [] h = elim h [ ]
 among_named v (w ∷ vs) here =
-    or_here (is_named_so v.owner v.name v) (has_variable vs v.owner v.name) (variable_itself v)
+    or_left (is_variable v.owner v.name v) (has_variable vs v.owner v.name) (variable_itself v)
 among_named v (w ∷ vs) (behind h) =
-    or_later (is_named_so v.owner v.name w) (has_variable vs v.owner v.name) (among_named v vs h)
+    or_right (is_variable v.owner v.name w) (has_variable vs v.owner v.name) (among_named v vs h)
 
 module _ (text : Declared) where
   first_found : (v : Owned) (vs : List Owned) → variable_at text (v ∷ vs) v.owner v.name ≡ Some (0, v)
   first_found v vs = rw (variable_itself v) refl
 
   later_found : (v w : Owned) (vs : List Owned) → Among v vs → has_variable vs w.owner w.name ≡ false
-      → ((k : ℕ) × (variable_at text vs v.owner v.name ≡ Some (k, v))) → (b : Bool) → is_named_so v.owner v.name w ≡ b
+      → ((k : ℕ) × (variable_at text vs v.owner v.name ≡ Some (k, v))) → (b : Bool) → is_variable v.owner v.name w ≡ b
       → (k : ℕ) × (variable_at text (w ∷ vs) v.owner v.name ≡ Some (k, v))
   later_found v w vs h apart found true e =
       let s : variable_path v ≡ variable_path w = variable_is v.owner v.name w e in
@@ -84,11 +86,11 @@ module _ (text : Declared) where
   variable_found [] once v h = elim h [ ]
   variable_found (w ∷ vs) once v here = (0, first_found v vs)
   variable_found (w ∷ vs) once v (behind h) =
-      let a = both (not (has_variable vs w.owner w.name))
+      let a = and_parts (not (has_variable vs w.owner w.name))
       (is_sound (variable_shape text w) && are_declared_once text vs) once in
-      let b = both (is_sound (variable_shape text w)) (are_declared_once text vs) a.1 in
-      later_found v w vs h (turned (has_variable vs w.owner w.name) a.0) (variable_found vs b.1 v h)
-      (is_named_so v.owner v.name w) refl
+      let b = and_parts (is_sound (variable_shape text w)) (are_declared_once text vs) a.1 in
+      later_found v w vs h (false_from_not (has_variable vs w.owner w.name) a.0) (variable_found vs b.1 v h)
+      (is_variable v.owner v.name w) refl
 
 -- the variable of a site
 pub site_among : (o : Option Owner) (ds : List NamedSite) (x : Name) (s : Site) → site_named ds x ≡ Some s
@@ -109,12 +111,12 @@ site_among o (d ∷ ds) x s h = by_test (bytes_eq x d.name) refl h (site_among o
         (some_is g) here)
     by_test false e g ih = behind (ih g)
 
--- what is so of all units is so of one that is found
+-- a property of all units holds for one that is found
 found_orderly : (p : OrganisationUnit → Bool) (us : List OrganisationUnit) → list_all p us ≡ true → (x : Name)
     (u : OrganisationUnit) → unit_named us x ≡ Some u → p u ≡ true
 found_orderly p [] all x u h = absurd (cc)
 found_orderly p (v ∷ us) all x u h =
-    let b = both (p v) (list_all p us) all in
+    let b = and_parts (p v) (list_all p us) all in
     by_test (bytes_eq x v.name.name) h b.0 (found_orderly p us b.1 x u)
   where
     by_test : (b : Bool) → (if b then Some v else unit_named us x) ≡ Some u → p v ≡ true
@@ -157,7 +159,7 @@ module _ (text : Declared) (vs : List Owned) (code : SlotLibrary)
 
   units_differ : list_all has_different_variables text.units ≡ true
   units_differ =
-      (both (list_all (λ t. has_different_fields t.definition) text.types)
+      (and_parts (list_all (λ t. has_different_fields t.definition) text.types)
       (list_all has_different_variables text.units) differ).1
 
   program_link : (owner : Owner) (x : Name) (u : OrganisationUnit) (body : SlotStmts)
@@ -255,7 +257,7 @@ text_link text c linked differ apart orderly h n p g =
 pub source_link : (source : Source) (linked : LinkedText) → IsLinkOf source linked → (n : ℕ) (p : Program)
     → slice_get (programs_of_text source) n ≡ Some p → HasProgram (slots_of_text source) linked n p
 source_link source linked h n p g =
-    let b = both (are_types_and_units_different (declared_of source))
+    let b = and_parts (are_types_and_units_different (declared_of source))
     (is_configuration_different (configuration_of source)) h.names in
     text_link (declared_of source) (configuration_of source) linked b.0 b.1 h.units h.is n p g
 

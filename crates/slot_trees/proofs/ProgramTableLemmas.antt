@@ -1,4 +1,4 @@
--- The names of a program stand where its declarations tell.
+-- The names of a program are at the places that its declarations give.
 use Rattle.std.proofs.Common.{◌≡◌, ℕ, Bool, true, false, if◌then◌else◌, List, [], ◌∷◌, Option, Some, None, refl, sym}
 use Rattle.std.proofs.Common.{subst}
 use Rattle.std.specs.Prelude.{bytes_eq}
@@ -7,15 +7,16 @@ use Rattle.st_meaning.specs.NameTypes.{Declared}
 use Rattle.st_meaning.specs.Runs.{Program}
 use Rattle.st_meaning.specs.Scopes.{Name, of_program, own_path, path_in, unowned, contains_name}
 use Rattle.layout.specs.LayoutVariables.{Owned}
-use Rattle.layout.specs.Standing.{Stands, path_to, are_declared_once, variable_at}
+use Rattle.layout.specs.VariableSlots.{LiesAt, path_to, are_declared_once, variable_at}
 use Rattle.layout.specs.TextLayouts.{slots_of}
-use Rattle.layout.proofs.ListLemmas.{some_is, same_name}
+use Rattle.layout.proofs.ListLemmas.{same_name}
 use Rattle.layout.proofs.VariableLemmas.{variable_stands}
 use Rattle.slot_trees.specs.SlotEvaluation.{slot_at}
 use Rattle.slot_trees.specs.Tables.{Symbol, symbol_of}
 use Rattle.slot_trees.specs.ProgramTables.{owner_of_name, symbol_at, symbol_then, program_symbols}
+use Rattle.st_types.proofs.OptionLemmas.{some_is}
 
--- the name has a declaration, which the symbol tells
+-- the name has a declaration, which the symbol gives
 pub record IsNamed (text : Declared) (vs : List Owned) (p : Program) (x : Name) (y : Symbol) : Type 0 where
   pub entry : ℕ × Owned
   pub there : variable_at text vs (owner_of_name p x) x ≡ Some entry
@@ -52,13 +53,13 @@ path_cases o x false = refl
 
 pub program_names : (text : Declared) (vs : List Owned) → are_declared_once text vs ≡ true → (p : Program)
     (xs : List Name) (base : ℕ) (x : Name) (y : Symbol) → symbol_of (program_symbols text vs p xs) x ≡ Some y
-    → Stands (slots_of text vs) y.is_input (path_in (of_program p.owner) p.body x) y.shape (slot_at base y.anchor)
+    → LiesAt (slots_of text vs) y.is_input (path_in (of_program p.owner) p.body x) y.shape (slot_at base y.anchor)
 program_names text vs once p xs base x y h =
     let d = named text vs p x y xs h in
     subst
-    (λ u. Stands (slots_of text vs) u.is_input (path_in (of_program p.owner) p.body x) u.shape (slot_at base u.anchor))
+    (λ u. LiesAt (slots_of text vs) u.is_input (path_in (of_program p.owner) p.body x) u.shape (slot_at base u.anchor))
     d.is
     (subst
-    (λ q. Stands (slots_of text vs) d.entry.1.is_input q (symbol_at text x d.entry).shape d.entry.0)
+    (λ q. LiesAt (slots_of text vs) d.entry.1.is_input q (symbol_at text x d.entry).shape d.entry.0)
     (path_cases p.owner x (contains_name p.body.externals x))
     (variable_stands text vs once (owner_of_name p x) x d.entry.0 d.entry.1 d.there))

@@ -1,4 +1,4 @@
--- What is read and assigned by a path is read and written in its slot.
+-- Reading and assigning by a path is reading and writing in its slot.
 use Rattle.std.proofs.Common.{◌≡◌, ℕ, zero, suc, Bool, true, false, ◌||◌, if◌then◌else◌, List, [], ◌∷◌, length}
 use Rattle.std.proofs.Common.{slice_get}
 use Rattle.std.proofs.Common.{slice_set, Option, Some, None, Ok, Err, refl, sym, ap, ap₂, ◌∙◌, subst, length-set, arith}
@@ -7,14 +7,14 @@ use Rattle.st_types.specs.Paths.{Path, is_within}
 use Rattle.st_meaning.specs.Failures.{ill_typed}
 use Rattle.st_meaning.specs.Stores.{Store, get, may_replace, assigned, has_part}
 use Rattle.st_meaning.specs.Scopes.{seen}
-use Rattle.st_meaning.specs.Slots.{Slot, IsLayout, variables_in, inputs_in}
+use Rattle.st_meaning.specs.Slots.{Slot, IsLayout, variables_with, inputs_in}
 use Rattle.st_meaning.proofs.SlotLemmas.{seen_slot, get_variable, assigned_slot}
-use Rattle.layout.specs.Standing.{slot, has_slot_within}
+use Rattle.layout.specs.VariableSlots.{slot, has_slot_within}
 use Rattle.slot_trees.specs.SlotExecution.{stored_over, stored_at}
 use Rattle.slot_trees.specs.Seeing.{Sees, IsSlotOf}
 use Rattle.slot_trees.proofs.Sim.{ResultAlike}
 
--- whether a subscript is out of bounds is whether no variable's path begins so
+-- a subscript is out of bounds exactly when no variable's path begins with it
 or_third : (a b c : Bool) → ((a || b) || c) ≡ (a || (b || c))
 or_third true b c = refl
 or_third false b c = refl
@@ -33,11 +33,11 @@ part_by_sort x y e p c h false =
     or_middle (is_within p e.0) (has_part x p) (has_part y p) ∙ ap (λ b. is_within p e.0 || b) h
 
 pub has_part_slots : (layout : List Slot) (vs : List Datum) (p : Path) → length layout ≡ length vs
-    → (has_part (inputs_in layout vs) p || has_part (variables_in layout vs) p) ≡ has_slot_within layout p
+    → (has_part (inputs_in layout vs) p || has_part (variables_with layout vs) p) ≡ has_slot_within layout p
 has_part_slots [] vs p len = refl
 has_part_slots (l ∷ ls) [] p len = absurd (omega arith)
 has_part_slots (l ∷ ls) (v ∷ vs) p len =
-    part_by_sort (inputs_in ls vs) (variables_in ls vs) (l.path, v) p (has_slot_within ls p)
+    part_by_sort (inputs_in ls vs) (variables_with ls vs) (l.path, v) p (has_slot_within ls p)
     (has_part_slots ls vs p (omega arith)) l.is_input
 
 -- a write to a slot of a variable leaves the inputs
@@ -71,7 +71,7 @@ module _ (layout : List Slot) (distinct : IsLayout layout) (image s : Store) (vs
         at.there refl
 
     module _ (v : Datum) where
-      still : Sees layout image (variables_in layout (slice_set vs k v)) (slice_set vs k v)
+      still : Sees layout image (variables_with layout (slice_set vs k v)) (slice_set vs k v)
       still = record {
         variables = refl;
         inputs = h.inputs ∙ sym (inputs_at layout vs k v (slot p at.kind false) at.there refl);
@@ -79,13 +79,13 @@ module _ (layout : List Slot) (distinct : IsLayout layout) (image s : Store) (vs
       }
 
       stored_cases : (b : Bool) → ResultAlike (Sees layout image)
-          (if b then Ok (variables_in layout (slice_set vs k v)) else Err ill_typed)
+          (if b then Ok (variables_with layout (slice_set vs k v)) else Err ill_typed)
           (if b then Ok (slice_set vs k v) else Err ill_typed)
       stored_cases true = still
       stored_cases false = refl
 
       over_cases : (o : Option Datum) → slice_get vs k ≡ o
-          → ResultAlike (Sees layout image) (assigned (variables_in layout vs) p v) (stored_over o vs k v)
+          → ResultAlike (Sees layout image) (assigned (variables_with layout vs) p v) (stored_over o vs k v)
       over_cases None e = absurd (value_there layout vs k (slot p at.kind false) h.length at.there e)
       over_cases (Some old) e =
           let a = assigned_slot layout vs distinct h.length k (slot p at.kind false) old v at.there refl e in

@@ -1,4 +1,4 @@
--- A linked statement does to the slots what its named statement does to the variables.
+-- A linked statement has the effect on the slots that its named statement has on the variables.
 use Rattle.std.proofs.Common.{◌≡◌, ℕ, zero, ◌+◌, ℤ, pos, Bool, false, List, [], ◌∷◌, slice_get}
 use Rattle.std.proofs.Common.{Option, Some, None, option_map, option_and_then, Ok, refl, sym, ap, ◌∙◌}
 use Rattle.std.proofs.Common.{subst}
@@ -19,9 +19,8 @@ use Rattle.st_meaning.specs.Loops.{no_step, nonzero}
 use Rattle.st_meaning.specs.Execution.{label_holds, given_inputs, assigned_inputs, copied_outputs, step_of, counting}
 use Rattle.st_meaning.specs.Execution.{assigning, invoking, exec, exec_all, exec_arms, exec_case}
 use Rattle.st_meaning.specs.Slots.{Slot, IsLayout}
-use Rattle.layout.specs.Shapes.{Whole, Shape, plain, array, parts, Parts}
-use Rattle.layout.specs.Standing.{Stands}
-use Rattle.layout.proofs.ListLemmas.{map_some, some_is}
+use Rattle.layout.specs.Shapes.{PartsOwner, Shape, plain, array, parts, Parts}
+use Rattle.layout.specs.VariableSlots.{LiesAt}
 use Rattle.slot_trees.specs.SlotTrees.{Anchor, SlotExpr, Place, BlockCode, SlotArgument, given, copied, SlotStmt}
 use Rattle.slot_trees.specs.SlotTrees.{assign, invoke, IF, CASE, FOR, WHILE, REPEAT, SlotStmts, stmt_then, SlotArms}
 use Rattle.slot_trees.specs.SlotTrees.{arm_then}
@@ -34,39 +33,40 @@ use Rattle.slot_trees.specs.Tables.{Table, symbol_of, named_in, part_at}
 use Rattle.slot_trees.specs.Linking.{linked, linked_target}
 use Rattle.slot_trees.specs.LinkedStatements.{plain_anchor, control_of, Instance, instance_at, instance_of_symbol}
 use Rattle.slot_trees.specs.LinkedStatements.{plain_offset, offset_of, linked_argument, linked_arguments, linked_step}
-use Rattle.slot_trees.specs.LinkedStatements.{code_of, linked_call_of, linked_invocation, linked_stmt, linked_stmts}
+use Rattle.slot_trees.specs.LinkedStatements.{block_code_of, linked_call_of, linked_invocation, linked_stmt, linked_stmts}
 use Rattle.slot_trees.specs.LinkedStatements.{linked_arms, linked_case_arms}
 use Rattle.slot_trees.specs.Seeing.{Sees, IsSlotOf}
-use Rattle.slot_trees.specs.Alike.{RunAlike, EndsAlike}
+use Rattle.slot_trees.specs.Alike.{RunEqually, EndsEqually}
 use Rattle.slot_trees.specs.TrueTables.{IsTableOf}
 use Rattle.slot_trees.proofs.Sim.{Same, sim_give, sim_fault, sim_then, sim_same, sim_tick, sim_if, ResultAlike}
 use Rattle.slot_trees.proofs.Sim.{proceed_alike}
 use Rattle.slot_trees.proofs.LoopSim.{StepAlike, StepRun, sim_behind, sim_loop, sim_guarded}
 use Rattle.slot_trees.proofs.LoopSim.{sim_until}
-use Rattle.slot_trees.proofs.OptionLemmas.{then_some, not_some}
-use Rattle.slot_trees.proofs.Standings.{stands_member, plain_at}
+use Rattle.slot_trees.proofs.OptionLemmas.{not_some}
+use Rattle.slot_trees.proofs.SlotLemmas.{stands_member, plain_at}
 use Rattle.slot_trees.proofs.Sights.{got_there, stored_there}
 use Rattle.slot_trees.proofs.ExpressionSim.{attempt_sim, attempted_sim, value_sim, truth_sim, target_sim}
+use Rattle.st_types.proofs.OptionLemmas.{some_is, map_some, then_some}
 
--- an elementary variable stands at its anchor
+-- an elementary variable is at its anchor
 plain_anchor_is : (a : Anchor) (sh : Shape) (b : Anchor) → plain_anchor a sh ≡ Some b → (layout : List Slot)
-    (input : Bool) (p : Path) (base : ℕ) → Stands layout input p sh (slot_at base a)
+    (input : Bool) (p : Path) (base : ℕ) → LiesAt layout input p sh (slot_at base a)
     → IsSlotOf layout input p (slot_at base b)
 plain_anchor_is a (plain k) b h layout input p base st =
     subst (λ c. IsSlotOf layout input p (slot_at base c)) (some_is h) (plain_at layout input p k (slot_at base a) st)
 plain_anchor_is a (array lower count sh) b h layout input p base st = absurd (cc)
 plain_anchor_is a (parts w ps) b h layout input p base st = absurd (cc)
 
--- an instance stands at its anchor
+-- an instance is at its anchor
 instance_at_is : (a : Anchor) (sh : Shape) (i : Instance) → instance_at a sh ≡ Some i
-    → (of : Whole) × (a ≡ i.anchor) × (sh ≡ parts of i.members)
+    → (of : PartsOwner) × (a ≡ i.anchor) × (sh ≡ parts of i.members)
 instance_at_is a (parts w ps) i h = (w, ap (λ i. i.anchor) (some_is h), ap (λ i. parts w i.members) (some_is h))
 instance_at_is a (array lower count sh) i h = absurd (cc)
 instance_at_is a (plain k) i h = absurd (cc)
 
--- an elementary part stands at its offset
+-- an elementary part is at its offset
 plain_offset_is : (n : ℕ) (sh : Shape) (o : ℕ) → plain_offset n sh ≡ Some o → (layout : List Slot) (input : Bool)
-    (p : Path) (k : ℕ) → Stands layout input p sh (k + n) → IsSlotOf layout input p (k + o)
+    (p : Path) (k : ℕ) → LiesAt layout input p sh (k + n) → IsSlotOf layout input p (k + o)
 plain_offset_is n (plain κ) o h layout input p k st =
     subst (λ m. IsSlotOf layout input p (k + m)) (some_is h) (plain_at layout input p κ (k + n) st)
 plain_offset_is n (array lower count sh) o h layout input p k st = absurd (cc)
@@ -78,16 +78,16 @@ module _ (layout : List Slot) (distinct : IsLayout layout) (w : Scope) (z : Slot
   Seen s vs = Sees layout w.image s vs
 
   abbrev pub StateRun : Run Store → Run (List Datum) → Type 0
-  StateRun m n = RunAlike Store (List Datum) Seen m n
+  StateRun m n = RunEqually Store (List Datum) Seen m n
 
   abbrev pub StmtRun : Run End → Run SlotEnd → Type 0
-  StmtRun m n = RunAlike End SlotEnd (EndsAlike Seen) m n
+  StmtRun m n = RunEqually End SlotEnd (EndsEqually Seen) m n
 
   abbrev pub StmtsRun : (Store → Run End) → (List Datum → Run SlotEnd) → Type 0
   StmtsRun f g = (s : Store) (vs : List Datum) → Seen s vs → StmtRun (f s) (g vs)
 
   store_sim : (s : Store) (vs : List Datum) → Seen s vs → (q : Path) (j : ℕ) → IsSlotOf layout false q j → (v : Datum)
-      → StateRun (attempt w.stand_ins (assigned s q v)) (attempt z.stand_ins (stored_at vs j v))
+      → StateRun (attempt w.stuck_faults (assigned s q v)) (attempt z.stuck_faults (stored_at vs j v))
   store_sim s vs h q j at v =
       attempt_sim layout distinct w z t truths (assigned s q v) (stored_at vs j v)
       (stored_there layout distinct w.image s vs h q j at v)
@@ -101,23 +101,23 @@ module _ (layout : List Slot) (distinct : IsLayout layout) (w : Scope) (z : Slot
 
   -- the step of a loop with a control variable
   step_sim : (o : Option Expr) (x : Option SlotExpr) → linked_step t o ≡ Some x → (s : Store) (vs : List Datum)
-      → Seen s vs → RunAlike ℤ ℤ (Same ℤ) (step_of w s o) (slot_step z vs x)
+      → Seen s vs → RunEqually ℤ ℤ (Same ℤ) (step_of w s o) (slot_step z vs x)
   step_sim None x e s vs h =
-      subst (λ y. RunAlike ℤ ℤ (Same ℤ) (step_of w s None) (slot_step z vs y)) (some_is e)
+      subst (λ y. RunEqually ℤ ℤ (Same ℤ) (step_of w s None) (slot_step z vs y)) (some_is e)
       (sim_give (pos 1) (pos 1) refl)
   step_sim (Some a) x e s vs h =
       let i = map_some Some (linked t a) x e in
-      subst (λ y. RunAlike ℤ ℤ (Same ℤ) (step_of w s (Some a)) (slot_step z vs y)) i.2
+      subst (λ y. RunEqually ℤ ℤ (Same ℤ) (step_of w s (Some a)) (slot_step z vs y)) i.2
       (sim_same (value_sim layout distinct w z t truths s vs h a i.0 i.1) (λ v. sim_give v.number v.number refl))
 
-  nonzero_sim : (n : ℤ) → RunAlike (Unit {0}) (Unit {0}) (Same (Unit {0})) (nonzero n) (nonzero n)
+  nonzero_sim : (n : ℤ) → RunEqually (Unit {0}) (Unit {0}) (Same (Unit {0})) (nonzero n) (nonzero n)
   nonzero_sim (pos zero) = sim_fault ZeroStep
   nonzero_sim _ = sim_give tt tt refl
 
   module _ (x : Path) (k : ℕ) (at : IsSlotOf layout false x k) where
     runs_on_sim : (limit step : ℤ) (s : Store) (vs : List Datum) → Seen s vs
-        → RunAlike Bool Bool (Same Bool) (runs_on w.stand_ins x limit step s)
-        (slot_runs_on z.stand_ins k limit step vs)
+        → RunEqually Bool Bool (Same Bool) (runs_on w.stuck_faults x limit step s)
+        (slot_runs_on z.stuck_faults k limit step vs)
     unfolding runs_on slot_runs_on
     runs_on_sim limit step s vs h =
         let g = got_there layout distinct w.image s vs h x k at in
@@ -138,8 +138,8 @@ module _ (layout : List Slot) (distinct : IsLayout layout) (w : Scope) (z : Slot
     then_alike step s vs h None = refl
     then_alike step s vs h (Some v) = stored_alike s vs h (stepped_on step v)
 
-    step_on_sim : (step : ℤ) → StepRun Store (List Datum) Seen (step_on w.stand_ins x step)
-        (slot_step_on z.stand_ins k step)
+    step_on_sim : (step : ℤ) → StepRun Store (List Datum) Seen (step_on w.stuck_faults x step)
+        (slot_step_on z.stuck_faults k step)
     unfolding step_on slot_step_on
     step_on_sim step s vs h =
         let g = got_there layout distinct w.image s vs h x k at in
@@ -157,14 +157,14 @@ module _ (layout : List Slot) (distinct : IsLayout layout) (w : Scope) (z : Slot
         (λ u us g. sim_loop Store (List Datum) Seen _ _ _ _
         (sim_guarded Store (List Datum) Seen _ _ _ _ (runs_on_sim c.number m) b) (step_on_sim m) u us g)))))
 
-  -- a control variable stands in its slot
+  -- a control variable is in its slot
   control_slot : (x : Name) (a : Anchor) → option_and_then control_of (symbol_of t.symbols x) ≡ Some a
       → IsSlotOf layout false (path_in w.frame w.body x) (slot_at z.base a)
   control_slot x a e =
       let y = then_some control_of (symbol_of t.symbols x) a e in
       let c = not_some y.0.is_input (plain_anchor y.0.anchor y.0.shape) a y.2 in
       plain_anchor_is y.0.anchor y.0.shape a c.1 layout false (path_in w.frame w.body x) z.base
-      (subst (λ u. Stands layout u (path_in w.frame w.body x) y.0.shape (slot_at z.base y.0.anchor)) c.0
+      (subst (λ u. LiesAt layout u (path_in w.frame w.body x) y.0.shape (slot_at z.base y.0.anchor)) c.0
       (truths.names x y.0 y.1))
 
   -- a loop with no control variable makes no step
@@ -172,7 +172,7 @@ module _ (layout : List Slot) (distinct : IsLayout layout) (w : Scope) (z : Slot
   no_step_sim s vs h = sim_give (Some s) (Some vs) h
 
   -- the members of an instance
-  module _ (at : Path) (of : Whole) (ps : Parts) (k : ℕ) (st : Stands layout false at (parts of ps) k) where
+  module _ (at : Path) (of : PartsOwner) (ps : Parts) (k : ℕ) (st : LiesAt layout false at (parts of ps) k) where
     member_slot : (x : Name) (o : ℕ) → option_and_then offset_of (part_at ps x) ≡ Some o
         → IsSlotOf layout false (member_at at x) (k + o)
     member_slot x o e =
@@ -188,7 +188,7 @@ module _ (layout : List Slot) (distinct : IsLayout layout) (w : Scope) (z : Slot
     InputsAlike (e ∷ es) [] = ⊥
 
     abbrev InputsRun : Run (List (Name × Datum)) → Run (List (ℕ × Datum)) → Type 0
-    InputsRun m n = RunAlike (List (Name × Datum)) (List (ℕ × Datum)) InputsAlike m n
+    InputsRun m n = RunEqually (List (Name × Datum)) (List (ℕ × Datum)) InputsAlike m n
 
     given_sim : (as' : List Argument) (xs : List SlotArgument) → linked_arguments t ps as' ≡ Some xs → (s : Store)
         (vs : List Datum) → Seen s vs → InputsRun (given_inputs w s as') (slot_inputs z vs xs)
@@ -218,13 +218,13 @@ module _ (layout : List Slot) (distinct : IsLayout layout) (w : Scope) (z : Slot
 
     assigned_sim : (es : List (Name × Datum)) (fs : List (ℕ × Datum)) → InputsAlike es fs → (s : Store)
         (vs : List Datum) → Seen s vs
-        → StateRun (assigned_inputs w.stand_ins at es s) (stored_inputs z.stand_ins k fs vs)
+        → StateRun (assigned_inputs w.stuck_faults at es s) (stored_inputs z.stuck_faults k fs vs)
     assigned_sim [] [] a s vs h = sim_give s vs h
     assigned_sim (e ∷ es) (f ∷ fs) a s vs h =
         sim_then
         (subst
-        (λ v. StateRun (attempt w.stand_ins (assigned s (member_at at e.0) e.1))
-        (attempt z.stand_ins (stored_at vs (k + f.0) v))) a.1
+        (λ v. StateRun (attempt w.stuck_faults (assigned s (member_at at e.0) e.1))
+        (attempt z.stuck_faults (stored_at vs (k + f.0) v))) a.1
         (store_sim s vs h (member_at at e.0) (k + f.0) a.0 e.1)) (λ u us g. assigned_sim es fs a.2 u us g)
     assigned_sim [] (f ∷ fs) a s vs h = absurd a
     assigned_sim (e ∷ es) [] a s vs h = absurd a
@@ -256,7 +256,7 @@ module _ (layout : List Slot) (distinct : IsLayout layout) (w : Scope) (z : Slot
         (λ u. sim_then (target_sim layout distinct w z t truths s vs h v l.0 l.1)
         (λ q m b. sim_then (store_sim s vs h q m b u) (λ r rs f. copied_sim rest j.0 j.1 r rs f))))
 
-    -- a call of the instance, whose block does the same by paths and by slots
+    -- a call of the instance, whose block has the same effect by paths and by slots
     invoking_sim : (b : Name) (code : BlockCode) → ((s : Store) (vs : List Datum) → Seen s vs
         → StateRun (w.units.blocks b at s) (z.units.blocks code k vs)) → (as' : List Argument)
         (xs : List SlotArgument) → linked_arguments t ps as' ≡ Some xs
@@ -273,16 +273,16 @@ module _ (layout : List Slot) (distinct : IsLayout layout) (w : Scope) (z : Slot
   invoke_sim x as' y e s vs h =
       let a = then_some (linked_call_of t x as') (option_and_then instance_of_symbol (symbol_of t.symbols x)) y e in
       let c = then_some (λ code. option_map (invoke a.0.anchor code) (linked_arguments t a.0.members as'))
-      (code_of t x) y a.2 in
+      (block_code_of t x) y a.2 in
       let l = map_some (invoke a.0.anchor c.0) (linked_arguments t a.0.members as') y c.2 in
       let n = then_some instance_of_symbol (symbol_of t.symbols x) a.0 a.1 in
       let i = not_some n.0.is_input (instance_at n.0.anchor n.0.shape) a.0 n.2 in
       let p = instance_at_is n.0.anchor n.0.shape a.0 i.1 in
       let b = then_some (named_in t.blocks) (block_named t.instances x) c.0 c.1 in
-      let st = subst (λ u. Stands layout u (path_in w.frame w.body x) n.0.shape (slot_at z.base n.0.anchor)) i.0
+      let st = subst (λ u. LiesAt layout u (path_in w.frame w.body x) n.0.shape (slot_at z.base n.0.anchor)) i.0
       (truths.names x n.0 n.1) in
-      let st' = subst (λ u. Stands layout false (path_in w.frame w.body x) n.0.shape (slot_at z.base u)) p.1 st in
-      let st'' = subst (λ u. Stands layout false (path_in w.frame w.body x) u (slot_at z.base a.0.anchor)) p.2 st' in
+      let st' = subst (λ u. LiesAt layout false (path_in w.frame w.body x) n.0.shape (slot_at z.base u)) p.1 st in
+      let st'' = subst (λ u. LiesAt layout false (path_in w.frame w.body x) u (slot_at z.base a.0.anchor)) p.2 st' in
       let named : block_named w.body.instances x ≡ Some b.0 =
       ap (λ u. block_named u x) (sym truths.instances) ∙ b.1 in
       subst

@@ -1,11 +1,11 @@
--- The names of a block's body as declarations tell: externals at slots of the whole layout, its own variables so many
--- slots behind the first one of the instance.
+-- The names of a block's body by the declarations: externals are at slots of the whole layout, its own variables at
+-- offsets from the first slot of the instance.
 use Rattle.std.specs.Prelude.{List, [], ◌∷◌, false, if◌then◌else◌, Option, Some, None, option_map}
 use Rattle.st_meaning.specs.NameTypes.{Declared}
 use Rattle.st_meaning.specs.Scopes.{Name, contains_name}
 use Rattle.layout.specs.LayoutVariables.{Owned}
 use Rattle.layout.specs.Shapes.{Parts}
-use Rattle.layout.specs.Standing.{variable_at}
+use Rattle.layout.specs.VariableSlots.{variable_at}
 use Rattle.slot_trees.specs.SlotTrees.{own}
 use Rattle.slot_trees.specs.Tables.{Symbol, Part, part_at}
 use Rattle.slot_trees.specs.ProgramTables.{symbol_at}
@@ -23,7 +23,7 @@ abbrev pub if_there : Option Symbol → List Symbol → List Symbol
 if_there None rest = rest
 if_there (Some y) rest = y ∷ rest
 
--- what the names stand for
+-- the meanings of the names
 abbrev pub block_symbols : Declared → List Owned → Parts → List Name → List Name → List Symbol
 block_symbols text vs ps externals [] = []
 block_symbols text vs ps externals (x ∷ xs) =

@@ -1,4 +1,4 @@
--- The slot trees that expressions of the code stand for.
+-- The slot trees of the code's expressions.
 use Rattle.slot_trees.specs.declared.expression.Anchor as code_anchor
 use Rattle.slot_trees.specs.declared.expression.Anchor.TheVariants.{Own, Absolute}
 use Rattle.slot_trees.specs.declared.expression.SlotExpr as code_expr

@@ -1,4 +1,4 @@
--- The functions and blocks that those of the code stand for.
+-- The functions and blocks of the definitions for those of the code.
 use Rattle.std.specs.Prelude.{◌≡◌, ℕ, List, Option, Some, map, option_map, slice_get}
 use Rattle.slot_trees.specs.declared.library.SlotFunction as code_function
 use Rattle.slot_trees.specs.declared.library.SlotLibrary as code_library
@@ -13,7 +13,7 @@ slot_function_view f = record {
   body = slot_stmts_view f.body.items;
 }
 
--- a library in which those are left out for which no layout has room
+-- a library without those for which no layout has room
 pub record KeptLibrary : Type 0 where
   pub functions : List (Option SlotFunction)
   pub blocks : List (Option SlotStmts)
@@ -24,7 +24,7 @@ slot_library_view l = record {
   blocks = map (option_map (λ b. slot_stmts_view b.items)) l.blocks.items;
 }
 
--- Each function and each block that is kept is the one of its number.
+-- Each function and each block that is kept is the one with its number.
 pub record IsKeptOf (kept : KeptLibrary) (whole : SlotLibrary) : Type 0 where
   pub functions : (i : ℕ) (f : SlotFunction) → slice_get kept.functions i ≡ Some (Some f)
       → slice_get whole.functions i ≡ Some f

@@ -1,4 +1,4 @@
--- A text with its linked form, and when this has a program.
+-- A text with its linked form, and when the latter has a program.
 use Rattle.std.specs.Prelude.{◌≡◌, ℕ, List, true, Some, slice_get}
 use Rattle.st_types.specs.Sources.{Source}
 use Rattle.st_meaning.specs.Runs.{Program}
@@ -10,7 +10,7 @@ use Rattle.slot_trees.specs.LinkedTexts.{IsProgramLink}
 use Rattle.slot_trees.specs.TextLinks.{LinkedText, linked_source}
 use Rattle.slot_trees.specs.Orderly.{are_units_orderly}
 
--- a text whose names stand once in their scopes and whose units are in order, with its linked form
+-- a text whose names occur once in their scopes and whose units are in order, with its linked form
 pub record IsLinkOf (source : Source) (linked : LinkedText) : Type 0 where
   pub names : has_different_names source ≡ true
   pub units : are_units_orderly (declared_of source) ≡ true

@@ -12,7 +12,7 @@ use Rattle.slot_trees.specs.SlotTrees.{case_arm_then}
 use Rattle.slot_trees.specs.Tables.{Symbol, Table, symbol_of, named_in, Part, part_at}
 use Rattle.slot_trees.specs.Linking.{linked, linked_target}
 
--- the slot of a control variable: one that is elementary and no input
+-- the slot of a control variable: one that is elementary and isn't an input
 abbrev pub plain_anchor : Anchor → Shape → Option Anchor
 plain_anchor a (plain k) = Some a
 plain_anchor a (array lower count sh) = None
@@ -34,7 +34,7 @@ instance_at a (parts w ps) = Some (record { anchor = a; members = ps })
 abbrev pub instance_of_symbol : Symbol → Option Instance
 instance_of_symbol y = if y.is_input then None else instance_at y.anchor y.shape
 
--- where a member stands that is elementary
+-- the offset of an elementary member
 abbrev pub plain_offset : ℕ → Shape → Option ℕ
 plain_offset o (plain k) = Some o
 plain_offset o (array lower count sh) = None
@@ -59,13 +59,13 @@ linked_step t None = Some None
 linked_step t (Some e) = option_map Some (linked t e)
 
 -- the block of an instance
-abbrev pub code_of : Table → Name → Option BlockCode
-code_of t x = option_and_then (named_in t.blocks) (block_named t.instances x)
+abbrev pub block_code_of : Table → Name → Option BlockCode
+block_code_of t x = option_and_then (named_in t.blocks) (block_named t.instances x)
 
 -- a call of an instance, whose place and members are known
 abbrev pub linked_call_of : Table → Name → List Argument → Instance → Option SlotStmt
 linked_call_of t x arguments i =
-    option_and_then (λ code. option_map (invoke i.anchor code) (linked_arguments t i.members arguments)) (code_of t x)
+    option_and_then (λ code. option_map (invoke i.anchor code) (linked_arguments t i.members arguments)) (block_code_of t x)
 
 abbrev pub linked_invocation : Table → Name → List Argument → Option SlotStmt
 linked_invocation t x arguments =

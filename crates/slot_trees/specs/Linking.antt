@@ -1,4 +1,4 @@
--- From expressions with names to expressions with slots. None stands where a name is not there, or where it does not
+-- From expressions with names to expressions with slots. The result is None if a name is unknown, or if it doesn't
 -- lead to an elementary variable.
 use Rattle.std.specs.Prelude.{ℕ, ◌+◌, ◌*◌, nat_lt, ℤ, if◌then◌else◌, Option, Some, None, option_map, option_and_then}
 use Rattle.st_types.specs.Expressions as named
@@ -11,20 +11,20 @@ use Rattle.slot_trees.specs.SlotTrees.{Anchor, SlotExpr, constant, load, compute
 use Rattle.slot_trees.specs.SlotTrees.{no_exprs, expr_then, Place, place, Subscripts, no_subscripts, subscript_then}
 use Rattle.slot_trees.specs.Tables.{Symbol, Table, symbol_of, named_in, moved, part_at}
 
--- what selectors lead to: so many slots further at least, by these subscripts, to a part of this shape
+-- the target of selectors: at least this offset further, by these subscripts, a part of this shape
 pub record Selected : Type 0 where
   pub offset : ℕ
   pub subscripts : Subscripts
   pub shape : Shape
 
-abbrev pub behind_offset : ℕ → Selected → Selected
-behind_offset n s = record { offset = n + s.offset; subscripts = s.subscripts; shape = s.shape }
+abbrev pub with_offset : ℕ → Selected → Selected
+with_offset n s = record { offset = n + s.offset; subscripts = s.subscripts; shape = s.shape }
 
-abbrev pub behind_subscript : SlotExpr → ℤ → ℕ → ℕ → Selected → Selected
-behind_subscript i lower count stride s =
+abbrev pub with_subscript : SlotExpr → ℤ → ℕ → ℕ → Selected → Selected
+with_subscript i lower count stride s =
     record { offset = s.offset; subscripts = subscript_then i lower count stride s.subscripts; shape = s.shape }
 
--- only what is elementary has a place
+-- only an elementary part has a place
 abbrev pub place_of_shape : Anchor → ℕ → Subscripts → Shape → Option Place
 place_of_shape a n ss (plain k) = Some (place (moved a n) ss)
 place_of_shape a n ss (array lower count sh) = None
@@ -58,13 +58,13 @@ abbrev mutual
       option_and_then (λ y. option_and_then (place_if_plain y.anchor) (linked_selectors t y.shape xs))
       (symbol_of t.symbols x.name)
 
-  -- a subscript needs an array that takes room: else no path begins with it
+  -- a subscript needs an array that takes room: otherwise no path begins with it
   pub linked_selectors : Table → Shape → Selectors → Option Selected
   linked_selectors t sh no_selectors = Some (record { offset = 0; subscripts = no_subscripts; shape = sh })
   linked_selectors t (parts w ps) (selector_then (member x) xs) =
-      option_and_then (λ e. option_map (behind_offset e.offset) (linked_selectors t e.shape xs)) (part_at ps x.name)
+      option_and_then (λ e. option_map (with_offset e.offset) (linked_selectors t e.shape xs)) (part_at ps x.name)
   linked_selectors t (array lower count sh) (selector_then (subscript e) xs) = if nat_lt 0 (count * size sh)
-      then option_and_then (λ i. option_map (behind_subscript i lower count (size sh)) (linked_selectors t sh xs))
+      then option_and_then (λ i. option_map (with_subscript i lower count (size sh)) (linked_selectors t sh xs))
       (linked t e) else None
   linked_selectors t _ (selector_then x xs) = None
 

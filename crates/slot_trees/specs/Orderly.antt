@@ -1,5 +1,5 @@
--- What is asked of a text's units, so that its linked form means the same: no variable of a unit bears the name of one
--- of its externals, and the type of none is too deep.
+-- The conditions on a text's units that make its linked form mean the same: no variable of a unit has the name of one
+-- of its externals, and no type of a variable is too deep.
 use Rattle.std.specs.Prelude.{List, Bool, not, ◌&&◌}
 use Rattle.std.specs.List.{list_all}
 use Rattle.st_types.specs.Units.{OrganisationUnit}

@@ -71,7 +71,7 @@ its_layout = slots_of its_text its_variables
 abbrev pub its_program : Program
 its_program = program_of_unit its_text owner main
 
--- what its names stand for
+-- the meanings of its names
 abbrev pub its_names : List Name
 its_names = G ∷ I ∷ A ∷ T ∷ []
 
@@ -100,7 +100,7 @@ its_numbers = record {
 abbrev pub no_units : SlotLibrary
 no_units = record { functions = []; blocks = [] }
 
--- what it is linked to: G in slot 0, I in 1, A from 2 on, T from 4 on
+-- its linked form: G in slot 0, I in 1, A from 2 on, T from 4 on
 abbrev pub in_slot : ℕ → Place
 in_slot k = place (absolute k) no_subscripts
 
@@ -123,7 +123,7 @@ its_code =
     (stmt_then (assign (in_slot 0) (binary Add (load (in_slot 0)) (load element_of_a))) no_stmts))
     no_stmts))
 
--- values of its slots: G, I, A[1] and A[2], and the timer's six members, of which only PT is not what it was
+-- values of its slots: G, I, A[1] and A[2], and the timer's six members, of which only PT changes
 abbrev pub values_of : ℕ → ℕ → ℕ → ℕ → ℕ → List Datum
 values_of g i first second pt =
     int g ∷ int i ∷ int first ∷ int second ∷ datum Boolean 0 ∷ datum Time pt ∷ datum Boolean 0 ∷ datum Time 0

@@ -1,12 +1,12 @@
--- What statements over slots do. Each takes a tick as it begins, before all else.
+-- The effects of statements over slots. Each takes a tick as it begins, before all else.
 use Rattle.std.specs.Prelude.{ℕ, ◌+◌, ℤ, pos, int_lt, int_le, List, [], ◌∷◌, Bool, if◌then◌else◌, Option, Some, None}
 use Rattle.std.specs.Prelude.{slice_get, slice_set, Result, Ok, Err}
 use Rattle.std.specs.List.{list_any}
 use Rattle.st_types.specs.Values.{Datum}
-use Rattle.st_meaning.specs.Failures.{Failure, StandIns, ill_typed, or_failure}
+use Rattle.st_meaning.specs.Failures.{Failure, StuckFaults, ill_typed, or_failure}
 use Rattle.st_meaning.specs.Stores.{may_replace}
 use Rattle.st_meaning.specs.Ticks.{Run, ◌>>=◌, ◌>>◌, give, attempt, proceed, tick}
-use Rattle.st_meaning.specs.Loops.{EndOf, goes_on, exits, returns, behind, looped, guarded, until, stepped_on, no_step}
+use Rattle.st_meaning.specs.Loops.{EndOf, goes_on, exits, returns, continue_with, looped, guarded, until, stepped_on, no_step}
 use Rattle.st_meaning.specs.Loops.{nonzero}
 use Rattle.st_meaning.specs.Execution.{label_holds}
 use Rattle.slot_trees.specs.SlotTrees.{SlotExpr, Place, BlockCode, SlotArgument, given, copied, SlotStmt, empty, assign}
@@ -42,23 +42,23 @@ slot_inputs z vs (given o e ∷ rest) = do
 slot_inputs z vs (copied o p ∷ rest) = slot_inputs z vs rest
 
 -- then assigned; an input that is not given keeps its value
-abbrev pub stored_inputs : StandIns → ℕ → List (ℕ × Datum) → Slots → Run Slots
-stored_inputs stand_ins at [] vs = give vs
-stored_inputs stand_ins at (e ∷ es) vs = do
-  us ← attempt stand_ins (stored_at vs (at + e.0) e.1)
-  stored_inputs stand_ins at es us
+abbrev pub stored_inputs : StuckFaults → ℕ → List (ℕ × Datum) → Slots → Run Slots
+stored_inputs stuck_faults at [] vs = give vs
+stored_inputs stuck_faults at (e ∷ es) vs = do
+  us ← attempt stuck_faults (stored_at vs (at + e.0) e.1)
+  stored_inputs stuck_faults at es us
 
 -- the outputs of a block call, copied in written order
 abbrev pub slot_outputs : SlotScope → ℕ → List SlotArgument → Slots → Run Slots
 slot_outputs z at [] vs = give vs
 slot_outputs z at (given o e ∷ rest) vs = slot_outputs z at rest vs
 slot_outputs z at (copied o p ∷ rest) vs = do
-  v ← attempt z.stand_ins (or_failure ill_typed (slice_get vs (at + o)))
+  v ← attempt z.stuck_faults (or_failure ill_typed (slice_get vs (at + o)))
   k ← placed z vs p
-  us ← attempt z.stand_ins (stored_at vs k v)
+  us ← attempt z.stuck_faults (stored_at vs k v)
   slot_outputs z at rest us
 
--- the step of a FOR: 1 where none is written
+-- the step of a FOR: 1 if none is written
 abbrev pub slot_step : SlotScope → Slots → Option SlotExpr → Run ℤ
 slot_step z vs None = give (pos 1)
 slot_step z vs (Some e) = do
@@ -66,33 +66,33 @@ slot_step z vs (Some e) = do
   give v.number
 
 -- the control variable has not passed the limit
-unfoldable pub slot_runs_on : StandIns → ℕ → ℤ → ℤ → Slots → Run Bool
-slot_runs_on stand_ins k limit step vs = do
-  v ← attempt stand_ins (or_failure ill_typed (slice_get vs k))
+unfoldable pub slot_runs_on : StuckFaults → ℕ → ℤ → ℤ → Slots → Run Bool
+slot_runs_on stuck_faults k limit step vs = do
+  v ← attempt stuck_faults (or_failure ill_typed (slice_get vs k))
   give (if int_lt step (pos 0) then int_le limit v.number else int_le v.number limit)
 
--- the values with the control variable one step on, where there is a step
+-- the values with the control variable one step on, if there is a step
 abbrev pub slot_stored : Slots → ℕ → Option Datum → Result (Option Slots) Failure
 slot_stored vs k None = Ok None
 slot_stored vs k (Some v) = proceed (stored_at vs k v) (λ us. Ok (Some us))
 
-unfoldable pub slot_step_on : StandIns → ℕ → ℤ → Slots → Run (Option Slots)
-slot_step_on stand_ins k step vs =
-    attempt stand_ins (proceed (or_failure ill_typed (slice_get vs k)) (λ v. slot_stored vs k (stepped_on step v)))
+unfoldable pub slot_step_on : StuckFaults → ℕ → ℤ → Slots → Run (Option Slots)
+slot_step_on stuck_faults k step vs =
+    attempt stuck_faults (proceed (or_failure ill_typed (slice_get vs k)) (λ v. slot_stored vs k (stepped_on step v)))
 
 -- an assignment evaluates its expression, and then the subscripts of its target
 abbrev pub slot_assigning : SlotScope → Place → SlotExpr → Slots → Run SlotEnd
 slot_assigning z p e vs = do
   x ← slot_value z vs e
   k ← placed z vs p
-  us ← attempt z.stand_ins (stored_at vs k x)
+  us ← attempt z.stuck_faults (stored_at vs k x)
   give (goes_on us)
 
 -- a call of an instance from a slot on: its inputs, its body, its outputs
 abbrev pub slot_invoking : SlotScope → ℕ → BlockCode → List SlotArgument → Slots → Run SlotEnd
 slot_invoking z at code arguments vs = do
   xs ← slot_inputs z vs arguments
-  ts ← stored_inputs z.stand_ins at xs vs
+  ts ← stored_inputs z.stuck_faults at xs vs
   us ← z.units.blocks code at ts
   zs ← slot_outputs z at arguments us
   give (goes_on zs)
@@ -105,8 +105,8 @@ slot_counting z k start limit step body vs = do
   n ← slot_value z vs limit
   d ← slot_step z vs step
   nonzero d
-  us ← attempt z.stand_ins (stored_at vs k i)
-  looped (guarded (slot_runs_on z.stand_ins k n.number d) body) (slot_step_on z.stand_ins k d) us
+  us ← attempt z.stuck_faults (stored_at vs k i)
+  looped (guarded (slot_runs_on z.stuck_faults k n.number d) body) (slot_step_on z.stuck_faults k d) us
 
 abbrev mutual
   pub slot_exec : SlotScope → SlotStmt → Slots → Run SlotEnd
@@ -129,7 +129,7 @@ abbrev mutual
   slot_exec_all z no_stmts vs = give (goes_on vs)
   slot_exec_all z (stmt_then x xs) vs = do
     e ← slot_exec z x vs
-    behind e (slot_exec_all z xs)
+    continue_with e (slot_exec_all z xs)
 
   -- the statements of the first condition that holds, or those after them all
   pub slot_exec_arms : SlotScope → SlotArms → (Slots → Run SlotEnd) → Slots → Run SlotEnd
@@ -138,7 +138,7 @@ abbrev mutual
     go ← slot_truth z e vs
     if go then slot_exec_all z body vs else slot_exec_arms z arms otherwise vs
 
-  -- the statements of the first list with a label that holds the number, or those after them all
+  -- the statements of the first list with a label that matches the number, or those after them all
   pub slot_exec_case : SlotScope → ℤ → SlotCaseArms → (Slots → Run SlotEnd) → Slots → Run SlotEnd
   slot_exec_case z n no_case_arms otherwise vs = otherwise vs
   slot_exec_case z n (case_arm_then labels body arms) otherwise vs =

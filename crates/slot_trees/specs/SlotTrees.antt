@@ -8,7 +8,7 @@ use Rattle.st_types.specs.declared.statement.Label.{Label}
 use Rattle.st_meaning.specs.StandardFunctions.{Standard}
 use Rattle.st_meaning.specs.StandardBlocks.{StandardBlock}
 
--- a slot: so many behind the first one of the unit's own variables, or one of the whole layout
+-- a slot: an offset from the first one of the unit's own variables, or a slot of the whole layout
 pub data Anchor : Type 0 where
   own : ℕ → Anchor
   absolute : ℕ → Anchor
@@ -41,8 +41,8 @@ pub data BlockCode : Type 0 where
   own_block : ℕ → BlockCode
   standard_block : StandardBlock → BlockCode
 
--- an input with its value, or an output with the place that it is copied to; each stands so many slots behind the first
--- one of the instance
+-- an input with its value, or an output with the place that it is copied to; each has its offset from the first slot
+-- of the instance
 pub data SlotArgument : Type 0 where
   given : ℕ → SlotExpr → SlotArgument
   copied : ℕ → Place → SlotArgument
@@ -74,8 +74,8 @@ mutual
     no_case_arms : SlotCaseArms
     case_arm_then : List Label → SlotStmts → SlotCaseArms → SlotCaseArms
 
--- a function: the values of its variables as a call begins, the slots of its inputs in order, the slot of its result,
--- and its body
+-- a function: the values of its variables at the beginning of a call, the slots of its inputs in order, the slot of
+-- its result, and its body
 pub record SlotFunction : Type 0 where
   pub fresh : List Datum
   pub inputs : List ℕ

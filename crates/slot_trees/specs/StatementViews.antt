@@ -1,4 +1,4 @@
--- The slot trees that statements of the code stand for.
+-- The slot trees of the code's statements.
 use Rattle.std.specs.Prelude.{List, map, option_map}
 use Rattle.slot_trees.specs.declared.statement.BlockCode as code_block
 use Rattle.slot_trees.specs.declared.statement.BlockCode.TheVariants as blocks

@@ -1,4 +1,4 @@
--- A worked example: the text of calls, with functions, blocks in a block and externals, and what it is linked to.
+-- A worked example: the text of calls, with functions, blocks in a block and externals, and its linked form.
 use Rattle.std.specs.Prelude.{ℕ, pos, List, [], ◌∷◌, ◌++◌, map, Option, option_map, option_and_then, slice_get}
 use Rattle.st_types.specs.declared.kind.Kind.TheVariants.{Dint, Time, Bool as Boolean}
 use Rattle.st_types.specs.declared.operator.BinaryOperator.TheVariants.{Add}
@@ -15,16 +15,13 @@ use Rattle.slot_trees.specs.SlotTrees.{no_stmts, stmt_then, SlotFunction, SlotLi
 use Rattle.slot_trees.specs.ProgramExample.{constant_of, amount}
 use Rattle.slot_trees.specs.SlotRuns.{slots_ran, slots_in}
 use Rattle.slot_trees.specs.TextLinks.{LinkedText, linked_source}
+use Rattle.slot_trees.specs.Chains.{stmts_of}
 
 abbrev pub slot_place : Anchor → Place
 slot_place a = place a no_subscripts
 
 abbrev pub slot_value_of : Anchor → SlotExpr
 slot_value_of a = load (slot_place a)
-
-abbrev pub stmts : List SlotStmt → SlotStmts
-stmts [] = no_stmts
-stmts (x ∷ xs) = stmt_then x (stmts xs)
 
 -- g := g + 1, where g is the first slot of the layout
 abbrev pub one_more : SlotStmt
@@ -36,7 +33,7 @@ sum_code = record {
   fresh = datum Dint 0 ∷ int 0 ∷ int 0 ∷ int 1 ∷ int 0 ∷ int 3 ∷ datum Boolean 0 ∷ [];
   inputs = 1 ∷ 2 ∷ 6 ∷ [];
   result = 0;
-  body = stmts (assign (slot_place (own 0)) (constant_of (number Dint (pos 4))) ∷ []);
+  body = stmts_of (assign (slot_place (own 0)) (constant_of (number Dint (pos 4))) ∷ []);
 }
 
 abbrev pub twice_code : SlotFunction
@@ -44,12 +41,12 @@ twice_code = record {
   fresh = int 0 ∷ int 0 ∷ [];
   inputs = 1 ∷ [];
   result = 0;
-  body = stmts (assign (slot_place (own 0)) (binary Add (slot_value_of (own 1)) (slot_value_of (own 1))) ∷ []);
+  body = stmts_of (assign (slot_place (own 0)) (binary Add (slot_value_of (own 1)) (slot_value_of (own 1))) ∷ []);
 }
 
 -- Outer has a from 0 on, a timer from 2 on, and p in 8; Acc is the block 1, and Twice the function 1
 abbrev pub outer_code : SlotStmts
-outer_code = stmts (
+outer_code = stmts_of (
     invoke (own 0) (own_block 1) (given 0 (amount 3) ∷ [])
     ∷ assign (slot_place (own 8)) (call 1 (expr_then (slot_value_of (own 1)) no_exprs))
     ∷ one_more
@@ -57,11 +54,11 @@ outer_code = stmts (
 
 abbrev pub acc_code : SlotStmts
 acc_code =
-    stmts (assign (slot_place (own 1)) (binary Add (slot_value_of (own 1)) (slot_value_of (own 0))) ∷ [])
+    stmts_of (assign (slot_place (own 1)) (binary Add (slot_value_of (own 1)) (slot_value_of (own 0))) ∷ [])
 
 -- a program has o from a slot on, and x nine slots further
 abbrev pub main_code : ℕ → ℕ → SlotStmts
-main_code o x = stmts (
+main_code o x = stmts_of (
     invoke (absolute o) (own_block 0) (copied 8 (slot_place (absolute x)) ∷ [])
     ∷ one_more
     ∷ [])
@@ -73,7 +70,7 @@ its_library = record { functions = sum_code ∷ twice_code ∷ []; blocks = oute
 abbrev pub its_link : LinkedText
 its_link = record { library = its_library; programs = main_code 2 11 ∷ main_code 12 21 ∷ [] }
 
--- values of an instance's slots: of a the step and the total, the timer's six members, p, and x
+-- values of an instance's slots: the step and the total of a, the timer's six members, p, and x
 abbrev pub instance_values : ℕ → ℕ → ℕ → ℕ → List Datum
 instance_values step total p x =
     int step ∷ int total
@@ -83,7 +80,7 @@ instance_values step total p x =
 abbrev pub its_values : ℕ → List Datum → List Datum → List Datum
 its_values g first second = int g ∷ int 0 ∷ first ++ second
 
--- the values that a run of a text's first program leaves, over its linked form
+-- the values after a run of a text's first program, over its linked form
 abbrev pub first_run : Source → ℕ → ℕ → List Datum → Option (List Datum)
 first_run source now budget vs = option_and_then
     (λ l. option_map (λ body. slots_in (slots_ran in_runs l.library 0 body now budget vs budget) vs)

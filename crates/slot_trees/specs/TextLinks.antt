@@ -1,5 +1,5 @@
 -- The linked form of a whole text: its functions and blocks once each, and the body of each program's instance. None
--- stands where a body is not linked.
+-- if a body is not linked.
 use Rattle.std.specs.Prelude.{ℕ, List, [], ◌∷◌, ◌++◌, Option, Some, None, option_map, option_and_then}
 use Rattle.st_types.specs.declared.path.Owner.{Owner}
 use Rattle.st_types.specs.declared.configuration.Instance.{Instance}
@@ -27,7 +27,7 @@ use Rattle.slot_trees.specs.BlockTables.{block_symbols}
 use Rattle.slot_trees.specs.FunctionTables.{function_symbols}
 use Rattle.slot_trees.specs.TextNumbers.{members_of_block, numbers_of}
 
--- one more in front of a list, where both are there
+-- one more element before a list, if both exist
 abbrev pub linked_then : {A : Type 0} → Option A → Option (List A) → Option (List A)
 linked_then x rest = option_and_then (λ y. option_map (λ ys. y ∷ ys) rest) x
 
@@ -36,12 +36,12 @@ abbrev pub names_in : List VariableBlock → List Name
 names_in [] = []
 names_in (b ∷ bs) = declared_names b.declarations ++ names_in bs
 
--- a body of the text, by what its names stand for
+-- a body of the text, by the meanings of its names
 abbrev pub linked_body : Declared → List Symbol → Body → Option SlotStmts
 linked_body text symbols body =
     linked_stmts (table_of (numbers_of text) symbols body.instances) body.statements
 
--- the variables of a function's call: its result and all others; and what its names stand for
+-- the variables of a function's call: its result and all others; and the meanings of its names
 abbrev pub sites_of_call : SimpleType → OrganisationUnit → List NamedSite
 sites_of_call t u = result_site t u.name.name ∷ sites_of_blocks u.blocks
 
@@ -149,7 +149,7 @@ abbrev pub linked_programs : Declared → List Owned → Option Configuration �
 linked_programs text vs None = Some []
 linked_programs text vs (Some c) = linked_resources text vs c.resources
 
--- a linked text: what its programs call, and the programs of its instances in the order of its configuration
+-- a linked text: the functions and blocks, and the programs of its instances in the order of its configuration
 pub record LinkedText : Type 0 where
   pub library : SlotLibrary
   pub programs : List SlotStmts
@@ -161,6 +161,6 @@ abbrev pub linked_text : Declared → List Owned → Option Configuration → Op
 linked_text text vs c =
     option_and_then (λ library. option_map (text_with library) (linked_programs text vs c)) (linked_library text vs)
 
--- of a text, all of it over the literals as they are resolved
+-- of a text whose literals are all resolved
 abbrev pub linked_source : Source → Option LinkedText
 linked_source source = linked_text (declared_of source) (layout_variables source) (configuration_of source)

@@ -13,7 +13,7 @@ use Rattle.slot_trees.specs.SlotTrees.{BlockCode, own_block, standard_block}
 use Rattle.slot_trees.specs.Tables.{named_in}
 use Rattle.slot_trees.specs.LinkedTexts.{Numbers, parts_of_members}
 
--- names with their positions, where the first one has this number
+-- names with their positions, if the first one has this number
 abbrev pub numbered_from : ℕ → List Name → List (Name × ℕ)
 numbered_from n [] = []
 numbered_from n (x ∷ xs) = (x, n) ∷ numbered_from (suc n) xs
@@ -74,7 +74,7 @@ numbers_of text = record {
   members = standard_members ++ own_members text text.units;
 }
 
--- the block of a name, where this is the standard one: else one of the text
+-- the block of a name: this standard one, or else one of the text
 abbrev pub code_named : Declared → Name → Option StandardBlock → Option BlockCode
 code_named text x (Some k) = Some (standard_block k)
 code_named text x None = option_map own_block (named_in (numbered_from 0 (block_names text.units)) x)

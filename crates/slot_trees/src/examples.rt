@@ -20,8 +20,8 @@ ghost use Rattle.slot_trees.specs.SlotTrees.{own, load, place, no_subscripts, su
 ghost use Rattle.slot_trees.specs.Linking.{linked, linked_target};
 ghost use Rattle.slot_trees.specs.LinkExamples.{indexed_table};
 
-/// A[I].X begins one slot behind A's first, and goes on by two slots an element. A name that is not there has no place,
-/// nor has an array.
+/// A[I].X begins one slot after A's first, and takes two slots more for each element. An unknown name has no place, nor
+/// has an array.
 pub fn places_are_linked()
     ensures whole { linked_target indexed_table (variable (identifier (codes "A"))
         (selectors_of (subscript (name (codes "I")) ∷ member (identifier (codes "X")) ∷ [])))
@@ -30,8 +30,8 @@ pub fn places_are_linked()
     ensures array { linked indexed_table (read (target (codes "A"))) ≡ None }
 {}
 
-/// A program of elements, a timer and a loop is linked by the table that its declarations make. Its slots hold after a
-/// run what its variables would; a subscript that is out of bounds is F3.
+/// A program of elements, a timer and a loop is linked by the table of its declarations. After a run its slots hold the
+/// values that its variables would; a subscript that is out of bounds is F3.
 pub fn a_linked_program()
     ensures link { IsProgramLink its_layout its_program 0 no_units its_code }
     ensures run { slots_ran in_runs no_units 0 its_code 5 9 (values_of 4 2 3 0 0) 9
@@ -51,7 +51,7 @@ pub fn a_linked_text()
 {}
 
 /// So is a text over elements and fields, with an enumerated type, a block, a timer, a function and an input of the
-/// plant. A run of it leaves what one over paths does, and what it had where the ticks are too few.
+/// plant. A run of it leaves the same values as one over paths, and the old ones if there are too few ticks.
 pub fn a_linked_text_over_parts()
     ensures run { first_run text_of_parts 5 13 (values_of_parts 5 (0 ∷ 2 ∷ 0 ∷ 1 ∷ []) 0 0 2 10 (timer_values 0 0 0 0))
         ≡ Some (values_of_parts 24 (0 ∷ 2 ∷ 2 ∷ 1 ∷ []) 3 12 2 12 (timer_values 1 10 1 5)) }

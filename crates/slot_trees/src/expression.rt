@@ -10,7 +10,7 @@ use st_types::{BinaryOperator, Literal, UnaryOperator};
 use std::alloc::{AllocError, Global};
 use symbols::Standard;
 
-/// A slot: so many behind the first one of the unit's own variables, or one of the whole layout.
+/// A slot: an offset from the first one of the unit's own variables, or a slot of the whole layout.
 #[derive(Clone, Copy, Debug, PartialEq, Eq)]
 pub enum Anchor {
     Own(usize),

@@ -5,7 +5,7 @@ use st_types::Value;
 
 /// A function.
 pub struct SlotFunction {
-    /// The values of its variables as a call begins.
+    /// The values of its variables at the beginning of a call.
     pub fresh: Vec<Value>,
     /// The slots of its inputs, in order.
     pub inputs: Vec<usize>,
@@ -26,7 +26,7 @@ impl Drop for SlotFunction {
 }
 
 /// The functions, and the bodies of the blocks, by their numbers. None stands for one whose own variables take more
-/// slots than any layout has room for: no program has room for it.
+/// slots than any layout has room for: no program can have it.
 pub struct SlotLibrary {
     pub functions: Vec<Option<SlotFunction>>,
     pub blocks: Vec<Option<Vec<SlotStmt>>>,

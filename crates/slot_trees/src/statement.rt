@@ -18,7 +18,7 @@ pub enum BlockCode {
     Standard(StandardBlock),
 }
 
-/// An argument of a block call; its member stands so many slots behind the first one of the instance.
+/// An argument of a block call; its member has an offset from the first slot of the instance.
 pub enum SlotArgument {
     /// An input with its value.
     Given(usize, SlotExpr),
@@ -41,16 +41,16 @@ pub enum SlotStmt {
     Assign(Place, SlotExpr),
     /// A call of a block: the first slot of the instance, the block, the arguments.
     Invoke(Anchor, BlockCode, Vec<SlotArgument>),
-    /// IF with its ELSIFs, and what stands after ELSE.
+    /// IF with its ELSIFs, and the statements after ELSE.
     If(Vec<SlotArm>, Vec<SlotStmt>),
-    /// CASE over a selector, and what stands after ELSE.
+    /// CASE over a selector, and the statements after ELSE.
     Case(SlotExpr, Vec<SlotCaseArm>, Vec<SlotStmt>),
     For {
         /// The slot of the control variable.
         control: Anchor,
         start: SlotExpr,
         limit: SlotExpr,
-        /// What stands after BY.
+        /// The expression after BY.
         step: Option<SlotExpr>,
         body: Vec<SlotStmt>,
     },

@@ -1,4 +1,4 @@
--- Codes are told apart by their texts.
+-- Codes are distinguished by their texts.
 use Rattle.std.proofs.Common.{◌≡◌, ◌∙◌, ℕ, List, [], ◌∷◌, Option, Some, refl, sym, ap, find, bytes_eq}
 use Rattle.source_run.specs.declared.code.Code.{Code}
 use Rattle.source_run.specs.declared.code.Code.TheVariants as told

@@ -7,7 +7,7 @@ use Rattle.st_meaning.specs.declared.plan.PlanVariable.{PlanVariable}
 use Rattle.st_meaning.specs.Layouts.{Enumerations}
 use Rattle.source_run.specs.Reports.{variables_text}
 
--- no line is left where the shorter list ends
+-- no line is left if the shorter list ends
 none_left : (types : Enumerations) (vs : List PlanVariable) (ds : List Datum) (n : ℕ) → n ≡ min (length vs) (length ds)
     → variables_text types (drop n vs) (drop n ds) ≡ []
 none_left types [] ds n end = ap (λ k. variables_text types (drop k []) (drop k ds)) (there ds n end)

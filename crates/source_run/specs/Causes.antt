@@ -1,4 +1,4 @@
--- The code of each cause that ends a job, and the place in the source that is told with it.
+-- The code of each cause that ends a job, and the place in the source that is reported with it.
 use Rattle.std.specs.Prelude.{ℕ, Option, Some, None}
 use Rattle.st_lex.specs.declared.fault.LexFault.{LexFault}
 use Rattle.st_lex.specs.declared.fault.LexFault.TheVariants as words
@@ -87,7 +87,7 @@ abbrev pub code_of_layout : LayoutError → Code
 code_of_layout layouts.TooLarge = M1
 code_of_layout layouts.OutOfMemory = M3
 
--- that a tree is not linked is told of no text
+-- no text gets the error that a tree is not linked
 abbrev pub code_of_code : CompileError → Code
 code_of_code coding.TooManyPlaces = M1
 code_of_code coding.TooManyInstructions = M2
@@ -157,7 +157,7 @@ code_of (faults.Trace error) = code_of_trace error
 code_of (faults.Start fault) = code_of_start fault
 code_of (faults.Run fault) = code_of_run fault
 
--- the place in the source, counted in bytes from 0, where one is told
+-- the place in the source, counted in bytes from 0, if one is reported
 
 abbrev pub place_of_words : LexError → Option ℕ
 place_of_words (lexing.Fault fault place) = Some place

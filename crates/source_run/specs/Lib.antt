@@ -6,7 +6,7 @@ pub mod Runs
 pub mod Settling
 pub mod Sources
 pub mod Statuses
-pub mod ToldCodes
+pub mod ListedCodes
 pub mod Spelling
 pub mod Codes
 pub mod Causes

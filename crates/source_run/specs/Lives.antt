@@ -1,4 +1,4 @@
--- What is told of a life.
+-- The report of a life.
 use Rattle.std.specs.Prelude.{◌≡◌, ℕ, List, map, Option, None}
 use Rattle.std.specs.Vec.{vec_items}
 use Rattle.st_types.specs.Values.{Datum}
@@ -11,17 +11,13 @@ use Rattle.commit_lock.specs.Replays.{AreFindings}
 use Rattle.source_run.specs.declared.report.Counts.{Counts}
 use Rattle.source_run.specs.Reports.{report_text}
 
--- what a life was started with
-abbrev pub start_of : State → Start
-start_of life = record { store = life.start; moment = life.before }
-
 -- the counts of a life that was run again
 abbrev pub counts_of : Replayed → Counts
 counts_of found =
     record { rows = found.rows; done = found.done; faults = found.faults; overruns = found.overruns; acked = None }
 
--- The report of a life with this start and this log: its counts, how many entries are acknowledged where that is told,
--- and the values of the variables after the log.
+-- The report of a life with this start and this log: its counts, how many entries are acknowledged if that is reported, and
+-- the values of the variables after the log.
 pub record IsReport (plan : Plan) (start : Start) (log : Log) (acked : Option ℕ) (text : List ℕ) : Type 0 where
   pub counts : Counts
   pub values : List Datum

@@ -12,7 +12,7 @@ use Rattle.source_run.specs.declared.report.Counts.{Counts}
 abbrev pub count_line : List ℕ → ℕ → List ℕ
 count_line name n = name ++ codes " " ++ decimal n ++ 10 ∷ []
 
--- the line of what is acknowledged, where it is told
+-- the line of the number acknowledged, if it is reported
 abbrev pub acked_line : Option ℕ → List ℕ
 acked_line None = []
 acked_line (Some n) = count_line (codes "acked") n

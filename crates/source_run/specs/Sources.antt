@@ -20,8 +20,8 @@ pub record IsPlanIn (text : List ℕ) (budget : ℕ) (plan : Plan) : Type 0 wher
 abbrev pub IsUnread : Fault → Type 0
 IsUnread fault = (fault ≡ faults.Source) ⊎ (fault ≡ faults.Build errors.Memory)
 
--- The source can't be read, of which files tell nothing, so X1 is not held to it; or the number of a text without a
--- plan applies to it.
+-- The source can't be read: nothing is known of files, so nothing is claimed of X1; or the number of a text without a plan
+-- applies to it.
 abbrev pub RefusesSource : ℕ → Fault → Type 0
 RefusesSource budget faults.Source = Unit {0}
 RefusesSource budget (faults.Build e) = (text : List ℕ) × TextLacksPlan text budget e

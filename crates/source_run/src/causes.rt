@@ -231,7 +231,7 @@ fn place_of_build(error: BuildError) -> Option<usize>
     }
 }
 
-/// The place in the source that is told with a fault, counted in bytes from 0; none where none is told.
+/// The place in the source that is reported with a fault, if there is one, counted in bytes from 0.
 pub fn place_of(fault: Fault) -> Option<usize>
     ensures { result ≡ causes.place_of fault }
 {

@@ -2,7 +2,7 @@
 
 ghost use Rattle.std.specs.Prelude.{◌≡◌, find, is_some, true};
 ghost use Rattle.source_run.specs.Codes.{code_text};
-ghost use Rattle.source_run.specs.ToldCodes.{codes_like, is_code};
+ghost use Rattle.source_run.specs.ListedCodes.{codes_like, is_code};
 
 /// A code that a refusal shows. `plant explain CODE` says what it means.
 #[derive(Clone, Copy, Debug, PartialEq, Eq)]
@@ -18,7 +18,7 @@ pub enum Code {
     P1,
     P2,
     P3,
-    // Rules on names and types, and C12 want of memory.
+    // Rules on names and types, and C12 out of memory.
     C1,
     C2,
     C3,
@@ -154,7 +154,7 @@ impl Code {
 }
 
 /// No two codes are written alike. A law.
-pub fn codes_are_told_apart()
+pub fn codes_are_distinct()
     ensures { (a b : Code) → code_text a ≡ code_text b → a ≡ b }
 {}
 

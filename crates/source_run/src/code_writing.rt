@@ -10,24 +10,24 @@ use crate::entry::{Example, Explanation, Frame, Status};
 use std::io;
 use std::io::Write;
 
-/// Where the lines of an example stand, as words behind its code.
+/// The place of the lines of an example, as words after its code.
 fn frame_words(frame: Frame) -> &'static str
     ensures { result.now ≡ frame_text frame }
 {
     match frame {
-        Frame::Text => "as a whole text",
+        Frame::Text => "as a whole source",
         Frame::Units => "before a configuration that runs the program Main",
         Frame::Statements => "in the program Main, where n is an INT",
         Frame::Globals => "in a configuration, before its resources",
         Frame::Resource => "in a resource with the task Cycle, for the program Main",
-        Frame::Plant => "as the plant of a text without inputs",
+        Frame::Plant => "as the plant of a source without inputs",
         Frame::Trace => "in the trace of one program over rows at 0, 10 and 20",
         Frame::Command => "on the command line",
-        Frame::ShortMemory => "on the command line, where memory runs out just then",
+        Frame::ShortMemory => "on the command line, if memory runs out just then",
     }
 }
 
-/// The exit status and what it says, with LF.
+/// The exit status and its meaning, with LF.
 #[tactic(auto, unfolding(crate::specs::Spelling::status_text))]
 fn status_line(status: Status) -> &'static str
     ensures { result.now ≡ status_text status }
@@ -37,18 +37,18 @@ fn status_line(status: Status) -> &'static str
             "Exit status 2: the source is refused; plant and retain file were not opened.\n",
         Status::Plant => "Exit status 3: the plant is refused; the retain file was not opened.\n",
         Status::Trace =>
-            "Exit status 3: the trace is refused, or it was not written after a run that ended well.\n",
+            "Exit status 3: the trace is refused, or a successful run could not write it.\n",
         Status::Start => {
-            "Exit status 4: the start is refused; what the retain file kept is kept, but where the device failed.\n"
+            "Exit status 4: the start is refused; the retain file keeps its values, unless the device failed.\n"
         }
-        Status::Run => "Exit status 5: the run is refused; what was acknowledged is kept.\n",
+        Status::Run => "Exit status 5: the run is refused; everything acknowledged is kept.\n",
         Status::Execution => {
-            "Exit status 0: one execution ended and wrote nothing; the run went on, and the report counts it.\n"
+            "Exit status 0: one execution failed and wrote nothing; the run went on, and the report counts it.\n"
         }
     }
 }
 
-/// Writes each line with these words before it, and LF behind it.
+/// Writes each line with these words before it, and LF after it.
 fn write_lines<W: Write>(out: &mut W, before: &str, lines: &[&str]) -> io::Result<()>
     ensures { OnOk result (Appends (W.contents out.old) (W.contents out.new) (lines_text before.now lines.now)) }
 {
@@ -74,7 +74,7 @@ fn before_right() -> &'static str
     "This is right:\n"
 }
 
-/// Writes what gives a code, before the lines that do.
+/// Writes the line that says which code comes, before the lines that give it.
 fn write_gives<W: Write>(out: &mut W, code: &str, frame: Frame) -> io::Result<()>
     ensures { OnOk result (Appends (W.contents out.old) (W.contents out.new) (gives_line code.now frame)) }
 {
@@ -111,7 +111,7 @@ fn write_both<W: Write>(out: &mut W, code: &str, example: &Example) -> io::Resul
     write_right(out, example)
 }
 
-/// Writes the example of a code, where there is one.
+/// Writes the example of a code, if there is one.
 #[tactic(auto, unfolding(crate::specs::Spelling::example_text))]
 fn write_example<W: Write>(out: &mut W, code: &str, example: &Option<Example>) -> io::Result<()>
     ensures { OnOk result (Appends (W.contents out.old) (W.contents out.new) (example_text code.now example.now)) }
@@ -133,7 +133,7 @@ fn write_title<W: Write>(out: &mut W, entry: &Explanation) -> io::Result<()>
     out.write_all(b"\n")
 }
 
-/// Writes what is told of a code: its title, what it means, an example, and the exit status of a command that tells it.
+/// Writes the explanation of a code: its title, its meaning, an example, and the exit status of a command that reports it.
 pub fn write_explanation<W: Write>(out: &mut W, entry: &Explanation) -> io::Result<()>
     ensures { OnOk result (Appends (W.contents out.old) (W.contents out.new) (explanation_text entry.now)) }
 {

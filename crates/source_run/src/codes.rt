@@ -1,7 +1,7 @@
 //! The codes, by their letters.
 
 ghost use Rattle.std.specs.Prelude.{◌≡◌, map};
-ghost use Rattle.source_run.specs.ToldCodes.{code_of, codes_with};
+ghost use Rattle.source_run.specs.ListedCodes.{code_bytes, codes_with};
 
 mod configurations;
 mod cores;
@@ -32,9 +32,9 @@ use threads::thread_codes;
 use traces::trace_codes;
 use words::word_codes;
 
-/// What is told of the codes with this letter, in upper case.
+/// The explanations of the codes with this letter, in upper case.
 pub fn explanations(letter: u8) -> &'static [Explanation]
-    ensures { map code_of result.now ≡ codes_with letter }
+    ensures { map code_bytes result.now ≡ codes_with letter }
 {
     match letter {
         b'L' => word_codes(),

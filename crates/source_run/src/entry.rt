@@ -1,6 +1,6 @@
-//! What is told of a code.
+//! The explanation of a code.
 
-/// Where the lines of an example stand.
+/// The place of the lines of an example.
 #[derive(Clone, Copy, Debug, PartialEq, Eq)]
 pub enum Frame {
     /// They are a whole text.
@@ -17,9 +17,9 @@ pub enum Frame {
     Plant,
     /// A line in the trace of one program over rows at 0, 10 and 20.
     Trace,
-    /// Command lines, beside a text, a plant and a plant with later rows.
+    /// Command lines, next to a text, a plant and a plant with later rows.
     Command,
-    /// A command line, where memory runs out just then.
+    /// A command line during which memory runs out.
     ShortMemory,
 }
 
@@ -31,7 +31,7 @@ pub struct Example {
     pub right: &'static [&'static str],
 }
 
-/// What the exit status says of a command that told a code.
+/// The meaning of the exit status of a command that reported a code.
 #[derive(Clone, Copy, Debug, PartialEq, Eq)]
 pub enum Status {
     /// 2: the source is refused.
@@ -48,16 +48,16 @@ pub enum Status {
     Execution,
 }
 
-/// What is told of a code.
+/// The explanation of a code.
 #[derive(Clone, Copy, Debug, PartialEq, Eq)]
 pub struct Explanation {
     /// Its letter, in upper case, and its number.
     pub code: &'static str,
-    /// When it is told, in a line.
+    /// When it is reported, in a line.
     pub title: &'static str,
-    /// What it means, a sentence or two in a line.
+    /// Its meaning, a sentence or two in a line.
     pub meaning: &'static [&'static str],
-    /// None of a code that no command is known to tell.
+    /// None for a code that no command is known to report.
     pub example: Option<Example>,
     pub status: Status,
 }

@@ -9,7 +9,7 @@ use image::PlantError;
 use run_lock::RunFault;
 use std::alloc::{AllocError, AllocFailed};
 
-/// Why a job ends early. What is told of it goes by its code (`source_run`).
+/// Why a job ends early. The report of it goes by its code (`source_run`).
 #[derive(Clone, Copy, Debug, PartialEq, Eq)]
 pub enum Fault {
     /// The source can't be read.
@@ -22,7 +22,7 @@ pub enum Fault {
     Trace(ReplayError),
     /// No life was started.
     Start(StartFault),
-    /// The run was stopped, or memory was wanted outside it.
+    /// The run was stopped, or memory ran out outside it.
     Run(RunFault),
 }
 
@@ -32,7 +32,7 @@ impl Fault {
     /// Out of memory in a run, or while its words are read or its report is made.
     pub const NO_MEMORY: Fault = Fault::Run(RunFault::NO_MEMORY);
 
-    /// The exit status that tells of it: 2 for the source, 3 for a plant or a trace, 4 for the start, 5 for the run.
+    /// The exit status for it: 2 for the source, 3 for a plant or a trace, 4 for the start, 5 for the run.
     pub fn status(self) -> u8
         ensures { result ≡ status_of self }
     {

@@ -12,20 +12,20 @@ pub trait Files {
 
     type Disk: Disk + Drop + Send;
 
-    /// Whether two names lead to one file, where both are there and the system tells.
+    /// Whether two names lead to the same file, if both are there and the system says so.
     fn is_one_file(&mut self, one: &str, other: &str) -> bool;
 
-    /// Whether the standard error is a terminal, as far as the system tells.
+    /// Whether the standard error is a terminal, as far as the system says.
     fn is_terminal(&mut self) -> bool;
 
-    /// A file that is there, to be read.
+    /// An existing file, to be read.
     fn read(&mut self, name: &str) -> io::Result<Self::Reader>;
 
-    /// A new file, or an old one made empty, to be written; none where it can't be.
+    /// A new file, or an old one made empty, to be written; none if it can't be.
     fn create(&mut self, name: &str) -> Option<Self::Writer>;
 
-    /// The disk over a retain file, which is made empty where it isn't there; none where it can't be opened, or
-    /// another run has it.
+    /// The disk over a retain file, which is created empty if it isn't there; none if it can't be opened, or another run has
+    /// it.
     fn store(&mut self, name: &str) -> Option<Self::Disk>;
 
     /// Takes a disk back when its life has ended.

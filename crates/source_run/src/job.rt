@@ -1,11 +1,11 @@
-//! What a command line asks for.
+//! The job that a command line asks for.
 
 ghost use Rattle.std.specs.Prelude.{◌≡◌};
 
-/// The budget of an execution in ticks where none is given.
+/// The budget of an execution in ticks if none is given.
 pub const DEFAULT_BUDGET: u32 = 10_000;
 
-/// `DEFAULT_BUDGET` in decimal digits, as a command line has it.
+/// `DEFAULT_BUDGET` in decimal digits, as a command line spells it.
 pub const DEFAULT_BUDGET_TEXT: &str = "10000";
 
 /// The budget is this number. A law.
@@ -31,10 +31,10 @@ pub enum Pace {
     Free,
 }
 
-/// The machine that programs run by.
+/// The machine that programs are to run by.
 #[derive(Clone, Copy, Debug, PartialEq, Eq)]
-pub enum Machine {
-    /// Quick code where there is some, and the machine on values where that cannot tell how a run ends.
+pub enum AskedMachine {
+    /// Quick code if there is some, and the machine on values if quick code cannot predict how a run ends.
     Quick,
     /// The machine on values alone, to compare the two.
     Values,
@@ -50,9 +50,9 @@ pub struct RunJob<'a> {
     /// How many ticks an execution may take, as the words say: any number of 32 bits.
     pub budget: u32,
     pub pace: Pace,
-    pub machine: Machine,
+    pub machine: AskedMachine,
     pub trace: Option<&'a str>,
-    /// Whether it is told by which machine the runs went.
+    /// Whether the number of runs by each machine is reported.
     pub stats: bool,
     /// Whether a fault is explained.
     pub explain: bool,
@@ -61,7 +61,7 @@ pub struct RunJob<'a> {
 impl RunJob<'_> {
     ghost use Rattle.source_run.specs.Jobs.{has_own_store};
 
-    /// Whether the retain file is, by its name, no other file of the run.
+    /// Whether the name of the retain file differs from that of each other file of the run.
     pub fn has_own_store(&self) -> bool
         ensures { result ≡ has_own_store self.now }
     {
@@ -91,14 +91,14 @@ pub struct CheckJob<'a> {
     pub explain: bool,
 }
 
-/// What is shown of a retain file.
+/// The part of a retain file that is shown.
 #[derive(Clone, Copy, Debug, PartialEq, Eq)]
 pub enum View<'a> {
     /// The last record.
     Last,
     /// Both areas, one after the other.
     Both,
-    /// What a warm start of this source would make of it.
+    /// The effect of a warm start of this source.
     Against(&'a str),
 }
 
@@ -115,9 +115,9 @@ pub struct PlotJob<'a> {
     pub source: &'a str,
     pub plant: &'a str,
     pub trace: &'a str,
-    /// The file for the picture; the standard output where none is given.
+    /// The file for the picture; the standard output if none is given.
     pub picture: Option<&'a str>,
-    /// The paths of the variables that it shows; where there are none, those that come first.
+    /// The paths of the variables that it shows; if there are none, the first variables are shown.
     pub paths: Vec<&'a str>,
 }
 
@@ -136,7 +136,7 @@ impl Drop for PlotJob<'_> {
 impl PlotJob<'_> {
     ghost use Rattle.source_run.specs.Jobs.{has_own_picture};
 
-    /// Whether the file for the picture is, by its name, none that is read.
+    /// Whether the name of the file for the picture differs from that of each file that is read.
     pub fn has_own_picture(&self) -> bool
         ensures { result ≡ has_own_picture self.now }
     {
@@ -149,7 +149,7 @@ impl PlotJob<'_> {
     }
 }
 
-/// What a command line asks for. Files go by their names.
+/// The job that a command line asks for. Files go by their names.
 #[derive(Debug)]
 pub enum Job<'a> {
     /// The built-in configuration.
@@ -159,7 +159,7 @@ pub enum Job<'a> {
     Replay(ReplayJob<'a>),
     Show(ShowJob<'a>),
     Plot(PlotJob<'a>),
-    /// What a code means.
+    /// The meaning of a code.
     Explain { code: &'a str },
 }
 

@@ -1,4 +1,4 @@
-//! What a warm start over a record of another layout takes over.
+//! The values that a warm start takes over from a record of another layout.
 
 ghost use Rattle.std.specs.Prelude.{◌≡◌, IfErr, IfOk, None, Ok};
 ghost use Rattle.retain_store.specs.Recovered.{recovered};
@@ -12,7 +12,7 @@ use retain_show::{Changes, changes_against};
 use retain_store::{FILE_BYTES, StoreFault};
 use std::alloc::Global;
 
-/// The bytes of a retain file; S1 where it is too long, S3 where it can't be read, S5 out of memory.
+/// The bytes of a retain file; S1 if it is too long, S3 if it can't be read, S5 out of memory.
 fn bytes_of<D: Disk>(alloc: Global, disk: &mut D) -> Result<Vec<u8>, StoreFault>
     ensures bytes { D.tells → IfOk result (λ file. file.items ≡ D.seen disk.old) }
     ensures refused { D.tells → IfErr result (λ fault. RefusesFor fault (recovered (D.seen disk.old))) }
@@ -29,10 +29,10 @@ fn bytes_of<D: Disk>(alloc: Global, disk: &mut D) -> Result<Vec<u8>, StoreFault>
     Ok(file)
 }
 
-/// How many variables a start of the plan carries over from a retain file and how many not; none where the start is
-/// cold, or the file has no record of another layout text. The file stays as it is.
+/// How many variables a start of the plan carries over from a retain file and how many not; none if the start is cold, or
+/// the file has no record of another layout text. The file stays as it is.
 ///
-/// S1 where it is too long, S2 where it is damaged, S3 where it can't be read, S5 out of memory.
+/// S1 if it is too long, S2 if it is damaged, S3 if it can't be read, S5 out of memory.
 pub(crate) fn changes_by<D: Disk>(
     alloc: Global,
     plan: &Plan,
@@ -54,8 +54,8 @@ pub(crate) fn changes_by<D: Disk>(
     }
 }
 
-/// Tells them in one line on the standard error.
-pub(crate) fn tell<R: Eprint>(rt: &R, changes: &Changes) {
+/// Reports them in one line on the standard error.
+pub(crate) fn report_changes<R: Eprint>(rt: &R, changes: &Changes) {
     let Changes {
         carried,
         new,
@@ -63,6 +63,6 @@ pub(crate) fn tell<R: Eprint>(rt: &R, changes: &Changes) {
         dropped,
     } = *changes;
     let _ = eprintln!(rt;
-        "the retain file has another layout: {carried} carried, {new} new, {retyped} retyped, {dropped} dropped"
+        "the retain file has a different layout: {carried} carried, {new} new, {retyped} retyped, {dropped} dropped"
     );
 }

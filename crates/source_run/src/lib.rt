@@ -1,8 +1,8 @@
-//! What a command line asks for, what `plant run` does over any files, and each code that a job may end with: what it
-//! means, the fault that it stands for, and the line that reports it.
+//! The jobs of command lines, the work of `plant run` over any files, and each code that a job may end with: its meaning,
+//! the fault for which it stands, and the line that reports it.
 //!
-//! It owns the order of source, plant, start, run, trace and report, and the exit status of each fault. `docs/CODES.md`
-//! has the codes under the same titles (`tests/explanations.py`).
+//! This crate owns the order of source, plant, start, run, trace and report, and the exit status of each fault.
+//! `docs/CODES.md` has the codes under the same titles (`tests/explanations.py`).
 #![tactic(auto)]
 
 mod causes;
@@ -27,7 +27,7 @@ mod tracing;
 mod writing;
 
 pub use causes::{code_of, place_of};
-pub use code::{Code, codes_are_told_apart, each_code_is_explained};
+pub use code::{Code, codes_are_distinct, each_code_is_explained};
 pub use code_writing::write_explanation;
 pub use codes::explanations;
 pub use entry::{Example, Explanation, Frame, Status};
@@ -35,8 +35,8 @@ pub use fault::Fault;
 pub use files::Files;
 pub use finding::{explanation, title};
 pub use job::{
-    CheckJob, DEFAULT_BUDGET, DEFAULT_BUDGET_TEXT, Job, Machine, Pace, PlotJob, ReplayJob, RunJob,
-    ShowJob, Start, View, default_of_a_budget,
+    AskedMachine, CheckJob, DEFAULT_BUDGET, DEFAULT_BUDGET_TEXT, Job, Pace, PlotJob, ReplayJob,
+    RunJob, ShowJob, Start, View, default_of_a_budget,
 };
 pub use life::report_of;
 pub use line::write_fault;

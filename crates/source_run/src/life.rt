@@ -1,10 +1,11 @@
-//! What is told of a life.
+//! The report of a life.
 
 ghost use Rattle.std.specs.Prelude.{◌≡◌, IfOk, Some, option_map, slice_get, unwrap_or, false, count_by};
 ghost use Rattle.st_meaning.specs.Logs.{IsLegal, outcomes_of, row_count, done_count};
 ghost use Rattle.plan.specs.PlanViews.{plan_view};
 ghost use Rattle.commit_lock.specs.Replays.{HasOverrunsInAll, is_faulted};
-ghost use Rattle.source_run.specs.Lives.{IsReport, start_of};
+ghost use Rattle.source_run.specs.Lives.{IsReport};
+ghost use Rattle.durable_core.specs.Starting.{start_in};
 
 use crate::report::{Counts, report_with};
 use disk::Disk;
@@ -40,7 +41,7 @@ fn faults<D: Disk>(core: &Core<D>) -> usize
 
 /// How often a program of the plan was due while it still waited, up to the greatest number of 64 bits.
 fn overruns<D: Disk>(core: &Core<D>) -> u64
-    ensures { HasOverrunsInAll core.now.state.plan (start_of core.now.state) core.now.state.log result }
+    ensures { HasOverrunsInAll core.now.state.plan (start_in core.now.state) core.now.state.log result }
 {
     let mut overruns = 0u64;
     for program in 0..core.plan().programs() {
@@ -55,7 +56,7 @@ fn counts<D: Disk>(core: &Core<D>) -> Counts
     ensures done { result.done ≡ done_count core.now.state.log }
     ensures faults { result.faults
         ≡ count_by is_faulted (outcomes_of (plan_view core.now.state.plan) core.now.state.start core.now.state.log) }
-    ensures overruns { HasOverrunsInAll core.now.state.plan (start_of core.now.state) core.now.state.log
+    ensures overruns { HasOverrunsInAll core.now.state.plan (start_in core.now.state) core.now.state.log
         result.overruns }
     ensures acked { result.acked ≡ Some core.now.acked }
     ensures legal { IsLegal (plan_view core.now.state.plan) core.now.state.start core.now.state.before
@@ -73,7 +74,7 @@ fn counts<D: Disk>(core: &Core<D>) -> Counts
 
 /// The report of a life; the only error is out of memory.
 pub fn report_of<D: Disk>(alloc: Global, core: &Core<D>) -> Result<Vec<u8>, AllocError>
-    ensures report { IfOk result (λ text. IsReport core.now.state.plan (start_of core.now.state) core.now.state.log
+    ensures report { IfOk result (λ text. IsReport core.now.state.plan (start_in core.now.state) core.now.state.log
         (Some core.now.acked) text.items) }
     ensures legal { IsLegal (plan_view core.now.state.plan) core.now.state.start core.now.state.before
         core.now.state.log }

@@ -1,4 +1,4 @@
-//! The line that tells of a fault.
+//! The line that reports a fault.
 
 ghost use Rattle.std.specs.Prelude.{◌≡◌, OnOk};
 ghost use Rattle.std.specs.Io.KnownBytes.{Appends};
@@ -9,7 +9,7 @@ use crate::fault::Fault;
 use std::io;
 use std::io::Write;
 
-/// Writes the line of a fault: `fault CODE`, or `fault CODE at PLACE` where a place in the source is told, and LF.
+/// Writes the line of a fault: `fault CODE`, or `fault CODE at PLACE` if a place in the source is reported, and LF.
 pub fn write_fault<W: Write>(out: &mut W, fault: Fault) -> io::Result<()>
     ensures { OnOk result (Appends (W.contents out.old) (W.contents out.new) (fault_line fault)) }
 {

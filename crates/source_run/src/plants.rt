@@ -20,7 +20,7 @@ fn unopened(error: &io::Error) -> PlantError {
     PlantError::Reading
 }
 
-/// The rows of the plant of that name, for the inputs of a plan; I1 to I6.
+/// The rows of the plant of this name, for the inputs of a plan; I1 to I6.
 pub fn read_rows<F: Files>(
     alloc: Global,
     files: &mut F,

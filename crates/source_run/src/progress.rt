@@ -1,21 +1,21 @@
-//! How far a run is, and by which machine its executions went.
+//! The progress of a run, and the machines that made its executions.
 
-use crate::job::Machine as AskedMachine;
+use crate::job::AskedMachine;
 use durable_core::Answer;
 use plc_threads::{Extent, Gate, Machine};
 use st_types::Activation;
 use std::sync::atomic::{AtomicU64, Ordering};
 
-/// A run is told of about a hundred times.
+/// The progress of a run is reported about a hundred times.
 const PARTS: u64 = 100;
 
-/// Lets every worker pass, tells on a terminal how many rows are done, and counts the runs of each machine.
+/// Lets every worker pass, reports on a terminal how many rows are done, and counts the runs of each machine.
 #[derive(Drop)]
 pub struct Progress<'a, R: Eprint> {
     rt: &'a R,
     /// How many rows the run has.
     rows: u64,
-    is_told: bool,
+    is_reported: bool,
     /// The machine that is asked for.
     asked: AskedMachine,
     /// How many runs went by quick code.
@@ -25,33 +25,33 @@ pub struct Progress<'a, R: Eprint> {
 }
 
 impl<'a, R: Eprint> Progress<'a, R> {
-    /// Of a run over so many rows, by this machine; told where the standard error is a terminal.
+    /// The progress of a run over `rows` rows, by this machine; reported if the standard error is a terminal.
     pub fn new(rt: &'a R, rows: usize, asked: AskedMachine, is_terminal: bool) -> Progress<'a, R> {
         Progress {
             rt,
             rows: rows as u64,
-            is_told: is_terminal,
+            is_reported: is_terminal,
             asked,
             quick: AtomicU64::new(0),
             values: AtomicU64::new(0),
         }
     }
 
-    /// Whether it is told that so many rows are done.
-    fn is_told_at(&self, done: u64) -> bool {
-        self.is_told && (done == self.rows || done % (self.rows / PARTS).max(1) == 0)
+    /// Whether it is reported that `done` rows are done.
+    fn is_reported_at(&self, done: u64) -> bool {
+        self.is_reported && (done == self.rows || done % (self.rows / PARTS).max(1) == 0)
     }
 
-    /// Tells by which machine the runs went. An execution that is taken, run and committed in one step isn't counted.
-    pub fn tell_machines(&self) {
+    /// Reports how many runs each machine made. An execution that is taken, run and committed in one step isn't counted.
+    pub fn report_machines(&self) {
         let quick = self.quick.load(Ordering::SeqCst);
         let values = self.values.load(Ordering::SeqCst);
-        let _ = eprintln!(self.rt; "runs by quick code {quick}, by the machine on values {values}");
+        let _ = eprintln!(self.rt; "program runs: quick {quick}, values {values}");
     }
 
-    /// Takes what was told away.
+    /// Erases the progress reported so far.
     pub fn clear(&self) {
-        if self.is_told {
+        if self.is_reported {
             let _ = eprint!(self.rt; "\r\x1b[K");
         }
     }
@@ -74,7 +74,7 @@ impl<R: Eprint> Gate for Progress<'_, R> {
 
     fn answered(&self, _resource: usize, activation: Activation, _answer: Answer) {
         let done = activation.row.saturating_add(1);
-        if self.is_told_at(done) {
+        if self.is_reported_at(done) {
             let _ = eprint!(self.rt; "\r{done} of {} rows", self.rows);
         }
     }

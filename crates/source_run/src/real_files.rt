@@ -6,7 +6,7 @@ use std::fs::{File, Metadata, OpenOptions};
 use std::io;
 use std::os::unix::fs::MetadataExt;
 
-/// Whether it is one file of one device.
+/// Whether both are the same file of the same device.
 fn is_same(one: &Metadata, other: &Metadata) -> bool {
     one.dev() == other.dev() && one.ino() == other.ino()
 }
@@ -14,7 +14,7 @@ fn is_same(one: &Metadata, other: &Metadata) -> bool {
 /// The standard error as a file.
 const STANDARD_ERROR: &str = "/dev/stderr";
 
-/// Of a mode, what kind of file it is; and that of a character device.
+/// The bits of a mode that give the kind of a file; and the kind of a character device.
 const KIND: u32 = 0o170000;
 
 const CHARACTER_DEVICE: u32 = 0o020000;
@@ -79,7 +79,7 @@ impl<R: std::rt::Files<File = File>> Files for RealFiles<'_, R> {
             .open(self.rt, name)
             .ok()?;
 
-        // The system takes the lock back when the file is closed, also of a process that was killed.
+        // The system releases the lock when the file is closed, also if the process was killed.
         file.try_lock().ok()?;
         Some(FileDisk::new(file))
     }

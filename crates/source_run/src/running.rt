@@ -1,20 +1,20 @@
 //! The run of a plan.
 
 ghost use Rattle.std.specs.Prelude.{◌≡◌, ◌++◌, IfOk, OnOk, Some};
-ghost use Rattle.durable_core.specs.Starting.{IsNew};
+ghost use Rattle.durable_core.specs.Starting.{IsNew, start_in};
 ghost use Rattle.source_run.specs.Runs.{IsReportOf};
-ghost use Rattle.source_run.specs.Lives.{IsReport, start_of};
+ghost use Rattle.source_run.specs.Lives.{IsReport};
 ghost use Rattle.st_meaning.specs.Logs.{IsLegal};
 ghost use Rattle.plan.specs.PlanViews.{plan_view};
 ghost use Rattle.source_run.specs.Progress.{BeginsAs, mode_of};
 ghost use Rattle.run_lock.specs.Lives.{life_of};
-ghost use Rattle.serial_core.specs.Steps.{made};
+ghost use Rattle.serial_core.specs.Steps.{past_in};
 ghost use Rattle.source_run.specs.Settling.{IsSettled};
 
 use crate::fault::Fault;
 use crate::files::Files;
 use crate::job::{Pace, RunJob, Start};
-use crate::layouts::{changes_by, tell};
+use crate::layouts::{changes_by, report_changes};
 use crate::life::report_of;
 use crate::plants::read_rows;
 use crate::progress::Progress;
@@ -39,7 +39,7 @@ fn mode(start: Start) -> StartMode
     }
 }
 
-/// A life over this disk, as it is asked for. What a warm start takes over from a record of another layout is told.
+/// A life over this disk, as it is asked for. The values that a warm start takes over from another layout are reported.
 fn started<D: Disk + Drop, R: Eprint>(
     rt: &R,
     alloc: Global,
@@ -57,12 +57,12 @@ fn started<D: Disk + Drop, R: Eprint>(
     };
     let core = Core::start(alloc, plan, disk, mode(asked), MAX_LOG_ROOM)?;
     if let Some(changes) = changes {
-        tell(rt, &changes);
+        report_changes(rt, &changes);
     }
     Ok(core)
 }
 
-/// A life over the retain file of a job; S3 where it can't be opened.
+/// A life over the retain file of a job; S3 if it can't be opened.
 fn start<F: Files, R: Eprint>(
     rt: &R,
     alloc: Global,
@@ -92,7 +92,7 @@ fn run_pace(pace: Pace) -> RunPace {
     }
 }
 
-/// Runs the rows in threads, and gives the report. How far it is, is told as it goes.
+/// Runs the rows in threads, and gives the report. The progress is reported meanwhile.
 fn served<D: Disk + Drop + Send, R: Threads + Wait + Eprint + Sync>(
     rt: &R,
     alloc: Global,
@@ -103,8 +103,8 @@ fn served<D: Disk + Drop + Send, R: Threads + Wait + Eprint + Sync>(
 ) -> (Core<D>, Result<Vec<u8>, Fault>)
     ensures settled { OnOk result.1 (IsSettled result.0 core.state.plan.resources) }
     ensures life { OnOk result.1 (life_of result.0.state ≡ life_of core.state) }
-    ensures latched { OnOk result.1 ((made result.0.state).rows ≡ (made core.state).rows ++ rows.items) }
-    ensures report { IfOk result.1 (λ text. IsReport result.0.state.plan (start_of result.0.state) result.0.state.log
+    ensures latched { OnOk result.1 ((past_in result.0.state).rows ≡ (past_in core.state).rows ++ rows.items) }
+    ensures report { IfOk result.1 (λ text. IsReport result.0.state.plan (start_in result.0.state) result.0.state.log
         (Some result.0.acked) text.items) }
     ensures legal { IfOk result.1 (λ _.
         IsLegal (plan_view result.0.state.plan) result.0.state.start result.0.state.before result.0.state.log) }
@@ -118,8 +118,8 @@ fn served<D: Disk + Drop + Send, R: Threads + Wait + Eprint + Sync>(
     }
 }
 
-/// Reads the plant, opens the store and starts, then runs in threads, then writes the trace where one is asked for, and
-/// gives the report; the first fault ends it.
+/// Reads the plant, opens the store and starts, then runs in threads, then writes the trace if one is asked for, and gives
+/// the report; the first fault ends the job.
 pub fn run_plan<F: Files, R: Threads + Wait + Eprint + Sync>(
     rt: &R,
     alloc: Global,
@@ -140,7 +140,7 @@ pub fn run_plan<F: Files, R: Threads + Wait + Eprint + Sync>(
     let (core, report) = served(rt, alloc, core, job.pace, rows, &progress);
     progress.clear();
     if job.stats {
-        progress.tell_machines();
+        progress.report_machines();
     }
     let report = traced(alloc, files, job, &core, report);
     files.back(core.stop());

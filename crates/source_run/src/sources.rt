@@ -22,7 +22,7 @@ fn unread_source(error: &io::Error) -> Fault
     Fault::Source
 }
 
-/// The bytes of a source, as far as its limit and one more; X1 where it can't be read, G9 out of memory.
+/// The bytes of a source, as far as its limit and one more; X1 if it can't be read, G9 out of memory.
 pub fn read_source<F: Files>(alloc: Global, files: &mut F, name: &str) -> Result<Vec<u8>, Fault>
     ensures { IfErr result IsUnread }
 {
@@ -40,7 +40,7 @@ pub fn read_source<F: Files>(alloc: Global, files: &mut F, name: &str) -> Result
     }
 }
 
-/// The plan of a source for a budget in ticks; X1 where it can't be read, else its numbered refusal: L, P, C, G or M.
+/// The plan of a source for a budget in ticks; X1 if it can't be read, else its numbered refusal: L, P, C, G or M.
 pub fn plan_of<F: Files>(
     alloc: Global,
     files: &mut F,

@@ -24,9 +24,9 @@ fn trace_text<D: Disk>(alloc: Global, core: &Core<D>) -> Result<Vec<u8>, ReplayE
     }
 }
 
-/// Writes the trace of a run into the file of that name, in place of what was there; V6 where the file can't be made,
-/// takes no more, or is the retain file by another name, V5 out of memory. The file is made when all of the trace is
-/// there, so where memory is wanted it stays as it was.
+/// Writes the trace of a run into the file of this name, in place of its contents; V6 if the file can't be made, takes no
+/// more, or is the retain file by another name, V5 out of memory. The file is made when the whole trace is there, so it
+/// stays as it was if memory runs out.
 fn save_trace<F: Files>(
     alloc: Global,
     files: &mut F,
@@ -47,7 +47,7 @@ fn save_trace<F: Files>(
     }
 }
 
-/// The report of a run that ended well, once its trace is written where one is asked for.
+/// The report of a run that ended well, once its trace is written if one is asked for.
 pub(crate) fn traced<F: Files>(
     alloc: Global,
     files: &mut F,

@@ -1,4 +1,4 @@
--- What the passes over a body tell of its statements.
+-- The statements of a body, as the passes over it report them.
 use Rattle.std.proofs.Common.{◌≡◌, refl, sym, ap, ◌∙◌, List, [], ◌∷◌, ◌++◌, Option, Some, None, map}
 use Rattle.std.proofs.Common.{append_assoc, append-nil}
 use Rattle.std.specs.List.{flat_map}
@@ -26,7 +26,7 @@ use Rattle.st_check.specs.Assignments.{assigned_in, assigned_in_arms, assigned_i
 use Rattle.st_check.specs.Listings.{Listed, listed, listed_below, listed_in, listed_in_arms, listed_in_case_arms}
 use Rattle.st_check.specs.Targets.{wrong_target, wrong_control_of, wrong_assigned}
 
--- a statement with its context, as a list of all has it
+-- a statement with its context, as an element of the list of all
 abbrev pub brief : Placed → Listed
 brief p = listed p.context.in_loop p.statement
 
@@ -68,7 +68,7 @@ mutual
       (statements_of_case_arms c arms) (listed_in c.in_loop body) (listed_in_case_arms c.in_loop arms)
       (brief_all c body) (brief_case_arms c arms)
 
--- what each statement assigns
+-- the assignments of each statement
 abbrev pub assigned_at : Placed → List Assigned
 assigned_at p = assigned_by p.context.running p.statement
 
@@ -115,7 +115,7 @@ mutual
       (statements_of_case_arms c arms) (assigned_in c.running body) (assigned_in_case_arms c.running arms)
       (assigned_each c body) (assigned_each_case_arm c arms)
 
--- what is wrong in what one statement assigns
+-- the faults in the assignments of one statement
 target_is : (env : Environment) (c : Context) (v : Variable)
     → wrong_target env (is_running c.running v) v ≡ rules.wrong_target env c v
 target_is env c (variable x xs) = refl

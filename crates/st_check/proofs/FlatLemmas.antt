@@ -1,4 +1,4 @@
--- Lists of what stands in statements, by their parts.
+-- Lists of the parts of statements, part by part.
 use Rattle.std.proofs.Common.{◌≡◌, sym, ap, ◌∙◌, List, ◌++◌, map}
 use Rattle.std.specs.Prelude.{Vec, Result, Ok, Err, IfOk}
 use Rattle.std.specs.declared.alloc.Global.{Global}
@@ -24,10 +24,3 @@ pub selected : {X : Type 0} (f : Stmt → X) (x : code_stmt.Stmt) (selector : co
     ≡ f (CASE (expr_view selector) (case_arms_of (map case_arm_view arms.items)) (stmts_view otherwise.items))
 selected f x selector arms otherwise is =
     ap (λ y. f (stmt_view y)) is ∙ ap f (select_view selector arms otherwise)
-
--- what two pushes leave
-pub joined : {A E X : Type 0} (r : Result A E) (start mid all ys zs both : List X) → mid ≡ start ++ ys → both ≡ ys ++ zs
-    → IfOk r (λ d. all ≡ mid ++ zs) → IfOk r (λ d. all ≡ start ++ both)
-joined (Ok d) start mid all ys zs both h k more =
-    more ∙ ap (λ xs. xs ++ zs) h ∙ append_assoc start ys zs ∙ ap (λ xs. start ++ xs) (sym k)
-joined (Err e) start mid all ys zs both h k more = tt

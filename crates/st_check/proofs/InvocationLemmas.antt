@@ -14,7 +14,7 @@ use Rattle.st_rules.specs.Faults.{unless}
 use Rattle.st_rules.specs.CallRules.{argument_name, is_argument, wrong_arguments}
 use Rattle.symbols.specs.Found.{or_found}
 
--- one more name that stands before
+-- one more name that came before
 pub known_more : (b c : Bool) (o : Option (Unit {0})) → is_some o ≡ c
     → is_some (or_found o (if b then Some tt else None)) ≡ (b || c)
 known_more true c None h = refl
@@ -22,7 +22,7 @@ known_more true c (Some u) h = refl
 known_more false c None h = h
 known_more false c (Some u) h = h
 
--- an argument of the block, which did not stand before
+-- an argument of the block that did not come before
 pub argument_passed : (env : Environment) (instance : Name) (names : List Name) (a : Argument) (rest : List Argument)
     (all : List ℕ) → wrong_arguments env instance names (a ∷ rest) ≡ all → is_argument env instance a ≡ true
     → contains_name names (argument_name a).name ≡ false

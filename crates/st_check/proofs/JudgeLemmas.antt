@@ -1,4 +1,4 @@
--- What judging some rules and then the others tells of all.
+-- The verdict on all rules, from that on some rules and that on the others.
 use Rattle.std.proofs.Common.{◌≡◌, refl, sym, subst, ℕ, List, [], ◌∷◌, ◌++◌}
 use Rattle.std.specs.Prelude.{Result}
 use Rattle.std.specs.List.{flat_map, Contains}
@@ -31,7 +31,7 @@ no_places : (places : List ℕ) → breaking TooManyNames places ≡ [] → plac
 no_places [] h = refl
 no_places (p ∷ ps) h = absurd (cc)
 
--- A name too many in an enumerated type is wrong in the text's types.
+-- A name too many in an enumerated type is a fault in the text's types.
 pub surplus_is_wrong : (s : Source) (b : Broken) → Contains (breaking TooManyNames (surplus_names s)) b
     → Contains (wrong_types s ++ wrong_starts s ++ wrong_bodies s) b
 surplus_is_wrong s b h =

@@ -1,4 +1,4 @@
--- What the passes over a body find is what is wrong in the body.
+-- The faults that the passes over a body find are those in the body.
 use Rattle.std.proofs.Common.{◌≡◌, refl, sym, ap, subst, ◌∙◌, List, [], ◌∷◌, ◌++◌, Option, Some, None, false}
 use Rattle.std.proofs.Common.{append-nil, ⊎_elim, ◌⊎◌, inl, inr, arith}
 use Rattle.std.specs.List.{flat_map, Contains}
@@ -28,6 +28,7 @@ use Rattle.st_check.specs.Listings.{Listed, listed_in}
 use Rattle.st_check.specs.Roots.{roots_of_selector, roots_of_selectors, roots_of_target, all_roots, wrong_root}
 use Rattle.st_check.proofs.BodyLemmas.{brief, brief_all, wrong_assigning, assigning_told, flat_of_flat, flat_of_map}
 use Rattle.st_check.proofs.BodyLemmas.{flat_same}
+use Rattle.st_types.proofs.ListLemmas.{append_first, append_second}
 
 -- the parts of expressions, root by root
 root_is : (env : Environment) (n : Node) → flat_map (wrong_node env) (nodes_of_root env n) ≡ wrong_root env n
@@ -131,14 +132,6 @@ within_pass f g inside (x ∷ xs) b h =
     (λ i. Contains-append_right (g x) (flat_map g xs) b (within_pass f g inside xs b i))
     (Contains-append_cases (f x) (flat_map f xs) b h)
 
-nil_front : {X : Type 0} (xs ys : List X) → xs ++ ys ≡ [] → xs ≡ []
-nil_front [] ys h = refl
-nil_front (x ∷ xs) ys h = absurd (cc)
-
-nil_back : {X : Type 0} (xs ys : List X) → xs ++ ys ≡ [] → ys ≡ []
-nil_back [] ys h = h
-nil_back (x ∷ xs) ys h = absurd (cc)
-
 -- one of six parts
 part_1 : (a b c d e f : List Broken) (y : Broken) → Contains a y → Contains (a ++ b ++ c ++ d ++ e ++ f) y
 part_1 a b c d e f y h = Contains-append_left (a ++ b ++ c ++ d ++ e) f y (Contains-append_left (a ++ b ++ c ++ d) e y
@@ -164,7 +157,7 @@ none_of_six : (a b c d e f : List Broken) → a ≡ [] → b ≡ [] → c ≡ []
     → a ++ b ++ c ++ d ++ e ++ f ≡ []
 none_of_six a b c d e f g h i j k l = rw (g, h, i, j, k, l) refl
 
--- what is wrong in a CASE is so in its selector or in its labels
+-- a fault in a CASE is one in its selector or in its labels
 nothing_there : (b : Broken) → Contains [] b → ⊥
 nothing_there b h = let lt = h.1 in omega (arith, lt)
 
@@ -181,10 +174,10 @@ choice_told env _ b h = absurd (nothing_there b h)
 
 choice_clean : (env : Environment) (x : Stmt) → wrong_choice env x ≡ [] → wrong_case env x ≡ []
 choice_clean env (CASE e arms otherwise) h =
-    nil_back (wrong_root env (node (Asked None Selecting) e)) (wrong_case env (CASE e arms otherwise)) h
+    append_second (wrong_root env (node (Asked None Selecting) e)) (wrong_case env (CASE e arms otherwise)) h
 choice_clean env _ h = refl
 
--- each pass is within what is wrong in statements
+-- each pass finds only faults in statements
 nodes_within : (env : Environment) (p : Placed) (b : Broken) → Contains (nodes_at env p) b
     → Contains (wrong_statement env p) b
 nodes_within env p b h =
@@ -239,17 +232,17 @@ clean env (p ∷ ps) h i j k l =
     let x = p.statement in
     let targets = wrong_targets env p.context x in
     let fors = wrong_for env p.context x in
-    let assigning = nil_front (wrong_assigning env p) (flat_map (wrong_assigning env) ps) i in
+    let assigning = append_first (wrong_assigning env p) (flat_map (wrong_assigning env) ps) i in
     ap (λ ys. ys ++ flat_map (wrong_statement env) ps)
     (none_of_six (wrong_nodes env x) targets (wrong_invocation env x) (wrong_case env x) fors
-    (wrong_exit p.context.in_loop x) (nil_front (nodes_at env p) (flat_map (nodes_at env) ps) h)
-    (nil_front targets fors assigning) (nil_front (invocation_at env p) (flat_map (invocation_at env) ps) j)
-    (choice_clean env x (nil_front (choice_at env p) (flat_map (choice_at env) ps) k)) (nil_back targets fors assigning)
-    (nil_front (exit_at p) (flat_map exit_at ps) l))
-    ∙ clean env ps (nil_back (nodes_at env p) (flat_map (nodes_at env) ps) h)
-    (nil_back (wrong_assigning env p) (flat_map (wrong_assigning env) ps) i)
-    (nil_back (invocation_at env p) (flat_map (invocation_at env) ps) j)
-    (nil_back (choice_at env p) (flat_map (choice_at env) ps) k) (nil_back (exit_at p) (flat_map exit_at ps) l)
+    (wrong_exit p.context.in_loop x) (append_first (nodes_at env p) (flat_map (nodes_at env) ps) h)
+    (append_first targets fors assigning) (append_first (invocation_at env p) (flat_map (invocation_at env) ps) j)
+    (choice_clean env x (append_first (choice_at env p) (flat_map (choice_at env) ps) k)) (append_second targets fors assigning)
+    (append_first (exit_at p) (flat_map exit_at ps) l))
+    ∙ clean env ps (append_second (nodes_at env p) (flat_map (nodes_at env) ps) h)
+    (append_second (wrong_assigning env p) (flat_map (wrong_assigning env) ps) i)
+    (append_second (invocation_at env p) (flat_map (invocation_at env) ps) j)
+    (append_second (choice_at env p) (flat_map (choice_at env) ps) k) (append_second (exit_at p) (flat_map exit_at ps) l)
 
 -- one of five lists, the latter ones put together
 one_of_five : (v w x y z : List Broken) (b : Broken) (P : Type 0) → (Contains v b → P) → (Contains w b → P)
@@ -279,11 +272,11 @@ found env ps None h =
     let x = flat_map (invocation_at env) ps in
     let y = flat_map (choice_at env) ps in
     let z = flat_map exit_at ps in
-    let a = nil_back v (w ++ (x ++ (y ++ z))) h in
-    let b = nil_back w (x ++ (y ++ z)) a in
-    let c = nil_back x (y ++ z) b in
-    clean env ps (nil_front v (w ++ (x ++ (y ++ z))) h) (nil_front w (x ++ (y ++ z)) a) (nil_front x (y ++ z) b)
-    (nil_front y z c) (nil_back y z c)
+    let a = append_second v (w ++ (x ++ (y ++ z))) h in
+    let b = append_second w (x ++ (y ++ z)) a in
+    let c = append_second x (y ++ z) b in
+    clean env ps (append_first v (w ++ (x ++ (y ++ z))) h) (append_first w (x ++ (y ++ z)) a) (append_first x (y ++ z) b)
+    (append_first y z c) (append_second y z c)
 
 pub body_told : (env : Environment) (o : Option Broken) → Finds (wrong_passes env (stmts_of env.unit.body)) o
     → Finds (wrong_body env) o

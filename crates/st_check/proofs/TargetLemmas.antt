@@ -1,4 +1,4 @@
--- What is wrong in variables and in what is assigned, by what their names stand for.
+-- The faults in variables and in assignments, by the meanings of their names.
 use Rattle.std.proofs.Common.{◌≡◌, subst, [], ◌∷◌, map, rules, Option, Some, None}
 use Rattle.st_types.specs.declared.identifier.Identifier.{Identifier}
 use Rattle.st_types.specs.declared.data_type.VariableType.{VariableType}
@@ -15,7 +15,7 @@ pub variable_is : (v : code_variable.Variable)
     → variable_view v ≡ variable v.name (selectors_of (map selector_view v.selectors.items))
 variable_is v = search (rules, code_variable.the_lemmas)
 
--- of a variable that is there, its selections are judged
+-- if a variable is declared, its selections are judged
 pub selections_found : (env : Environment) (x : Identifier) (xs : Selectors) (t : VariableType) (r : Option Broken)
     → Some t ≡ type_of_name env x.name → Finds (wrong_selectors env.text x.place t xs) r
     → Finds (wrong_variable env (variable x xs)) r

@@ -1,4 +1,4 @@
--- What is wrong in declared types, from its parts.
+-- The faults in declared types, from their parts.
 use Rattle.std.proofs.Common.{◌≡◌, refl, ap, subst, ℕ, Bool, false, ◌++◌, ◌&&◌, Option, Some, None}
 use Rattle.std.specs.Prelude.{is_some, option_map}
 use Rattle.st_types.specs.declared.data_type.SimpleType.{SimpleType}
@@ -14,6 +14,7 @@ use Rattle.st_rules.specs.TypeRules.{is_without_parts, may_be_instance, place_of
 use Rattle.st_rules.specs.TypeRules.{wrong_declaring, wrong_name, wrong_result, wrong_simple}
 use Rattle.st_typing.specs.Verdicts.{or_broken}
 use Rattle.st_typing.proofs.Finding.{finds_front}
+use Rattle.st_types.proofs.OptionLemmas.{is_some_mapped}
 
 -- a test of a place, which is known under other names
 told_as : (x y : Bool) (p q : ℕ) (o : Option Broken) → x ≡ y → p ≡ q → Finds (breaking WrongType (in_case x p)) o
@@ -22,13 +23,9 @@ told_as x y p q o h k found =
     subst (λ z. Finds (breaking WrongType (in_case y z)) o) k
     (subst (λ z. Finds (breaking WrongType (in_case z p)) o) h found)
 
-is_some_viewed : {A B : Type 0} (f : A → B) (o : Option A) → is_some o ≡ is_some (option_map f o)
-is_some_viewed f None = refl
-is_some_viewed f (Some x) = refl
-
 pub is_started : {A B : Type 0} (f : A → B) (o : Option A) (b : Bool)
     → (b && is_some o) ≡ (b && is_some (option_map f o))
-is_started f o b = ap (λ c. b && c) (is_some_viewed f o)
+is_started f o b = ap (λ c. b && c) (is_some_mapped f o)
 
 pub declaring_told : (text : Declared) (d : Declaring) (a b c : Option Broken) (parts started : Bool) (at : ℕ)
     → Finds (wrong_name text (may_be_instance d.role) d.declared) a → Finds (breaking WrongType (in_case parts at)) b

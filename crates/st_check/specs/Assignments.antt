@@ -1,4 +1,4 @@
--- All that a body assigns, each with whether it is the control variable of a FOR that runs.
+-- All assignments of a body, each with whether it is to the control variable of a FOR that runs.
 use Rattle.std.specs.Prelude.{List, [], ◌∷◌, ◌++◌, Bool}
 use Rattle.st_types.specs.declared.identifier.Identifier.{Identifier}
 use Rattle.st_types.specs.ExpressionViews.{variable_view}
@@ -14,7 +14,7 @@ use Rattle.st_check.specs.declared.assignments.Assigned.TheVariants.{Target, Con
 pub data Assigned : Type 0 where
   -- a variable that a statement assigns by its name
   target : Bool → Variable → Assigned
-  -- the name that a FOR counts by
+  -- the name by which a FOR counts
   control : Bool → Identifier → Assigned
 
 abbrev pub assigned_view : code_assigned.Assigned → Assigned

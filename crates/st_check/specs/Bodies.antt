@@ -1,4 +1,4 @@
--- What is wrong in a body, pass by pass.
+-- The faults in a body, pass by pass.
 use Rattle.std.specs.Prelude.{List, [], ◌++◌, false}
 use Rattle.std.specs.List.{flat_map}
 use Rattle.st_types.specs.Statements.{Stmts}
@@ -16,7 +16,7 @@ use Rattle.st_check.specs.Targets.{wrong_assigned}
 unfoldable pub wrong_roots_of : Environment → List Listed → List Broken
 wrong_roots_of env ls = flat_map (wrong_root env) (flat_map (λ l. all_roots env l.statement) ls)
 
--- in what a body assigns
+-- in the assignments of a body
 unfoldable pub wrong_assigned_in : Environment → Stmts → List Broken
 wrong_assigned_in env body = flat_map (wrong_assigned env) (assigned_in [] body)
 

@@ -1,4 +1,4 @@
--- Texts that break no rule, as they go on: resolved.
+-- Texts that break no rule, as they are handed on: resolved.
 use Rattle.std.specs.Prelude.{◌≡◌}
 use Rattle.st_types.specs.Sources.{Source}
 use Rattle.st_meaning.specs.ResolvedUnits.{resolved_source}

@@ -1,4 +1,4 @@
--- What is wrong in a CASE: in its selector, and in its labels.
+-- The faults in a CASE: in its selector, and in its labels.
 use Rattle.std.specs.Prelude.{List, [], ◌++◌, None}
 use Rattle.st_types.specs.Statements.{Stmt, CASE}
 use Rattle.st_rules.specs.declared.rule.Broken.{Broken}

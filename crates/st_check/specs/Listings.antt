@@ -1,4 +1,4 @@
--- All statements of a body, each with whether it stands in a loop.
+-- All statements of a body, each with whether it is in a loop.
 use Rattle.std.specs.Prelude.{List, [], ◌∷◌, ◌++◌, Bool, true}
 use Rattle.st_types.specs.StatementViews.{stmt_view}
 use Rattle.st_types.specs.Statements.{Stmt, IF, CASE, FOR, WHILE, REPEAT, Stmts, no_stmts, stmt_then, Arms, no_arms}

@@ -1,4 +1,4 @@
--- What is looked up in a text to judge it.
+-- The names of a text that are looked up to judge it.
 use Rattle.std.specs.Prelude.{◌≡◌, map}
 use Rattle.st_types.specs.Sources.{Source}
 use Rattle.st_types.specs.SourceViews.{source_view}
@@ -11,7 +11,7 @@ use Rattle.symbols.specs.Texts.{ServesText}
 use Rattle.st_decl.specs.DeclaringViews.{declaring_view}
 use Rattle.st_check.specs.declared.lookups.Lookups.{Lookups}
 
--- It is that of the text.
+-- They are those of the text.
 pub record ServesSource (lookups : Lookups) (source : Source) : Type 0 where
   pub source_is : source_view lookups.source.now ≡ source
   pub names : ServesText lookups.names (declared_in source)

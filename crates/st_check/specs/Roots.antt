@@ -1,4 +1,4 @@
--- The expressions of statements as one list, each with what its place asks: those in subscripts of targets too.
+-- The expressions of statements as one list, each with the demand of its place: those in subscripts of targets too.
 use Rattle.std.specs.Prelude.{List, [], ◌∷◌, ◌++◌, None}
 use Rattle.std.specs.List.{flat_map}
 use Rattle.st_types.specs.ExpressionViews.{expr_view}
@@ -32,6 +32,6 @@ roots_of_target (variable x xs) = roots_of_selectors xs
 abbrev pub all_roots : Environment → Stmt → List Node
 all_roots env x = roots_of env x ++ flat_map roots_of_target (targets_of x)
 
--- what is wrong in an expression, for what its place asks
+-- the faults in an expression, by the demand of its place
 unfoldable pub wrong_root : Environment → Node → List Broken
 wrong_root env n = wrong_expression env n.demand n.tree

@@ -1,4 +1,4 @@
--- What is wrong in what a body assigns.
+-- The faults in the assignments of a body.
 use Rattle.std.specs.Prelude.{List, [], ◌∷◌, ◌++◌, Bool, ◌&&◌, not, if◌then◌else◌, Option, Some, None, is_some}
 use Rattle.st_types.specs.declared.identifier.Identifier.{Identifier}
 use Rattle.st_types.specs.declared.data_type.VariableType.{VariableType}
@@ -7,11 +7,12 @@ use Rattle.st_rules.specs.declared.rule.Rule.TheVariants.{UnknownName, WrongType
 use Rattle.st_rules.specs.declared.rule.Broken.{Broken}
 use Rattle.st_rules.specs.Faults.{breaking, unless}
 use Rattle.st_rules.specs.Environments.{Environment, type_of_name, section_of, type_of_place}
-use Rattle.st_rules.specs.ExpressionRules.{place_of_variable, wrong_variable}
+use Rattle.st_rules.specs.ExpressionRules.{wrong_variable}
 use Rattle.st_rules.specs.TargetRules.{is_fixed, passes_instance, is_control}
 use Rattle.st_check.specs.Assignments.{Assigned, target, control}
+use Rattle.st_meaning.specs.Resolution.{place_of_variable}
 
--- may be assigned, where it is known whether a FOR that runs counts by it
+-- may be assigned, if it is known whether a FOR that runs counts by it
 abbrev pub is_free : Environment → Bool → Variable → Bool
 is_free env runs (variable x xs) =
     not (is_fixed (section_of env x.name)) && not runs && not (passes_instance env (type_of_name env x.name) xs)

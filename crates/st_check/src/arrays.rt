@@ -48,7 +48,7 @@ pub fn arrays_in<'a>(
     Ok(arrays)
 }
 
-/// What is wrong in the types of elements.
+/// A fault in the types of elements.
 pub fn first_wrong_element(
     names: &TextNames,
     tables: &TextTables,
@@ -76,7 +76,7 @@ fn wrong_bounds(array: &ArrayType) -> Option<Broken>
     )
 }
 
-/// A bound that is outside its type, of some array.
+/// A bound of one of the arrays that is outside its type.
 pub fn first_wrong_bound(arrays: &[&ArrayType]) -> Option<Broken>
     ensures { Finds (flat_map wrong_bound_numbers (map (λ x. x.now) arrays.now)) result }
 {

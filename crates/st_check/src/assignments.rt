@@ -1,4 +1,4 @@
-//! What a body assigns, as one list.
+//! The assignments of a body, as one list.
 
 ghost use Rattle.std.specs.Prelude.{◌≡◌, ◌++◌, ◌∷◌, [], map, IfOk};
 ghost use Rattle.st_types.specs.ExpressionViews.{variable_view};
@@ -13,12 +13,12 @@ use st_meaning::lookup::is_named;
 use st_types::{Argument, Arm, CaseArm, Identifier, Name, Stmt, Variable};
 use std::alloc::{AllocError, Global};
 
-/// What is assigned, and whether it is the control variable of a FOR that runs.
+/// A name that is assigned, and whether it is the control variable of a FOR that runs.
 #[derive(Clone, Copy)]
 pub enum Assigned<'a> {
     /// A variable that a statement assigns by its name.
     Target(bool, &'a Variable),
-    /// The name that a FOR counts by.
+    /// The name by which a FOR counts.
     Control(bool, &'a Identifier),
 }
 
@@ -88,7 +88,7 @@ fn push_arguments<'a>(
     Ok(())
 }
 
-/// Appends what a statement itself assigns.
+/// Appends the assignments of a statement itself.
 fn push_own<'a>(
     assigned: &mut Vec<Assigned<'a>>,
     running: &[&'a Identifier],
@@ -117,7 +117,7 @@ fn push_own<'a>(
     }
 }
 
-/// Appends what the statements of a body assign.
+/// Appends the assignments in the statements of a body.
 #[cycle(push_all)]
 fn push_all<'a>(
     alloc: Global,
@@ -135,7 +135,7 @@ fn push_all<'a>(
     Ok(())
 }
 
-/// Appends what the statements inside a statement assign.
+/// Appends the assignments in the statements inside a statement.
 #[cycle(push_all)]
 fn push_below<'a>(
     alloc: Global,
@@ -203,7 +203,7 @@ fn push_case_arms<'a>(
     Ok(())
 }
 
-/// All that the statements of a body assign.
+/// All assignments in the statements of a body.
 pub fn assigned_in<'a>(alloc: Global, body: &'a [Stmt]) -> Result<Vec<Assigned<'a>>, AllocError>
     ensures { IfOk result (λ assigned. map assigned_view assigned.items ≡ assigned_in [] (stmts_view body.now)) }
 {

@@ -28,7 +28,7 @@ use st_types::{Stmt, Unit};
 use std::alloc::{AllocError, Global};
 use symbols::{TextTables, UnitNames};
 
-/// What is wrong in the expressions of statements.
+/// A fault in the expressions of statements.
 #[tactic(auto, unfolding(crate::specs::Bodies::wrong_roots_of))]
 fn wrong_roots(
     alloc: Global,
@@ -42,7 +42,7 @@ fn wrong_roots(
     Ok(first_wrong_root(names, &roots))
 }
 
-/// What is wrong in what a body assigns.
+/// A fault in the assignments of a body.
 #[tactic(auto, unfolding(crate::specs::Bodies::wrong_assigned_in))]
 fn wrong_targets(
     alloc: Global,
@@ -89,7 +89,7 @@ fn wrong_statements(
     wrong_choice_or_exit(alloc, names, statements)
 }
 
-/// What is wrong in what a body assigns, or in its statements.
+/// A fault in the assignments of a body, or in its statements.
 fn wrong_targets_or_statements(
     alloc: Global,
     names: &UnitNames,
@@ -121,7 +121,7 @@ fn wrong_passes(
     wrong_targets_or_statements(alloc, names, body, &statements)
 }
 
-/// What is wrong in the body of a unit.
+/// A fault in the body of a unit.
 fn wrong_body<'a>(
     alloc: Global,
     tables: &TextTables<'a>,
@@ -134,7 +134,7 @@ fn wrong_body<'a>(
     wrong_passes(alloc, &names, &unit.body)
 }
 
-/// What is wrong in the bodies of units (C1, C3, C4, C5, C7, C9, C10).
+/// A fault in the bodies of units (C1, C3, C4, C5, C7, C9, C10).
 pub fn wrong_bodies<'a>(
     alloc: Global,
     tables: &TextTables<'a>,

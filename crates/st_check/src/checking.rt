@@ -18,7 +18,7 @@ use st_types::Source;
 use st_typing::broken_at;
 use std::alloc::{AllocError, Global};
 
-/// One of the rules that a text breaks beyond those on declarations alone, where no enumerated type has too many names.
+/// One of the rules that a text breaks beyond those on declarations alone, if no enumerated type has too many names.
 fn wrong_by_names(alloc: Global, source: &Source) -> Result<Option<Broken>, AllocError>
     ensures { let s = source_view source.now in IfOk result (λ broken. HasNoSurplus s
         → Finds (wrong_types s ++ wrong_starts s ++ wrong_bodies s) broken) }
@@ -35,7 +35,7 @@ fn wrong_by_names(alloc: Global, source: &Source) -> Result<Option<Broken>, Allo
 
 /// One of the rules that a text breaks beyond those on declarations alone: in its types, its initial values or its
 /// bodies. The names of enumerated types are counted before any is looked up, since a table has no room for more.
-fn wrong_beyond(alloc: Global, source: &Source) -> Result<Option<Broken>, AllocError>
+fn wrong_beside_declarations(alloc: Global, source: &Source) -> Result<Option<Broken>, AllocError>
     ensures { let s = source_view source.now in IfOk result
         (λ broken. Finds (wrong_types s ++ wrong_starts s ++ wrong_bodies s) broken) }
 {
@@ -47,23 +47,23 @@ fn wrong_beyond(alloc: Global, source: &Source) -> Result<Option<Broken>, AllocE
 }
 
 /// Judges a text by the rules that are not on declarations alone.
-fn judge_beyond(alloc: Global, source: &Source) -> Result<(), CheckError>
+fn judge_beside_declarations(alloc: Global, source: &Source) -> Result<(), CheckError>
     ensures { let s = source_view source.now in Judges (wrong_types s ++ wrong_starts s ++ wrong_bodies s) result }
 {
-    match wrong_beyond(alloc, source) {
+    match wrong_beside_declarations(alloc, source) {
         Ok(None) => Ok(()),
         Ok(Some(broken)) => Err(CheckError::Broken(broken)),
         Err(_) => Err(CheckError::OutOfMemory),
     }
 }
 
-/// Judges a text by all rules. It accepts exactly where none is broken anywhere; else it tells one that is, with its
-/// place, or that there is no memory (C12).
+/// Judges a text by all rules. It accepts exactly if none is broken anywhere; else it reports one that is, with its place,
+/// or that memory ran out (C12).
 pub fn judge(alloc: Global, source: &Source) -> Result<(), CheckError>
     ensures { Judges (broken (source_view source.now)) result }
 {
     match declare(alloc, source) {
-        Ok(()) => judge_beyond(alloc, source),
+        Ok(()) => judge_beside_declarations(alloc, source),
         Err(error) => Err(error),
     }
 }

@@ -26,7 +26,7 @@ use st_typing::{kind_of, settled, typing, wrong_labels};
 use std::alloc::{AllocError, Global};
 use symbols::UnitNames;
 
-/// What is wrong in a selector and in the labels of its CASE. A selector that is untyped is a LINT.
+/// A fault in a selector and in the labels of its CASE. A selector that is untyped is a LINT.
 fn wrong_selection(
     alloc: Global,
     names: &UnitNames,
@@ -65,7 +65,7 @@ fn wrong_choice(
     }
 }
 
-/// What is wrong in the selectors and the labels of CASEs among statements.
+/// A fault in the selectors and the labels of CASEs among statements.
 pub fn first_wrong_choice(
     alloc: Global,
     names: &UnitNames,

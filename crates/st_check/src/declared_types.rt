@@ -1,4 +1,4 @@
-//! The types that a text declares things of, by their names (C1, C3).
+//! The names of the types in a text's declarations (C1, C3).
 
 ghost use Rattle.std.specs.Prelude.{◌≡◌, ◌&&◌, map, Some, is_some};
 ghost use Rattle.std.specs.List.{flat_map};
@@ -19,7 +19,7 @@ use st_types::{ArrayType, Identifier, Section, SimpleType, UnitSort, VariableTyp
 use st_typing::{either, in_case};
 use symbols::{PlaceType, TextNames, TextTables, place_type, standard_function};
 
-/// Where the name of a type stands.
+/// The place of the name of a type.
 fn place_of_simple(declared: &SimpleType) -> usize
     ensures { result ≡ place_of_simple declared.now }
 {
@@ -29,7 +29,7 @@ fn place_of_simple(declared: &SimpleType) -> usize
     }
 }
 
-/// Where the name of a type stands, or the word ARRAY.
+/// The place of the name of a type, or of the word ARRAY.
 fn place_of_type(declared: &VariableType) -> usize
     ensures { result ≡ place_of_type declared.now }
 {
@@ -39,8 +39,7 @@ fn place_of_type(declared: &VariableType) -> usize
     }
 }
 
-/// What is wrong in the name of a type: it stands for nothing (C1), or for something else (C3). A block may stand where
-/// instances may.
+/// A fault in the name of a type: it stands for nothing (C1), or for something else (C3). A block is allowed if `blocks`.
 fn wrong_named(
     names: &TextNames,
     tables: &TextTables,
@@ -83,7 +82,7 @@ fn wrong_simple(
     }
 }
 
-/// What is wrong in the name of a declared type. The element of an array is judged with the array.
+/// A fault in the name of a declared type. The element of an array is judged with the array.
 fn wrong_name(
     names: &TextNames,
     tables: &TextTables,
@@ -109,7 +108,7 @@ fn is_program_or_block(sort: &UnitSort) -> bool
     }
 }
 
-/// Whether an instance may stand here: in a VAR of a program or function block.
+/// Whether this may be an instance: it is in a VAR of a program or function block.
 fn may_be_instance(role: Role) -> bool
     ensures { result ≡ may_be_instance (role_view role.entry) }
 {
@@ -119,7 +118,7 @@ fn may_be_instance(role: Role) -> bool
     }
 }
 
-/// Whether what stands here has no parts: an input or an output of a unit.
+/// Whether this must have no parts: it is an input or an output of a unit.
 fn is_without_parts(role: Role) -> bool
     ensures { result ≡ is_without_parts (role_view role.entry) }
 {
@@ -165,8 +164,8 @@ fn is_started(tables: &TextTables, declaring: Declaring) -> bool
     is_block_type(tables, declaring.declared) && declaring.initial.is_some()
 }
 
-/// What is wrong in a declaration's type: an unknown or wrong name (C1, C3), an input or output with parts, an instance
-/// with an initial value (C3).
+/// A fault in a declaration's type: an unknown or wrong name (C1, C3), an input or output with parts, an instance with an
+/// initial value (C3).
 fn wrong_declaring(names: &TextNames, tables: &TextTables, declaring: Declaring) -> Option<Broken>
     ensures { (text : Declared) → ServesText names.now text → ServesTables tables.now text
         → Finds (wrong_declaring text (declaring_view declaring.entry)) result }
@@ -182,7 +181,7 @@ fn wrong_declaring(names: &TextNames, tables: &TextTables, declaring: Declaring)
     )
 }
 
-/// What is wrong in the types of declarations.
+/// A fault in the types of declarations.
 pub fn first_wrong_declaring(
     names: &TextNames,
     tables: &TextTables,
@@ -199,7 +198,7 @@ pub fn first_wrong_declaring(
     None
 }
 
-/// What is wrong in the type of an array's elements, which is no block's.
+/// A fault in the type of an array's elements, which must not be a block.
 pub fn wrong_element(names: &TextNames, tables: &TextTables, array: &ArrayType) -> Option<Broken>
     ensures { (text : Declared) → ServesText names.now text → ServesTables tables.now text
         → Finds (wrong_element text array.now) result }
@@ -207,7 +206,7 @@ pub fn wrong_element(names: &TextNames, tables: &TextTables, array: &ArrayType) 
     wrong_simple(names, tables, false, &array.element)
 }
 
-/// What is wrong in the type of a function's result: its name, or that it has parts.
+/// A fault in the type of a function's result: its name, or that it has parts.
 pub fn wrong_result(names: &TextNames, tables: &TextTables, declared: &SimpleType) -> Option<Broken>
     ensures { (text : Declared) → ServesText names.now text → ServesTables tables.now text
         → Finds (wrong_result text declared.now) result }

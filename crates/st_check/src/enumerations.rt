@@ -72,7 +72,7 @@ fn enumerations_in<'a>(
     Ok(enumerations)
 }
 
-/// The place of the name behind the last one that an enumerated type may have.
+/// The place of the first name beyond the last one that an enumerated type may have.
 fn surplus_name(names: &[Identifier]) -> Option<usize>
     ensures { FindsPlace (surplus_name names.now) result }
 {

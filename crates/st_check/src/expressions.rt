@@ -1,4 +1,4 @@
-//! What is wrong in expressions, for what their places ask.
+//! Faults in expressions, by the demands of their places.
 
 ghost use Rattle.std.specs.Prelude.{◌≡◌, map};
 ghost use Rattle.std.specs.List.{flat_map};
@@ -12,7 +12,7 @@ use st_rules::Broken;
 use st_typing::wrong_expression;
 use symbols::UnitNames;
 
-/// What is wrong in an expression, for what its place asks.
+/// A fault in an expression, by the demand of its place.
 #[tactic(auto, unfolding(crate::specs::Roots::wrong_root))]
 pub fn wrong_root(names: &UnitNames, root: Root) -> Option<Broken>
     ensures { (env : Environment) → Serves names.now env
@@ -21,7 +21,7 @@ pub fn wrong_root(names: &UnitNames, root: Root) -> Option<Broken>
     wrong_expression(names, root.demand, root.tree)
 }
 
-/// What is wrong in expressions, for what their places ask.
+/// A fault in expressions, by the demands of their places.
 pub fn first_wrong_root(names: &UnitNames, roots: &[Root]) -> Option<Broken>
     ensures { (env : Environment) → Serves names.now env
         → Finds (flat_map (wrong_root env) (map root_view roots.now)) result }

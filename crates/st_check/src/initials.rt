@@ -1,4 +1,4 @@
-//! Initial values, by the type of what they are for (C1, C3, C4).
+//! Initial values, by the types of the variables and fields that get them (C1, C3, C4).
 
 ghost use Rattle.std.specs.Prelude.{◌≡◌, ◌||◌, [], map, option_map, is_some, if◌then◌else◌};
 ghost use Rattle.std.specs.List.{flat_map};
@@ -13,7 +13,7 @@ ghost use Rattle.st_rules.specs.InitialRules.{array_in, definition_at, is_struct
 ghost use Rattle.st_rules.specs.InitialRules.{wrong_constant, wrong_count, wrong_counts, wrong_fields, wrong_start};
 ghost use Rattle.st_rules.specs.InitialRules.{wrong_start_of};
 ghost use Rattle.st_rules.specs.Roots.{demand_of_typing};
-ghost use Rattle.st_rules.specs.Typings.{is_nothing, kind_of, meets, settled, typing_of_literal, typing_of_reading};
+ghost use Rattle.st_rules.specs.Typings.{is_nothing, kind_of, allows, settled, typing_of_literal, typing_of_reading};
 ghost use Rattle.symbols.specs.Enumerated.{reading_view};
 ghost use Rattle.symbols.specs.Fields.{ServesFields};
 ghost use Rattle.symbols.specs.PlaceTypes.{place_type_view};
@@ -27,7 +27,7 @@ use st_types::{
     Identifier, Initial, InitialElement, InitialMember, Kind, Literal, SimpleType, TypeDefinition,
 };
 use st_typing::{
-    demand_of_typing, either, is_nothing, kind_of, meets, place_of_literal, settled,
+    allows, demand_of_typing, either, is_nothing, kind_of, place_of_literal, settled,
     typing_of_place, unless, wrong_number, wrong_reading,
 };
 use symbols::{FieldNames, PlaceType, Reading, TextNames, TextTables};
@@ -56,7 +56,7 @@ fn typing_of_literal(tables: &TextTables, literal: &Literal) -> Typing
     }
 }
 
-/// A name that stands for no value of an enumerated type, where the type of what it is for is not known.
+/// A name that stands for no value of an enumerated type, if the type that it is for is not known.
 fn unread_value(tables: &TextTables, literal: &Literal) -> Option<Broken>
     ensures { (text : Declared) → ServesTables tables.now text → Finds (unread_value text literal.now) result }
 {
@@ -79,7 +79,7 @@ fn wrong_literal(tables: &TextTables, offered: Option<Kind>, literal: &Literal) 
     }
 }
 
-/// What is wrong in a literal itself, for what has a typing.
+/// A fault in a literal itself, for this typing.
 fn wrong_in_constant(tables: &TextTables, typing: Typing, literal: &Literal) -> Option<Broken>
     ensures { (text : Declared) → ServesTables tables.now text
         → Finds (if is_nothing typing then unread_value text literal.now
@@ -92,16 +92,16 @@ fn wrong_in_constant(tables: &TextTables, typing: Typing, literal: &Literal) -> 
     }
 }
 
-/// Whether a constant is one that what has the typing takes.
+/// Whether a variable of the typing takes the constant.
 fn takes_constant(tables: &TextTables, typing: Typing, literal: &Literal) -> bool
     ensures { (text : Declared) → ServesTables tables.now text → result
-        ≡ meets (demand_of_typing typing) (settled (kind_of typing) (typing_of_literal text literal.now)) }
+        ≡ allows (demand_of_typing typing) (settled (kind_of typing) (typing_of_literal text literal.now)) }
 {
     let given = settled(kind_of(typing), typing_of_literal(tables, literal));
-    meets(demand_of_typing(typing), given)
+    allows(demand_of_typing(typing), given)
 }
 
-/// What is wrong in a constant: it is none of its variable's type, or in itself.
+/// A fault in a constant: it isn't of its variable's type, or is wrong in itself.
 fn wrong_constant(tables: &TextTables, typing: Typing, literal: &Literal) -> Option<Broken>
     ensures { (text : Declared) → ServesTables tables.now text
         → Finds (wrong_constant text typing literal.now) result }
@@ -168,7 +168,7 @@ fn wrong_counts(elements: &[InitialElement]) -> Option<Broken>
     None
 }
 
-/// A field that the structure has not.
+/// A field that the structure doesn't have.
 fn wrong_field<'a>(
     fields: &FieldNames<'a>,
     declared: Option<PlaceType<'a>>,
@@ -187,7 +187,7 @@ fn wrong_field<'a>(
     }
 }
 
-/// A field that the structure has not, of some.
+/// A field that the structure doesn't have, among these.
 fn wrong_fields<'a>(
     fields: &FieldNames<'a>,
     declared: Option<PlaceType<'a>>,
@@ -205,7 +205,7 @@ fn wrong_fields<'a>(
     None
 }
 
-/// A field that is not there, where the type is a structure.
+/// A field that the type doesn't have, if it is a structure.
 fn wrong_fields_where<'a>(
     fields: &FieldNames<'a>,
     structured: bool,
@@ -223,7 +223,7 @@ fn wrong_fields_where<'a>(
     }
 }
 
-/// Whether a list may stand here: for an array, or for what is not known.
+/// Whether a list is allowed: for an array, or for an unknown type.
 fn takes_list<'a>(
     names: &TextNames<'a>,
     tables: &TextTables<'a>,
@@ -236,7 +236,7 @@ fn takes_list<'a>(
     is_unknown(tables, declared) || is_array(names, declared)
 }
 
-/// Whether a structure's value may stand here: for a structure, or for what is not known.
+/// Whether a structure's value is allowed: for a structure, or for an unknown type.
 fn takes_structure<'a>(
     names: &TextNames<'a>,
     tables: &TextTables<'a>,
@@ -249,7 +249,7 @@ fn takes_structure<'a>(
     is_unknown(tables, declared) || is_structure(names, declared)
 }
 
-/// What is wrong in a list, whose `[` stands at the place: it is for no array, or a count is outside its type.
+/// A fault in a list, whose `[` is at the place: it isn't for an array, or a count is outside its type.
 fn wrong_list<'a>(
     names: &TextNames<'a>,
     tables: &TextTables<'a>,
@@ -267,8 +267,8 @@ fn wrong_list<'a>(
     )
 }
 
-/// What is wrong in a structure's value, whose `(` stands at the place: it is for no structure, or has a field that the
-/// structure has not.
+/// A fault in a structure's value, whose `(` is at the place: it isn't for a structure, or has a field that the structure
+/// doesn't have.
 fn wrong_structure<'a>(
     names: &TextNames<'a>,
     tables: &TextTables<'a>,
@@ -292,7 +292,7 @@ fn wrong_structure<'a>(
     )
 }
 
-/// What is wrong in an initial value for a type. Values inside it are not looked at.
+/// A fault in an initial value for a type. Values inside it are not looked at.
 fn wrong_start_of<'a>(
     names: &TextNames<'a>,
     tables: &TextTables<'a>,
@@ -315,7 +315,7 @@ fn wrong_start_of<'a>(
     }
 }
 
-/// What is wrong in one of these initial values, none of them looked into.
+/// A fault in one of these initial values, none of them looked into.
 pub fn first_wrong_start<'a>(
     names: &TextNames<'a>,
     tables: &TextTables<'a>,

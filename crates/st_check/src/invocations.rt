@@ -1,4 +1,4 @@
-//! Calls of instances of blocks: their arguments (C1, C10), and where outputs are copied to (C3).
+//! Calls of instances of blocks: their arguments (C1, C10), and the variables to which outputs are copied (C3).
 
 ghost use Rattle.std.specs.Prelude.{◌≡◌, ◌++◌, [], Some, map, IfOk};
 ghost use Rattle.std.specs.List.{flat_map};
@@ -19,7 +19,7 @@ use crate::listings::Listed;
 use crate::selections::{is_instance, type_of_place};
 use st_rules::{Broken, Rule};
 use st_types::{Argument, Identifier, Stmt};
-use st_typing::{broken_at, demand_of_type, is_nothing, meets, typing_of_place, unless};
+use st_typing::{allows, broken_at, demand_of_type, is_nothing, typing_of_place, unless};
 use std::alloc::{AllocError, Global};
 use symbols::{Index, PlaceType, Side, TextTables, UnitNames};
 
@@ -48,7 +48,7 @@ fn is_argument<'a>(tables: &TextTables<'a>, declared: PlaceType<'a>, argument: &
     }
 }
 
-/// A place at which an argument is none of the block, or stands again (C10).
+/// A place at which an argument isn't one of the block, or is repeated (C10).
 fn first_wrong_argument<'a>(
     alloc: Global,
     tables: &TextTables<'a>,
@@ -70,7 +70,7 @@ fn first_wrong_argument<'a>(
     Ok(None)
 }
 
-/// What is wrong where an output of a block of the type is copied (C3).
+/// A fault in the copy of an output of a block of the type (C3).
 fn wrong_copy<'a>(
     names: &UnitNames<'_, 'a>,
     declared: PlaceType<'a>,
@@ -88,7 +88,7 @@ fn wrong_copy<'a>(
                 .block_variable(Side::Output, declared, &name.name);
             let demand = demand_of_type(names.tables, output);
             let typing = typing_of_place(names.tables, type_of_place(names, variable));
-            unless(meets(demand, typing), Rule::WrongType, variable.name.place)
+            unless(allows(demand, typing), Rule::WrongType, variable.name.place)
         }
     }
 }
@@ -110,7 +110,7 @@ fn first_wrong_copy<'a>(
     None
 }
 
-/// What is wrong in the arguments of a call of an instance of the type.
+/// A fault in the arguments of a call of an instance of the type.
 fn wrong_call<'a>(
     alloc: Global,
     names: &UnitNames<'_, 'a>,
@@ -129,7 +129,7 @@ fn wrong_call<'a>(
     Ok(first_wrong_copy(names, declared, arguments))
 }
 
-/// What is wrong in a call of an instance.
+/// A fault in a call of an instance.
 fn wrong_instance(
     alloc: Global,
     names: &UnitNames,
@@ -168,7 +168,7 @@ fn wrong_invocation(
     }
 }
 
-/// What is wrong in the calls of instances among statements.
+/// A fault in the calls of instances among statements.
 pub fn first_wrong_invocation(
     alloc: Global,
     names: &UnitNames,

@@ -1,7 +1,7 @@
-//! All rules of the language: a text is judged once, and what goes on is its tree in which each literal has its type.
+//! All rules of the language: a text is judged once, and the result is its tree in which each literal has its type.
 //!
-//! A text is accepted exactly where it breaks no rule, and a refusal names a rule that is broken and its place. Rules
-//! on declarations come first, then types and initial values, then bodies.
+//! A text is accepted exactly if it breaks no rule, and a refusal names a rule that is broken and its place. Rules on
+//! declarations come first, then types and initial values, then bodies.
 #![tactic(auto)]
 
 mod arrays;

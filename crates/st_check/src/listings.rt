@@ -8,7 +8,7 @@ ghost use Rattle.st_check.specs.Listings.{listed_view, listed_below, listed_in, 
 use st_types::{Arm, CaseArm, Stmt};
 use std::alloc::{AllocError, Global};
 
-/// A statement, and whether it stands in a loop.
+/// A statement, and whether it is in a loop.
 #[derive(Clone, Copy)]
 pub struct Listed<'a> {
     pub in_loop: bool,

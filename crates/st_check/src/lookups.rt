@@ -1,4 +1,4 @@
-//! What is looked up in a text to judge it.
+//! The names of a text that are looked up to judge it.
 
 ghost use Rattle.std.specs.Prelude.{IfOk};
 ghost use Rattle.st_types.specs.SourceViews.{source_view};
@@ -9,7 +9,7 @@ use st_types::{Source, Unit};
 use std::alloc::{AllocError, Global};
 use symbols::{FieldNames, TextNames, TextTables};
 
-/// A text with its names, what they stand for, all its declarations, and its units.
+/// A text with its names, their meanings, all its declarations, and its units.
 pub struct Lookups<'a> {
     pub source: &'a Source,
     pub names: TextNames<'a>,

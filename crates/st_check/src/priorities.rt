@@ -45,7 +45,7 @@ fn push_element(places: &mut Vec<usize>, element: &LibraryElement) -> Result<(),
     }
 }
 
-/// Where priorities are too great.
+/// The places of priorities that are too great.
 fn wrong_priorities(alloc: Global, source: &Source) -> Result<Vec<usize>, AllocError>
     ensures { IfOk result (λ places. places.items ≡ flat_map wrong_priorities_of (source_view source.now)) }
 {
@@ -56,7 +56,7 @@ fn wrong_priorities(alloc: Global, source: &Source) -> Result<Vec<usize>, AllocE
     Ok(places)
 }
 
-/// One of the places, where there are any.
+/// One of the places, if there are any.
 fn first_place(places: &[usize]) -> Option<usize>
     ensures { (all : List ℕ) → places.now ≡ all → FindsPlace all result }
 {

@@ -71,7 +71,7 @@ fn first_wrong_result(
     None
 }
 
-/// What is wrong in the results of a text's functions.
+/// A fault in the results of a text's functions.
 pub fn wrong_results(
     alloc: Global,
     names: &TextNames,

@@ -1,4 +1,4 @@
-//! The expressions of statements as one list, each with what its place asks.
+//! The expressions of statements as one list, each with the demand of its place.
 
 ghost use Rattle.std.specs.Prelude.{◌≡◌, ◌∷◌, ◌++◌, [], map, option_map, IfOk};
 ghost use Rattle.std.specs.List.{flat_map};
@@ -23,7 +23,7 @@ use st_typing::demand_of_type;
 use std::alloc::{AllocError, Global};
 use symbols::{PlaceType, Side, UnitNames};
 
-/// An expression with what its place asks.
+/// An expression with the demand of its place.
 #[derive(Clone, Copy)]
 pub struct Root<'a> {
     pub demand: Demand,
@@ -42,7 +42,7 @@ fn push_root<'a>(
     Ok(())
 }
 
-/// What is asked of a condition: that it is a BOOL.
+/// The demand of a condition: that it is a BOOL.
 fn condition() -> Demand
     ensures { result ≡ condition }
 {
@@ -130,7 +130,7 @@ fn push_conditions<'a>(roots: &mut Vec<Root<'a>>, arms: &'a [Arm]) -> Result<(),
     Ok(())
 }
 
-/// Appends what stands after BY.
+/// Appends the number after BY.
 fn push_step<'a>(
     roots: &mut Vec<Root<'a>>,
     demand: Demand,
@@ -145,7 +145,7 @@ fn push_step<'a>(
     }
 }
 
-/// Appends the numbers that a FOR counts by.
+/// Appends the numbers by which a FOR counts.
 fn push_counts<'a>(
     roots: &mut Vec<Root<'a>>,
     demand: Demand,
@@ -205,7 +205,7 @@ fn push_own<'a>(
     }
 }
 
-/// Appends the subscripts of where an output is copied to.
+/// Appends the subscripts of the variable to which an output is copied.
 fn push_copy<'a>(roots: &mut Vec<Root<'a>>, argument: &'a Argument) -> Result<(), AllocError>
     ensures { IfOk result (λ done. map root_view roots.new.items ≡ map root_view roots.old.items
         ++ flat_map roots_of_target (targets_of_arguments (argument_view argument.now ∷ []))) }
@@ -226,7 +226,7 @@ fn push_copies<'a>(roots: &mut Vec<Root<'a>>, arguments: &'a [Argument]) -> Resu
     Ok(())
 }
 
-/// Appends the subscripts of what a statement assigns.
+/// Appends the subscripts of the variables that a statement assigns.
 fn push_targets<'a>(roots: &mut Vec<Root<'a>>, statement: &'a Stmt) -> Result<(), AllocError>
     ensures { IfOk result (λ done. map root_view roots.new.items ≡ map root_view roots.old.items
         ++ flat_map roots_of_target (targets_of (stmt_view statement.now))) }
@@ -250,7 +250,7 @@ fn push_statement<'a>(
     push_targets(roots, statement)
 }
 
-/// The expressions of statements, and those in the subscripts of what they assign.
+/// The expressions of statements, and those in the subscripts of the variables that they assign.
 pub fn roots_of<'a>(
     alloc: Global,
     names: &UnitNames,

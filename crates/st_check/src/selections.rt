@@ -1,4 +1,4 @@
-//! What is selected of variables, without what stands in their subscripts.
+//! Selections of variables, apart from the expressions in their subscripts.
 
 ghost use Rattle.std.specs.Prelude.{◌≡◌, map, option_map};
 ghost use Rattle.st_types.specs.Expressions.{selectors_of};
@@ -14,21 +14,21 @@ ghost use Rattle.symbols.specs.Tables.{ServesTables};
 
 use st_rules::{Broken, Rule};
 use st_types::{Selector, SimpleType, Variable};
-use st_typing::{is_nothing, selected_type, type_behind, wrong_selector};
+use st_typing::{is_nothing, selected_type, type_after_selectors, wrong_selector};
 use symbols::{PlaceType, TextTables, UnitNames};
 
-/// The type of what a variable selects.
+/// The type of the part that a variable selects.
 pub fn type_of_place<'a>(names: &UnitNames<'_, 'a>, variable: &Variable) -> Option<PlaceType<'a>>
     ensures { (env : Environment) → Serves names.now env
         → option_map place_type_view result ≡ type_of_place env (variable_view variable.now) }
 {
     match names.type_of_name(&variable.name.name) {
-        Some(declared) => type_behind(names.tables, declared, &variable.selectors),
+        Some(declared) => type_after_selectors(names.tables, declared, &variable.selectors),
         None => None,
     }
 }
 
-/// What is wrong in the selectors behind the name at a place.
+/// A fault in the selectors after the name at a place.
 fn wrong_selectors<'a>(
     tables: &TextTables<'a>,
     place: usize,
@@ -54,7 +54,7 @@ fn wrong_selectors<'a>(
     None
 }
 
-/// A variable that is not there, or a wrong selection.
+/// A variable that isn't declared, or a wrong selection.
 pub fn wrong_variable(names: &UnitNames, variable: &Variable) -> Option<Broken>
     ensures { (env : Environment) → Serves names.now env
         → Finds (wrong_variable env (variable_view variable.now)) result }
@@ -73,7 +73,7 @@ pub fn wrong_variable(names: &UnitNames, variable: &Variable) -> Option<Broken>
     }
 }
 
-/// Whether what has the type is an instance of a block.
+/// Whether a variable of the type is an instance of a block.
 pub fn is_instance(tables: &TextTables, declared: Option<PlaceType>) -> bool
     ensures { (env : Environment) → ServesTables tables.now env.text
         → result ≡ is_instance env (option_map place_type_view declared.entry) }
@@ -84,7 +84,7 @@ pub fn is_instance(tables: &TextTables, declared: Option<PlaceType>) -> bool
     }
 }
 
-/// Whether what is selected of what has the type stands behind an instance.
+/// Whether the selectors of a variable of the type lead into an instance.
 pub fn passes_instance<'a>(
     tables: &TextTables<'a>,
     declared: Option<PlaceType<'a>>,

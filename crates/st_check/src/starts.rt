@@ -12,7 +12,7 @@ use st_decl::starts_of;
 use st_rules::Broken;
 use std::alloc::{AllocError, Global};
 
-/// What is wrong in the initial values of a text.
+/// A fault in the initial values of a text.
 pub fn wrong_starts<'a>(alloc: Global, lookups: &Lookups<'a>) -> Result<Option<Broken>, AllocError>
     ensures { IfOk result (λ broken. (source : tree.Source) → ServesSource lookups.now source
         → Finds (wrong_starts source) broken) }

@@ -1,4 +1,4 @@
-//! What may be assigned, and by which names FORs count.
+//! The variables that may be assigned, and the names by which FORs may count.
 
 ghost use Rattle.std.specs.Prelude.{◌≡◌, map};
 ghost use Rattle.std.specs.List.{flat_map};
@@ -16,7 +16,7 @@ use crate::assignments::Assigned;
 use crate::selections::{passes_instance, type_of_place, wrong_variable};
 use st_rules::{Broken, Demand, Rule, Sorts};
 use st_types::{Identifier, Section, Selector, Variable};
-use st_typing::{either, meets, unless};
+use st_typing::{allows, either, unless};
 use symbols::{PlaceType, UnitNames};
 
 /// An input of the unit, or a constant.
@@ -36,8 +36,8 @@ fn is_own(section: Option<Section>) -> bool
     matches!(section, Some(Section::Local(_) | Section::Constant))
 }
 
-/// Whether a variable may be assigned: it is no input, constant or control variable of a FOR that runs, and nothing
-/// that stands behind an instance.
+/// Whether a variable may be assigned: it isn't an input, a constant, the control variable of a FOR that runs, or a part of
+/// an instance.
 fn is_free(names: &UnitNames, runs: bool, name: &Identifier, selectors: &[Selector]) -> bool
     ensures { (env : Environment) → Serves names.now env
         → result ≡ is_free env runs (variable name.now (selectors_of (map selector_view selectors.now))) }
@@ -48,7 +48,7 @@ fn is_free(names: &UnitNames, runs: bool, name: &Identifier, selectors: &[Select
         && !passes_instance(names.tables, declared, selectors)
 }
 
-/// What is wrong in a variable that is assigned by its name (C1, C3, C5).
+/// A fault in a variable that is assigned by its name (C1, C3, C5).
 fn wrong_target(names: &UnitNames, runs: bool, variable: &Variable) -> Option<Broken>
     ensures { (env : Environment) → Serves names.now env
         → Finds (wrong_target env runs (variable_view variable.now)) result }
@@ -72,13 +72,13 @@ fn is_control(names: &UnitNames, control: &Identifier, declared: PlaceType) -> b
         → result ≡ is_control env control.now (place_type_view declared.entry) }
 {
     is_own(names.section_of(&control.name))
-        && meets(
+        && allows(
             Demand::Asked(None, Sorts::Whole),
             names.tables.typing_of_type(declared),
         )
 }
 
-/// What is wrong in a name that a FOR counts by (C1, C3, C5).
+/// A fault in a name by which a FOR counts (C1, C3, C5).
 #[tactic(auto, using(st_typing::proofs::Finding::finds_front))]
 fn wrong_control(names: &UnitNames, runs: bool, control: &Identifier) -> Option<Broken>
     ensures { (env : Environment) → Serves names.now env
@@ -114,7 +114,7 @@ fn wrong_assigned(names: &UnitNames, assigned: Assigned) -> Option<Broken>
     }
 }
 
-/// What is wrong in what a body assigns.
+/// A fault in the assignments of a body.
 pub fn first_wrong_assigned(names: &UnitNames, assigned: &[Assigned]) -> Option<Broken>
     ensures { (env : Environment) → Serves names.now env
         → Finds (flat_map (wrong_assigned env) (map assigned_view assigned.now)) result }

@@ -16,7 +16,7 @@ use st_rules::{Broken, Rule};
 use st_typing::{broken_at, either};
 use std::alloc::{AllocError, Global};
 
-/// What is wrong in the types and the numbers of a text's declarations, where no enumerated type has too many names.
+/// A fault in the types and the numbers of a text's declarations, if no enumerated type has too many names.
 pub fn wrong_types<'a>(alloc: Global, lookups: &Lookups<'a>) -> Result<Option<Broken>, AllocError>
     ensures { IfOk result (λ broken. (source : tree.Source) → ServesSource lookups.now source
         → HasNoSurplus source → Finds (wrong_types source) broken) }

@@ -1,4 +1,4 @@
--- A list of trees has at least the instructions of one of them and of those behind it.
+-- A list of trees has at least the instructions of one of them and of those after it.
 use Rattle.std.proofs.Common.{◌≡◌, ℕ, zero, suc, ◌+◌, ◌<◌, ◌≤◌, List, [], ◌∷◌, length, drop, get_or, map, sym, subst}
 use Rattle.std.proofs.Common.{ap, ◌∙◌, arith, refl}
 use Rattle.st_types.specs.declared.statement.Label.{Label}
@@ -176,7 +176,7 @@ module _ (units : UnitLengths) where
       let h = case_behind xs k (k + 1) a (omega arith) refl is in
       rw d (omega arith)
 
-  -- of the arms behind one of them
+  -- of the arms after one of them
   pub arms_left : (xs : List code_arm.SlotArm) (k j : ℕ) → k < length xs → j ≡ k + 1
       → 2 + arms_length units (arms_of (map slot_arm_view (drop j xs)))
       ≤ arms_length units (arms_of (map slot_arm_view xs))

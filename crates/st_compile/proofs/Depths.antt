@@ -7,7 +7,7 @@ use Rattle.slot_trees.specs.SlotTrees.{BlockCode, SlotFunction, SlotStmts, SlotL
 use Rattle.machine_code.specs.Calls.{units_code, called_code, instance_code}
 use Rattle.machine_code.specs.Fitting.{CallFitsWithin, IfFunctionFits, InstanceFits, of_function, of_block, UnitCall}
 use Rattle.machine_code.specs.Growing.{Code}
-use Rattle.machine_code.specs.Sites.{Site}
+use Rattle.machine_code.specs.UnitFrames.{UnitFrame}
 use Rattle.st_compile.specs.Linked.{CallLinkedWithin, IfFunctionLinked, InstanceLinked}
 use Rattle.st_compile.proofs.Sizes.{weight, body_bound, stmts_size, functions_size, blocks_size}
 
@@ -18,7 +18,7 @@ unfolding units_code
 functions_below library n d f start c e = subst (λ m. (units_code library m).functions f start c
     ≡ called_code (units_code library d) (slice_get library.functions f) start c) e refl
 
-pub blocks_below : (library : SlotLibrary) (n d : ℕ) (b : BlockCode) (s : Site) (c : Code) → suc d ≡ n
+pub blocks_below : (library : SlotLibrary) (n d : ℕ) (b : BlockCode) (s : UnitFrame) (c : Code) → suc d ≡ n
     → (units_code library n).blocks b s c ≡ instance_code library (units_code library d) b s c
 unfolding units_code
 blocks_below library n d b s c e = subst (λ m. (units_code library m).blocks b s c
@@ -31,7 +31,7 @@ unfolding CallFitsWithin
 function_fits memory library n d f start count e h =
     subst (λ m. CallFitsWithin memory library m (of_function f start count)) e h
 
-pub block_fits : (memory : ℕ) (library : SlotLibrary) (n d : ℕ) (b : BlockCode) (s : Site) → suc d ≡ n
+pub block_fits : (memory : ℕ) (library : SlotLibrary) (n d : ℕ) (b : BlockCode) (s : UnitFrame) → suc d ≡ n
     → InstanceFits (CallFitsWithin memory library d) library b s → CallFitsWithin memory library n (of_block b s)
 unfolding CallFitsWithin
 block_fits memory library n d b s e h = subst (λ m. CallFitsWithin memory library m (of_block b s)) e h
@@ -47,7 +47,7 @@ unfolding CallLinkedWithin
 function_linked library n d f start count e h =
     subst (λ m. CallLinkedWithin library m (of_function f start count)) (sym e) h
 
-pub block_linked : (library : KeptLibrary) (n d : ℕ) (b : BlockCode) (s : Site) → suc d ≡ n
+pub block_linked : (library : KeptLibrary) (n d : ℕ) (b : BlockCode) (s : UnitFrame) → suc d ≡ n
     → CallLinkedWithin library n (of_block b s) → InstanceLinked (CallLinkedWithin library d) library b s
 unfolding CallLinkedWithin
 block_linked library n d b s e h = subst (λ m. CallLinkedWithin library m (of_block b s)) (sym e) h
@@ -68,7 +68,7 @@ block_in_sum (x ∷ xs) (suc k) b e = let h = block_in_sum xs k b e in omega ari
 one_lighter : (d b x : ℕ) → x < b → d * b + x < suc d * b
 one_lighter d b x lt = omega arith
 
--- a body one call deeper is worth less than all that may be called here
+-- a body one call deeper has less weight than all that may be called here
 pub function_lighter : (library : SlotLibrary) (n d k : ℕ) (f : SlotFunction) → suc d ≡ n
     → slice_get library.functions k ≡ Some f → weight library d + stmts_size f.body < weight library n
 unfolding weight body_bound

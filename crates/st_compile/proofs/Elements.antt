@@ -1,4 +1,4 @@
--- What holds of lists holds of their elements.
+-- A property of a list is a property of its elements.
 use Rattle.std.proofs.Common.{◌≡◌, ℕ, zero, suc, ◌+◌, ◌<◌, ◌≤◌, List, [], ◌∷◌, length, get_or, map, sym, subst, ap}
 use Rattle.std.proofs.Common.{◌∙◌}
 use Rattle.std.proofs.Common.{arith}
@@ -16,7 +16,7 @@ use Rattle.slot_trees.specs.StatementViews.{slot_argument_view, slot_stmt_view, 
 use Rattle.slot_trees.specs.StatementViews.{slot_case_arm_view}
 use Rattle.machine_code.specs.Codes.{given_members}
 use Rattle.machine_code.specs.Fitting.{UnitCall, AllBelow}
-use Rattle.machine_code.specs.Sites.{Site}
+use Rattle.machine_code.specs.UnitFrames.{UnitFrame}
 use Rattle.st_compile.specs.Emitting.{InputsLinked, OutputsLinked}
 use Rattle.st_compile.specs.Linked.{IsLabel, AreLabels, IsSubscript, ExprLinked, ExprsLinked, PlaceLinked}
 use Rattle.st_compile.specs.Linked.{SubscriptsLinked, StmtLinked, StmtsLinked, ArmsLinked, CaseArmsLinked}
@@ -110,7 +110,7 @@ case_smaller (x ∷ xs) zero a lt is =
     let s = ap (λ (y : code_case_arm.SlotCaseArm). stmts_size (slot_stmts_view y.body.items)) is in omega arith
 case_smaller (x ∷ xs) (suc k) a lt is = let h = case_smaller xs k a (omega arith) is in omega arith
 
-module _ (C : UnitCall → Type 0) (s : Site) where
+module _ (C : UnitCall → Type 0) (s : UnitFrame) where
   pub expr_at : (es : List code_expr.SlotExpr) (k : ℕ) (e : code_expr.SlotExpr) → k < length es
       → e ≡ get_or es k e → ExprsLinked C s (exprs_of (map slot_expr_view es)) → ExprLinked C s (slot_expr_view e)
   expr_at [] k e lt is h = absurd (omega arith)
@@ -128,7 +128,7 @@ module _ (C : UnitCall → Type 0) (s : Site) where
       (sym is) (subst P (subscript_seen x) (h.0, h.1))
   subscript_at (x ∷ xs) (suc k) e lt is h = subscript_at xs k e (omega arith) is h.2
 
-  -- what is asked of an argument that is given, and of one that is copied
+  -- the demands on an argument that is given, and on one that is copied
   abbrev pub InputLinked : ℕ → code_argument.SlotArgument → Type 0
   InputLinked at (Given o e) = (at + o < s.size) × ExprLinked C s (slot_expr_view e)
   InputLinked at (Copied o p) = Unit {0}

@@ -1,4 +1,4 @@
--- What is kept of a library is what it was, with what is filled in.
+-- The units that are kept of a library are unchanged, with the others filled in.
 use Rattle.std.proofs.Common.{◌≡◌, ℕ, Some, option_map, ap, ◌∙◌}
 use Rattle.std.specs.Prelude.{slice_get}
 use Rattle.std.proofs.lemmas.Option.{slice_get-map}

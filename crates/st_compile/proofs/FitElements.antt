@@ -1,4 +1,4 @@
--- What fits of lists fits of their elements, and of what is left out nothing fits.
+-- If lists fit, so do their elements, and nothing fits a unit that is left out.
 use Rattle.std.proofs.Common.{◌≡◌, ℕ, zero, suc, ◌+◌, ◌-◌, ◌<◌, ◌≤◌, List, [], ◌∷◌, length, get_or, map, sym, subst}
 use Rattle.std.proofs.Common.{ap}
 use Rattle.std.proofs.Common.{◌∙◌, arith, Option, Some, None, option_map, refl}
@@ -24,7 +24,7 @@ use Rattle.machine_code.specs.Codes.{given_members}
 use Rattle.machine_code.specs.Fitting.{UnitCall, of_function, of_block, AllBelow, ExprFits, ExprsFit, PlaceFits}
 use Rattle.machine_code.specs.Fitting.{SubscriptsFit, ArgumentsFit, StmtFits, StmtsFit, ArmsFit, CaseArmsFit}
 use Rattle.machine_code.specs.Fitting.{CallFitsWithin, FunctionFits, IfFunctionFits, IfBodyFits, InstanceFits}
-use Rattle.machine_code.specs.Sites.{Site}
+use Rattle.machine_code.specs.UnitFrames.{UnitFrame}
 use Rattle.st_compile.specs.Emitting.{InputsFit, OutputsFit, filled, or_unfit_function, or_unfit_body}
 use Rattle.st_compile.specs.Lengths.{units_length, if_function_length, if_body_length, block_length, stmts_length}
 use Rattle.st_compile.proofs.Elements.{subscript_seen}
@@ -38,19 +38,19 @@ function_fits_below memory library n d f start count o e at h =
     subst (λ x. IfFunctionFits (CallFitsWithin memory library d) memory x start count) at
     (subst (λ m. CallFitsWithin memory library m (of_function f start count)) (sym e) h)
 
-pub block_fits_below : (memory : ℕ) (library : SlotLibrary) (n d : ℕ) (b : BlockCode) (s : Site) → suc d ≡ n
+pub block_fits_below : (memory : ℕ) (library : SlotLibrary) (n d : ℕ) (b : BlockCode) (s : UnitFrame) → suc d ≡ n
     → CallFitsWithin memory library n (of_block b s) → InstanceFits (CallFitsWithin memory library d) library b s
 unfolding CallFitsWithin
 block_fits_below memory library n d b s e h =
     subst (λ m. CallFitsWithin memory library m (of_block b s)) (sym e) h
 
 pub body_fits_below : (memory : ℕ) (library : SlotLibrary) (n d number : ℕ) (block : BlockCode) (body : SlotStmts)
-    (s : Site) → suc d ≡ n → block ≡ own_block number → slice_get library.blocks number ≡ Some body
+    (s : UnitFrame) → suc d ≡ n → block ≡ own_block number → slice_get library.blocks number ≡ Some body
     → CallFitsWithin memory library n (of_block block s) → StmtsFit (CallFitsWithin memory library d) s body
 body_fits_below memory library n d number block body s e of at h =
     rw at at (rw of at (block_fits_below memory library n d block s e h))
 
--- what is left out fits nothing
+-- a unit that is left out fits nothing
 pub no_function_fits : (memory : ℕ) (kept : KeptLibrary) (n d f start count : ℕ) → suc d ≡ n
     → slice_get kept.functions f ≡ Some None → CallFitsWithin memory (filled kept) n (of_function f start count) → ⊥
 no_function_fits memory kept n d f start count e none h =
@@ -60,7 +60,7 @@ no_function_fits memory kept n d f start count e none h =
     let result = fits.result in
     omega arith
 
-pub no_body_fits : (memory : ℕ) (kept : KeptLibrary) (n d number : ℕ) (block : BlockCode) (s : Site) → suc d ≡ n
+pub no_body_fits : (memory : ℕ) (kept : KeptLibrary) (n d number : ℕ) (block : BlockCode) (s : UnitFrame) → suc d ≡ n
     → block ≡ own_block number → slice_get kept.blocks number ≡ Some None
     → CallFitsWithin memory (filled kept) n (of_block block s) → ⊥
 no_body_fits memory kept n d number block s e of none h =
@@ -98,7 +98,7 @@ own_length kept n d number block body e of at =
     blocks_length kept n d block e ∙ ap (block_length (units_length kept d) kept) of
     ∙ ap (if_body_length (units_length kept d)) at
 
-module _ (C : UnitCall → Type 0) (s : Site) where
+module _ (C : UnitCall → Type 0) (s : UnitFrame) where
   pub inputs_fit : (at : ℕ) (xs : List SlotArgument) → ArgumentsFit C s at xs → InputsFit C s at xs
   inputs_fit at [] h = tt
   inputs_fit at (given o e ∷ rest) h = (h.0, h.1, inputs_fit at rest h.2)
@@ -130,7 +130,7 @@ module _ (C : UnitCall → Type 0) (s : Site) where
       (subst (λ (y : Subscript). ExprFits C s y.index) (subscript_seen x) h.0)
   subscript_fits (x ∷ xs) (suc k) e lt is h = subscript_fits xs k e (omega arith) is h.1
 
-  -- what is asked of an argument that is given, and of one that is copied
+  -- the demands on an argument that is given, and on one that is copied
   abbrev pub InputFits : ℕ → code_argument.SlotArgument → Type 0
   InputFits at (Given o e) = (at + o < s.size) × ExprFits C s (slot_expr_view e)
   InputFits at (Copied o p) = Unit {0}

@@ -1,9 +1,9 @@
--- How what is put joins to the code of trees.
+-- How the code that is put joins to that of trees.
 use Rattle.std.proofs.Common.{◌≡◌, ℕ, suc, ◌+◌, ◌<◌, ◌≤◌, List, [], ◌∷◌, length, map, drop, get_or, Option, Some}
 use Rattle.std.proofs.Common.{Result, Ok, Err, refl, sym, subst, ap, ◌∙◌, arith, drop-cons}
 use Rattle.std.specs.Prelude.{slice_get, OnOk, IfErr}
 use Rattle.machine_code.specs.declared.instr.Instr.{Instr}
-use Rattle.machine_code.specs.declared.instr.Instr.TheVariants.{Push, Fetch, Step, Turn, Compute}
+use Rattle.machine_code.specs.declared.instr.Instr.TheVariants.{Push, LoadRaw, Step, Reverse, Compute}
 use Rattle.machine_code.specs.Machine.{slot_number}
 use Rattle.machine_code.specs.declared.limits.TheConstants.{MAX_INSTRUCTIONS}
 use Rattle.st_meaning.specs.StandardBlocks.{members_of}
@@ -26,39 +26,39 @@ use Rattle.slot_trees.specs.ExpressionViews.{slot_expr_view, subscript_view}
 use Rattle.machine_code.specs.Calls.{units_code, resets_code}
 use Rattle.machine_code.specs.Codes.{CodeUnits, standard_code, block_code, count_of, led_code, subscripts_code}
 use Rattle.machine_code.specs.Codes.{stmts_code}
-use Rattle.machine_code.specs.Codes.{stores_code, body_ways, inputs_code, outputs_code, invoke_code, given_members}
+use Rattle.machine_code.specs.Codes.{stores_code, body_targets, inputs_code, outputs_code, invoke_code, given_members}
 use Rattle.machine_code.specs.Codes.{expr_code, exprs_code, place_code}
 use Rattle.machine_code.specs.Fitting.{UnitCall, of_function, of_block, ArgumentsFit, StmtsFit, FunctionFits}
 use Rattle.machine_code.specs.Fitting.{CallFitsWithin}
 use Rattle.machine_code.specs.Growing.{Code, ◌◂◌}
-use Rattle.machine_code.specs.Sites.{Site, slot_in, site_at, site_from}
+use Rattle.machine_code.specs.UnitFrames.{UnitFrame, slot_in, instance_frame, call_frame}
 use Rattle.st_compile.specs.declared.compile_error.CompileError.{CompileError}
 use Rattle.st_compile.specs.declared.compile_error.CompileError.TheVariants.{TooManyInstructions}
 use Rattle.st_compile.specs.declared.scope.Scope.{Scope}
 use Rattle.st_compile.specs.Signatures.{HasSignature}
-use Rattle.st_compile.specs.Emitting.{site_of, InputsFit, OutputsFit, InputsLinked, OutputsLinked}
+use Rattle.st_compile.specs.Emitting.{frame_of, InputsFit, OutputsFit, InputsLinked, OutputsLinked}
 use Rattle.st_compile.specs.Linked.{ArgumentsLinked, IfBodyLinked, IfFunctionLinked, CallLinkedWithin, StmtsLinked}
 use Rattle.st_compile.proofs.Depths.{functions_below, blocks_below, function_fits, block_fits, function_linked}
 use Rattle.st_compile.proofs.Depths.{block_linked}
 use Rattle.st_compile.proofs.Elements.{subscript_seen}
 
--- where a part is refused for what it is, and so the whole is
+-- if a part is refused, so is the whole
 pub not_linked : {T : Type 0} {k : CompileError} (r : Result T CompileError) (e : CompileError) (P Q : Type 0)
     → (e ≡ k → P → ⊥) → (Q → P) → r ≡ Err e → IfErr r (λ y. y ≡ k → Q → ⊥)
 not_linked {k = k} r e P Q h f is = subst (λ s. IfErr s (λ y. y ≡ k → Q → ⊥)) (sym is) (λ n q. h n (f q))
 
--- where a unit is not there
+-- if a unit is not there
 pub not_there : {T : Type 0} {k : CompileError} (r : Result T CompileError) (e : CompileError) (P Q : Type 0)
     → (e ≡ k → P) → (P → Q → ⊥) → r ≡ Err e → IfErr r (λ y. y ≡ k → Q → ⊥)
 not_there {k = k} r e P Q h f is = subst (λ s. IfErr s (λ y. y ≡ k → Q → ⊥)) (sym is) (λ n q. f (h n) q)
 
--- the same of an answer that is passed on
+-- the same for an answer that is passed on
 pub passed_on : {T : Type 0} (k : CompileError) (r : Result T CompileError) (P Q : Type 0)
     → IfErr r (λ y. y ≡ k → P → ⊥) → (Q → P) → IfErr r (λ y. y ≡ k → Q → ⊥)
 passed_on k (Ok x) P Q h f = h
 passed_on k (Err e) P Q h f = λ n q. h n (f q)
 
--- where a part has too many instructions, and so the whole has
+-- if a part has too many instructions, so has the whole
 pub too_long : {T : Type 0} (r : Result T CompileError) (e : CompileError) (m n : ℕ)
     → (e ≡ TooManyInstructions → MAX_INSTRUCTIONS < m) → m ≤ n → r ≡ Err e
     → IfErr r (λ y. y ≡ TooManyInstructions → MAX_INSTRUCTIONS < n)
@@ -105,7 +105,7 @@ count_is [] = refl
 count_is (e ∷ es) = ap suc (count_is es)
 
 -- subscripts lead on from a slot that is put first
-pub led_is : (units : CodeUnits) (s : Site) (xs : List code_subscript.Subscript) (k : ℕ) (here : ℕ → Instr) (at :
+pub led_is : (units : CodeUnits) (s : UnitFrame) (xs : List code_subscript.Subscript) (k : ℕ) (here : ℕ → Instr) (at :
     Instr)
     (c : Code) → 0 < length xs → led_code units s (subscripts_of (map subscript_view xs)) k here at c
     ≡ subscripts_code units s (subscripts_of (map subscript_view xs)) (c ◂ at) ◂ Push (slot_number k)
@@ -125,7 +125,7 @@ subscripts_drop ss k j s lt e is =
     (subscript_seen s) ∙ ap (λ m. subscript_then (slot_expr_view s.index) s.lower s.count s.stride
     (subscripts_of (map subscript_view (drop m ss)))) (sym f)
 
-module _ (C : UnitCall → Type 0) (s : Site) where
+module _ (C : UnitCall → Type 0) (s : UnitFrame) where
   pub arguments_fit : (at : ℕ) (xs : List SlotArgument) → InputsFit C s at xs → OutputsFit C s at xs
       → ArgumentsFit C s at xs
   arguments_fit at [] g h = tt
@@ -143,7 +143,7 @@ module _ (C : UnitCall → Type 0) (s : Site) where
   outputs_linked at (copied o p ∷ rest) h = (h.0, h.1, outputs_linked at rest h.2)
 
 -- a standard block in place of its call
-pub standard_put : (library : SlotLibrary) (n d : ℕ) (block : BlockCode) (b : code_block.StandardBlock) (s : Site)
+pub standard_put : (library : SlotLibrary) (n d : ℕ) (block : BlockCode) (b : code_block.StandardBlock) (s : UnitFrame)
     (c : Code) (slot : ℕ) → suc d ≡ n → block ≡ standard_block (block_view b) → slot ≡ s.start + s.base
     → c ◂ Step b slot ≡ (units_code library n).blocks block s c
 standard_put library n d block b s c slot e of is =
@@ -152,39 +152,39 @@ standard_put library n d block b s c slot e of is =
     ∙ ap (λ x. (units_code library n).blocks x s c) (sym of)
 
 pub standard_fits : (memory : ℕ) (library : SlotLibrary) (n d : ℕ) (block : BlockCode) (b : code_block.StandardBlock)
-    (s : Site) → suc d ≡ n → block ≡ standard_block (block_view b) → s.base + length (members_of (block_view b)) ≤
+    (s : UnitFrame) → suc d ≡ n → block ≡ standard_block (block_view b) → s.base + length (members_of (block_view b)) ≤
     s.size
     → CallFitsWithin memory library n (of_block block s)
 standard_fits memory library n d block b s e of le = block_fits memory library n d block s e (rw of le)
 
 pub standard_linked : (library : KeptLibrary) (n d : ℕ) (block : BlockCode) (b : code_block.StandardBlock)
-    (s : Site) → suc d ≡ n → block ≡ standard_block (block_view b) → CallLinkedWithin library n (of_block block s)
+    (s : UnitFrame) → suc d ≡ n → block ≡ standard_block (block_view b) → CallLinkedWithin library n (of_block block s)
     → s.base + length (members_of (block_view b)) ≤ s.size
 standard_linked library n d block b s e of h = rw of at (block_linked library n d block s e h)
 
 -- a block of the text in place of its call
-pub own_put : (library : SlotLibrary) (n d number : ℕ) (block : BlockCode) (body : SlotStmts) (s : Site) (c : Code)
+pub own_put : (library : SlotLibrary) (n d number : ℕ) (block : BlockCode) (body : SlotStmts) (s : UnitFrame) (c : Code)
     (end : ℕ) → suc d ≡ n → block ≡ own_block number → slice_get library.blocks number ≡ Some body → end ≡ length c
-    → stmts_code (units_code library d) s body (body_ways end) c ≡ (units_code library n).blocks block s c
+    → stmts_code (units_code library d) s body (body_targets end) c ≡ (units_code library n).blocks block s c
 own_put library n d number block body s c end e of known is =
     let b = rw known at (blocks_below library n d (own_block number) s c e) in
-    ap (λ k. stmts_code (units_code library d) s body (body_ways k) c) is ∙ sym b
+    ap (λ k. stmts_code (units_code library d) s body (body_targets k) c) is ∙ sym b
     ∙ ap (λ x. (units_code library n).blocks x s c) (sym of)
 
-pub own_fits : (memory : ℕ) (library : SlotLibrary) (n d number : ℕ) (block : BlockCode) (body : SlotStmts) (s : Site)
+pub own_fits : (memory : ℕ) (library : SlotLibrary) (n d number : ℕ) (block : BlockCode) (body : SlotStmts) (s : UnitFrame)
     → suc d ≡ n → block ≡ own_block number → slice_get library.blocks number ≡ Some body
     → StmtsFit (CallFitsWithin memory library d) s body → CallFitsWithin memory library n (of_block block s)
 own_fits memory library n d number block body s e of known h =
     block_fits memory library n d block s e (rw (of, known) h)
 
 pub own_linked : (library : KeptLibrary) (n d number : ℕ) (block : BlockCode) (o : Option (Option SlotStmts)) (s :
-    Site)
+    UnitFrame)
     → suc d ≡ n → block ≡ own_block number → slice_get library.blocks number ≡ o
     → CallLinkedWithin library n (of_block block s) → IfBodyLinked (CallLinkedWithin library d) o s
 own_linked library n d number block o s e of known h =
     rw known at (rw of at (block_linked library n d block s e h))
 
-site_is : (z : Scope) (start size : ℕ) → z.start ≡ start → z.base ≡ 0 → z.size ≡ size → site_of z ≡ site_from start
+site_is : (z : Scope) (start size : ℕ) → z.start ≡ start → z.base ≡ 0 → z.size ≡ size → frame_of z ≡ call_frame start
     size
 site_is z start size e f g = rw (e, f, g) refl
 
@@ -193,10 +193,10 @@ pub function_put : (library : SlotLibrary) (n number start : ℕ) (f : SlotFunct
     Code)
     (slot end taken : ℕ) → suc z.depth ≡ n → slice_get library.functions number ≡ Some f → z.start ≡ start → z.base ≡
     0
-    → z.size ≡ length f.fresh → slot ≡ z.start + f.result → c1 ≡ c ◂ Fetch slot → end ≡ length c1
-    → c2 ≡ stmts_code (units_code library z.depth) (site_of z) f.body (body_ways end) c1
+    → z.size ≡ length f.fresh → slot ≡ z.start + f.result → c1 ≡ c ◂ LoadRaw slot → end ≡ length c1
+    → c2 ≡ stmts_code (units_code library z.depth) (frame_of z) f.body (body_targets end) c1
     → c3 ≡ stores_code z.start f.inputs c2 → c4 ≡ resets_code z.start f.fresh c3 → taken ≡ length f.inputs
-    → c5 ≡ c4 ◂ Turn taken → c5 ≡ (units_code library n).functions number start c
+    → c5 ≡ c4 ◂ Reverse taken → c5 ≡ (units_code library n).functions number start c
 function_put library n number start f z c c1 c2 c3 c4 c5 slot end taken e known at base size at_result put1 is_end
     put2
     put3 put4 is_taken put5 =
@@ -207,7 +207,7 @@ function_put library n number start f z c c1 c2 c3 c4 c5 slot end taken e known 
 pub function_fits_so : (memory : ℕ) (library : SlotLibrary) (n number start count : ℕ) (f : SlotFunction) (z : Scope)
     → suc z.depth ≡ n → slice_get library.functions number ≡ Some f → z.memory ≡ memory → z.start ≡ start → z.base ≡ 0
     → z.size ≡ length f.fresh → z.start + z.size ≤ memory → HasSignature f count
-    → StmtsFit (CallFitsWithin z.memory library z.depth) (site_of z) f.body
+    → StmtsFit (CallFitsWithin z.memory library z.depth) (frame_of z) f.body
     → CallFitsWithin memory library n (of_function number start count)
 function_fits_so memory library n number start count f z e known mem at base size le has h =
     let fits : FunctionFits (CallFitsWithin memory library z.depth) memory f start count = record {
@@ -229,29 +229,29 @@ function_linked_so library n d number start count o e known h =
 pub body_linked : (library : KeptLibrary) (n number start count : ℕ) (f : SlotFunction) (z : Scope)
     → suc z.depth ≡ n → slice_get library.functions number ≡ Some (Some f) → z.start ≡ start → z.base ≡ 0
     → z.size ≡ length f.fresh → CallLinkedWithin library n (of_function number start count)
-    → StmtsLinked (CallLinkedWithin library z.depth) (site_of z) f.body
+    → StmtsLinked (CallLinkedWithin library z.depth) (frame_of z) f.body
 body_linked library n number start count f z e known at base size h =
     rw (site_is z start (length f.fresh) at base size)
     (function_linked_so library n z.depth number start count (Some (Some f)) e known h).1
 
 pub body_fits_so : (library : SlotLibrary) (z : Scope) (memory d start : ℕ) (f : SlotFunction) → z.memory ≡ memory
     → z.depth ≡ d → z.start ≡ start → z.base ≡ 0 → z.size ≡ length f.fresh
-    → StmtsFit (CallFitsWithin memory library d) (site_from start (length f.fresh)) f.body
-    → StmtsFit (CallFitsWithin z.memory library z.depth) (site_of z) f.body
+    → StmtsFit (CallFitsWithin memory library d) (call_frame start (length f.fresh)) f.body
+    → StmtsFit (CallFitsWithin z.memory library z.depth) (frame_of z) f.body
 body_fits_so library z memory d start f mem deep at base size h =
     rw (mem, deep, site_is z start (length f.fresh) at base size) h
 
--- a call of a block, but for its tick
-pub invoke_put : (units : CodeUnits) (s : Site) (first at slot count : ℕ) (block : BlockCode) (xs : List SlotArgument)
+-- a call of a block, except for its tick
+pub invoke_put : (units : CodeUnits) (s : UnitFrame) (first at slot count : ℕ) (block : BlockCode) (xs : List SlotArgument)
     (c c1 c2 c3 c4 c5 : Code) → first ≡ at → slot ≡ s.start + first → count ≡ length (given_members xs)
-    → c1 ≡ outputs_code units s first xs c → c2 ≡ units.blocks block (site_at s first) c1
-    → c3 ≡ stores_code slot (given_members xs) c2 → c4 ≡ c3 ◂ Turn count → c5 ≡ inputs_code units s xs c4
+    → c1 ≡ outputs_code units s first xs c → c2 ≡ units.blocks block (instance_frame s first) c1
+    → c3 ≡ stores_code slot (given_members xs) c2 → c4 ≡ c3 ◂ Reverse count → c5 ≡ inputs_code units s xs c4
     → c5 ≡ invoke_code units s at block xs c
 invoke_put units s first at slot count block xs c c1 c2 c3 c4 c5 is is_slot is_count put1 put2 put3 put4 put5 =
     rw (put5, put4, put3, put2, put1, is_slot, is_count, is) refl
 
 -- a standard function on its arguments
-pub compute_put : (units : CodeUnits) (s : Site) (f : code_function.Standard) (es ys : List code_expr.SlotExpr)
+pub compute_put : (units : CodeUnits) (s : UnitFrame) (f : code_function.Standard) (es ys : List code_expr.SlotExpr)
     (x : SlotExpr) (c c1 c2 : Code) (count : ℕ) → x ≡ compute (standard_view f) (exprs_of (map slot_expr_view es))
     → ys ≡ es → c1 ≡ c ◂ Compute f count → count ≡ length es
     → c2 ≡ exprs_code units s (exprs_of (map slot_expr_view ys)) c1 → c2 ≡ expr_code units s x c
@@ -265,7 +265,7 @@ compute_put units s f es ys x c c1 c2 count seen is put1 is_count put2 =
     rw (put2, put1, is, is_count, seen) e
 
 -- a variable to which subscripts lead
-pub place_put : (units : CodeUnits) (s : Site) (a : Anchor) (xs ys : List code_subscript.Subscript) (x : Place)
+pub place_put : (units : CodeUnits) (s : UnitFrame) (a : Anchor) (xs ys : List code_subscript.Subscript) (x : Place)
     (here : ℕ → Instr) (at : Instr) (k : ℕ) (v : Datum) (c c1 c2 c3 : Code)
     → x ≡ place a (subscripts_of (map subscript_view xs)) → ys ≡ xs → 0 < length xs → k ≡ slot_in s a
     → v ≡ slot_number k → c1 ≡ c ◂ at → c2 ≡ subscripts_code units s (subscripts_of (map subscript_view ys)) c1

@@ -10,7 +10,7 @@ use Rattle.st_types.specs.declared.statement.Label.TheVariants.{Single, Range, E
 use Rattle.st_meaning.specs.Failures.{Failure}
 use Rattle.st_meaning.specs.Operators.{value_of_literal}
 use Rattle.machine_code.specs.declared.instr.Instr.{Instr}
-use Rattle.machine_code.specs.declared.instr.Instr.TheVariants.{Back, Fetch}
+use Rattle.machine_code.specs.declared.instr.Instr.TheVariants.{LoopBack, LoadRaw}
 use Rattle.slot_trees.specs.LibraryViews.{KeptLibrary, IsKeptOf}
 use Rattle.slot_trees.specs.SlotTrees.{SlotExpr, constant, load, compute, call, unary, binary, SlotExprs}
 use Rattle.slot_trees.specs.SlotTrees.{no_exprs, expr_then, Place, place, Subscripts, no_subscripts, subscript_then}
@@ -19,16 +19,16 @@ use Rattle.slot_trees.specs.SlotTrees.{empty, assign, invoke, IF, CASE, FOR, WHI
 use Rattle.slot_trees.specs.SlotTrees.{no_stmts, stmt_then, SlotArms, no_arms, arm_then, SlotCaseArms}
 use Rattle.slot_trees.specs.SlotTrees.{no_case_arms, case_arm_then, SlotFunction, SlotLibrary}
 use Rattle.slot_trees.specs.SlotEvaluation.{slot_at}
-use Rattle.machine_code.specs.declared.ways.Ways.{Ways}
+use Rattle.machine_code.specs.declared.jump_targets.JumpTargets.{JumpTargets}
 use Rattle.machine_code.specs.Growing.{Code, ◌◂◌, closed}
-use Rattle.machine_code.specs.Sites.{Site, slot_in, end_of, site_at, site_from}
+use Rattle.machine_code.specs.UnitFrames.{UnitFrame, slot_in, end_of, instance_frame, call_frame}
 use Rattle.machine_code.specs.Codes.{CodeUnits, literal_code, label_code, labels_code, stores_code, expr_code}
 use Rattle.machine_code.specs.Codes.{exprs_code}
 use Rattle.machine_code.specs.Codes.{place_code, led_code, subscripts_code, step_code, inputs_code, outputs_code}
-use Rattle.machine_code.specs.Codes.{invoke_code, stmt_code, stmts_code, arms_code, case_code, given_members, body_ways}
-use Rattle.machine_code.specs.Codes.{loop_ways}
+use Rattle.machine_code.specs.Codes.{invoke_code, stmt_code, stmts_code, arms_code, case_code, given_members, body_targets}
+use Rattle.machine_code.specs.Codes.{loop_targets}
 use Rattle.machine_code.specs.Calls.{resets_code, called_code, body_code, instance_code, units_code}
-use Rattle.machine_code.specs.Programs.{program_code, program_site}
+use Rattle.machine_code.specs.Programs.{program_code, program_frame}
 use Rattle.machine_code.proofs.Growth.{units_grow}
 use Rattle.st_compile.specs.Lengths.{UnitLengths, literal_length, label_length, labels_length, expr_length}
 use Rattle.st_compile.specs.Lengths.{exprs_length}
@@ -36,21 +36,19 @@ use Rattle.st_compile.specs.Lengths.{place_length, led_length, subscripts_length
 use Rattle.st_compile.specs.Lengths.{outputs_length, invoke_length, stmt_length, stmts_length, arms_length}
 use Rattle.st_compile.specs.Lengths.{case_length}
 use Rattle.st_compile.specs.Lengths.{function_length, if_function_length, if_body_length, block_length, units_length}
+use Rattle.machine_code.proofs.Places.{place_put}
 
 -- the same number of instructions, counted in another order
 counted : {a b k : ℕ} → a ≤ k → a ≡ b → b ≤ k
 counted {a} {b} {k} le e = omega arith
 
-length_put : (c : Code) (i : Instr) → length (c ◂ i) ≡ suc (length c)
-length_put c i = omega (arith, length-append c (i ∷ []))
-
 -- one more instruction
 more : (n : ℕ) (c : Code) (i : Instr) → n ≤ length c → 1 + n ≤ length (c ◂ i)
-more n c i h = let l = length_put c i in omega arith
+more n c i h = let l = place_put c i in omega arith
 
--- a jump back that is led does not count
+-- a jump back that gets its target does not count
 closing : (n at : ℕ) (c : Code) → n ≤ length c → n ≤ length (closed at c)
-closing n at c h = let l = length-set c at (Back (length c)) in omega arith
+closing n at c h = let l = length-set c at (LoopBack (length c)) in omega arith
 
 literal_long : (r : Result Datum Failure) (n : ℕ) (c : Code) → n ≤ length c
     → literal_length r + n ≤ length (literal_code r c)
@@ -77,14 +75,14 @@ resets_long : (k : ℕ) (vs : List Datum) (n : ℕ) (c : Code) → n ≤ length 
 resets_long k [] n c h = omega arith
 resets_long k (v ∷ vs) n c h = counted (more _ _ _ (more _ _ _ (resets_long (suc k) vs n c h))) (omega arith)
 
--- the code of units has at least so many instructions
+-- the code of units has at least this many instructions
 pub record AtLeast (lengths : UnitLengths) (units : CodeUnits) : Type 0 where
   pub functions : (f start n : ℕ) (c : Code) → n ≤ length c
       → lengths.functions f + n ≤ length (units.functions f start c)
-  pub blocks : (b : BlockCode) (s : Site) (n : ℕ) (c : Code) → n ≤ length c
+  pub blocks : (b : BlockCode) (s : UnitFrame) (n : ℕ) (c : Code) → n ≤ length c
       → lengths.blocks b + n ≤ length (units.blocks b s c)
 
-module _ (u : UnitLengths) (units : CodeUnits) (least : AtLeast u units) (s : Site) where
+module _ (u : UnitLengths) (units : CodeUnits) (least : AtLeast u units) (s : UnitFrame) where
   mutual
     pub expr_long : (e : SlotExpr) (n : ℕ) (c : Code) → n ≤ length c
         → expr_length u e + n ≤ length (expr_code units s e c)
@@ -138,10 +136,10 @@ module _ (u : UnitLengths) (units : CodeUnits) (least : AtLeast u units) (s : Si
       → invoke_length u b xs + n ≤ length (invoke_code units s at b xs c)
   invoke_long at b xs n c h =
       counted (inputs_long xs _ _ (more _ _ _ (stores_long (s.start + at) (given_members xs) _ _
-      (least.blocks b (site_at s at) _ _ (outputs_long at xs n c h))))) (omega arith)
+      (least.blocks b (instance_frame s at) _ _ (outputs_long at xs n c h))))) (omega arith)
 
   mutual
-    pub stmt_long : (x : SlotStmt) (w : Ways) (n : ℕ) (c : Code) → n ≤ length c
+    pub stmt_long : (x : SlotStmt) (w : JumpTargets) (n : ℕ) (c : Code) → n ≤ length c
         → stmt_length u x + n ≤ length (stmt_code units s x w c)
     stmt_long empty w n c h = more n c _ h
     stmt_long (assign p e) w n c h =
@@ -165,19 +163,19 @@ module _ (u : UnitLengths) (units : CodeUnits) (least : AtLeast u units) (s : Si
     stmt_long EXIT w n c h = counted (more _ _ _ (more _ _ _ h)) (omega arith)
     stmt_long RETURN w n c h = counted (more _ _ _ (more _ _ _ (more _ _ _ h))) (omega arith)
 
-    pub stmts_long : (xs : SlotStmts) (w : Ways) (n : ℕ) (c : Code) → n ≤ length c
+    pub stmts_long : (xs : SlotStmts) (w : JumpTargets) (n : ℕ) (c : Code) → n ≤ length c
         → stmts_length u xs + n ≤ length (stmts_code units s xs w c)
     stmts_long no_stmts w n c h = omega arith
     stmts_long (stmt_then x xs) w n c h = counted (stmt_long x w _ _ (stmts_long xs w n c h)) (omega arith)
 
-    pub arms_long : (arms : SlotArms) (w : Ways) (to n : ℕ) (c : Code) → n ≤ length c
+    pub arms_long : (arms : SlotArms) (w : JumpTargets) (to n : ℕ) (c : Code) → n ≤ length c
         → arms_length u arms + n ≤ length (arms_code units s arms w to c)
     arms_long no_arms w to n c h = omega arith
     arms_long (arm_then e body arms) w to n c h =
         counted (expr_long e _ _ (more _ _ _ (stmts_long body w _ _ (more _ _ _ (arms_long arms w to n c h)))))
         (omega arith)
 
-    pub case_long : (arms : SlotCaseArms) (w : Ways) (to n : ℕ) (c : Code) → n ≤ length c
+    pub case_long : (arms : SlotCaseArms) (w : JumpTargets) (to n : ℕ) (c : Code) → n ≤ length c
         → case_length u arms + n ≤ length (case_code units s arms w to c)
     case_long no_case_arms w to n c h = omega arith
     case_long (case_arm_then labels body arms) w to n c h =
@@ -185,13 +183,13 @@ module _ (u : UnitLengths) (units : CodeUnits) (least : AtLeast u units) (s : Si
         (case_long arms w to n c h)))))) (omega arith)
 
 module _ (kept : KeptLibrary) (whole : SlotLibrary) (is : IsKeptOf kept whole) where
-  -- what is left out, and what is not there, does not count
+  -- units that are left out or not there do not count
   not_counted : (d f start n : ℕ) (c : Code) → n ≤ length c
       → 0 + n ≤ length (called_code (units_code whole d) (slice_get whole.functions f) start c)
   unfolding units_code
   not_counted d f start n c h = let g = ((units_grow whole (suc d)).functions f start c).longer in omega arith
 
-  block_not_counted : (d i : ℕ) (s : Site) (n : ℕ) (c : Code) → n ≤ length c
+  block_not_counted : (d i : ℕ) (s : UnitFrame) (n : ℕ) (c : Code) → n ≤ length c
       → 0 + n ≤ length (body_code (units_code whole d) (slice_get whole.blocks i) s c)
   unfolding units_code
   block_not_counted d i s n c h = let g = ((units_grow whole (suc d)).blocks (own_block i) s c).longer in omega arith
@@ -204,22 +202,22 @@ module _ (kept : KeptLibrary) (whole : SlotLibrary) (is : IsKeptOf kept whole) w
         subst (λ o. function_length (units_length kept d) g + n ≤ length (called_code (units_code whole d) o start c))
         (sym (is.functions f g at))
         (counted (more _ _ _ (resets_long start g.fresh _ _ (stores_long start g.inputs _ _
-        (stmts_long (units_length kept d) (units_code whole d) least (site_from start (length g.fresh)) g.body _ _ _
+        (stmts_long (units_length kept d) (units_code whole d) least (call_frame start (length g.fresh)) g.body _ _ _
         (more _ _ _ h))))) (omega arith))
     called_long (Some None) f start n c at h = not_counted d f start n c h
     called_long None f start n c at h = not_counted d f start n c h
 
-    body_long : (o : Option (Option SlotStmts)) (i : ℕ) (s : Site) (n : ℕ) (c : Code) → slice_get kept.blocks i ≡ o
+    body_long : (o : Option (Option SlotStmts)) (i : ℕ) (s : UnitFrame) (n : ℕ) (c : Code) → slice_get kept.blocks i ≡ o
         → n ≤ length c → if_body_length (units_length kept d) o + n
         ≤ length (body_code (units_code whole d) (slice_get whole.blocks i) s c)
     body_long (Some (Some b)) i s n c at h =
         subst (λ o. stmts_length (units_length kept d) b + n ≤ length (body_code (units_code whole d) o s c))
         (sym (is.blocks i b at))
-        (stmts_long (units_length kept d) (units_code whole d) least s b (body_ways (length c)) n c h)
+        (stmts_long (units_length kept d) (units_code whole d) least s b (body_targets (length c)) n c h)
     body_long (Some None) i s n c at h = block_not_counted d i s n c h
     body_long None i s n c at h = block_not_counted d i s n c h
 
-    instance_long : (b : BlockCode) (s : Site) (n : ℕ) (c : Code) → n ≤ length c
+    instance_long : (b : BlockCode) (s : UnitFrame) (n : ℕ) (c : Code) → n ≤ length c
         → block_length (units_length kept d) kept b + n ≤ length (instance_code whole (units_code whole d) b s c)
     instance_long (standard_block b) s n c h = more n c _ h
     instance_long (own_block i) s n c h = body_long (slice_get kept.blocks i) i s n c refl h
@@ -237,5 +235,5 @@ module _ (kept : KeptLibrary) (whole : SlotLibrary) (is : IsKeptOf kept whole) w
       → stmts_length (units_length kept d) body ≤ length (program_code whole base size body d)
   unfolding program_code
   program_long base size body d =
-      counted (stmts_long (units_length kept d) (units_code whole d) (units_long d) (program_site base size) body
-      (body_ways 0) 0 [] (omega arith)) (omega arith)
+      counted (stmts_long (units_length kept d) (units_code whole d) (units_long d) (program_frame base size) body
+      (body_targets 0) 0 [] (omega arith)) (omega arith)

@@ -1,4 +1,4 @@
--- What fits where some calls fit, fits where more of them do.
+-- A tree that fits if some calls fit also fits if more of them do.
 use Rattle.std.proofs.Common.{ℕ, List, [], ◌∷◌, Option, Some, None}
 use Rattle.slot_trees.specs.SlotTrees.{SlotExpr, constant, load, compute, call, unary, binary, SlotExprs}
 use Rattle.slot_trees.specs.SlotTrees.{no_exprs, expr_then, Place, place, Subscripts, no_subscripts, subscript_then}
@@ -8,9 +8,9 @@ use Rattle.slot_trees.specs.SlotTrees.{no_stmts, stmt_then, SlotArms, no_arms, a
 use Rattle.slot_trees.specs.SlotTrees.{no_case_arms, case_arm_then}
 use Rattle.machine_code.specs.Fitting.{UnitCall, ExprFits, ExprsFit, PlaceFits, SubscriptsFit, StepFits, ArgumentsFit}
 use Rattle.machine_code.specs.Fitting.{StmtFits, StmtsFit, ArmsFit, CaseArmsFit}
-use Rattle.machine_code.specs.Sites.{Site}
+use Rattle.machine_code.specs.UnitFrames.{UnitFrame}
 
-module _ (P Q : UnitCall → Type 0) (more : (u : UnitCall) → P u → Q u) (s : Site) where
+module _ (P Q : UnitCall → Type 0) (more : (u : UnitCall) → P u → Q u) (s : UnitFrame) where
   mutual
     pub expr_more : (e : SlotExpr) → ExprFits P s e → ExprFits Q s e
     expr_more (constant l) h = h

@@ -1,8 +1,8 @@
--- Trees have the same code over units that are the same where their calls fit.
+-- Trees have the same code over units that are the same if their calls fit.
 use Rattle.std.proofs.Common.{◌≡◌, ℕ, ◌+◌, List, [], ◌∷◌, Option, Some, None, length, refl, ap, ◌∙◌}
 use Rattle.machine_code.specs.declared.instr.Instr.{Instr}
-use Rattle.machine_code.specs.declared.instr.Instr.TheVariants.{Tick, Push, Fetch, Store, StoreAt, Turn, Jump, Unless}
-use Rattle.machine_code.specs.declared.instr.Instr.TheVariants.{When, Back, Leave, Subscript, ForBegin, ForTest}
+use Rattle.machine_code.specs.declared.instr.Instr.TheVariants.{Tick, Push, LoadRaw, Store, StoreAt, Reverse, Jump, JumpIfFalse}
+use Rattle.machine_code.specs.declared.instr.Instr.TheVariants.{JumpIfTrue, LoopBack, Pop, Subscript, ForBegin, ForTest}
 use Rattle.machine_code.specs.declared.instr.Instr.TheVariants.{ForStep}
 use Rattle.machine_code.specs.Machine.{slot_number}
 use Rattle.slot_trees.specs.SlotTrees.{SlotExpr, constant, load, compute, call, unary, binary, SlotExprs}
@@ -12,22 +12,22 @@ use Rattle.slot_trees.specs.SlotTrees.{empty, assign, invoke, IF, CASE, FOR, WHI
 use Rattle.slot_trees.specs.SlotTrees.{no_stmts, stmt_then, SlotArms, no_arms, arm_then, SlotCaseArms}
 use Rattle.slot_trees.specs.SlotTrees.{no_case_arms, case_arm_then}
 use Rattle.slot_trees.specs.SlotEvaluation.{slot_at}
-use Rattle.machine_code.specs.declared.ways.Ways.{Ways}
+use Rattle.machine_code.specs.declared.jump_targets.JumpTargets.{JumpTargets}
 use Rattle.machine_code.specs.Growing.{Code, ◌◂◌, closed}
-use Rattle.machine_code.specs.Sites.{Site, slot_in, end_of, site_at}
+use Rattle.machine_code.specs.UnitFrames.{UnitFrame, slot_in, end_of, instance_frame}
 use Rattle.machine_code.specs.Codes.{CodeUnits, count_of, number_value, labels_code, stores_code, expr_code, exprs_code}
 use Rattle.machine_code.specs.Codes.{place_code, led_code, subscripts_code, step_code, inputs_code, outputs_code}
-use Rattle.machine_code.specs.Codes.{invoke_code, stmt_code, stmts_code, arms_code, case_code, given_members, loop_ways}
+use Rattle.machine_code.specs.Codes.{invoke_code, stmt_code, stmts_code, arms_code, case_code, given_members, loop_targets}
 use Rattle.machine_code.specs.Fitting.{UnitCall, of_function, of_block, ExprFits, ExprsFit, PlaceFits, SubscriptsFit}
 use Rattle.machine_code.specs.Fitting.{StepFits, ArgumentsFit, StmtFits, StmtsFit, ArmsFit, CaseArmsFit}
 
--- the code of units is the same where calls fit
+-- the code of units is the same if calls fit
 pub record SameUnits (P : UnitCall → Type 0) (U V : CodeUnits) : Type 0 where
   pub functions : (f start count : ℕ) (c : Code) → P (of_function f start count)
       → U.functions f start c ≡ V.functions f start c
-  pub blocks : (b : BlockCode) (s : Site) (c : Code) → P (of_block b s) → U.blocks b s c ≡ V.blocks b s c
+  pub blocks : (b : BlockCode) (s : UnitFrame) (c : Code) → P (of_block b s) → U.blocks b s c ≡ V.blocks b s c
 
-module _ (P : UnitCall → Type 0) (U V : CodeUnits) (same : SameUnits P U V) (s : Site) where
+module _ (P : UnitCall → Type 0) (U V : CodeUnits) (same : SameUnits P U V) (s : UnitFrame) where
   mutual
     pub expr_same : (e : SlotExpr) (c : Code) → ExprFits P s e → expr_code U s e c ≡ expr_code V s e c
     expr_same (constant l) c h = refl
@@ -75,18 +75,18 @@ module _ (P : UnitCall → Type 0) (U V : CodeUnits) (same : SameUnits P U V) (s
   outputs_same at [] c h = refl
   outputs_same at (given o e ∷ rest) c h = outputs_same at rest c h.2
   outputs_same at (copied o p ∷ rest) c h =
-      ap (λ d. d ◂ Fetch (s.start + (at + o))) (place_same p Store StoreAt _ h.1
+      ap (λ d. d ◂ LoadRaw (s.start + (at + o))) (place_same p Store StoreAt _ h.1
       ∙ ap (place_code V s p Store StoreAt) (outputs_same at rest c h.2))
 
-  invoke_same : (at : ℕ) (b : BlockCode) (xs : List SlotArgument) (c : Code) → P (of_block b (site_at s at))
+  invoke_same : (at : ℕ) (b : BlockCode) (xs : List SlotArgument) (c : Code) → P (of_block b (instance_frame s at))
       → ArgumentsFit P s at xs → invoke_code U s at b xs c ≡ invoke_code V s at b xs c
   invoke_same at b xs c fits h =
       inputs_same at xs _ h ∙ ap (λ d. inputs_code V s xs (stores_code (s.start + at) (given_members xs) d
-      ◂ Turn (length (given_members xs)))) (same.blocks b (site_at s at) _ fits
-      ∙ ap (V.blocks b (site_at s at)) (outputs_same at xs c h))
+      ◂ Reverse (length (given_members xs)))) (same.blocks b (instance_frame s at) _ fits
+      ∙ ap (V.blocks b (instance_frame s at)) (outputs_same at xs c h))
 
   mutual
-    pub stmt_same : (x : SlotStmt) (w : Ways) (c : Code) → StmtFits P s x → stmt_code U s x w c ≡ stmt_code V s x w c
+    pub stmt_same : (x : SlotStmt) (w : JumpTargets) (c : Code) → StmtFits P s x → stmt_code U s x w c ≡ stmt_code V s x w c
     stmt_same empty w c h = refl
     stmt_same (assign p e) w c h = ap (λ d. d ◂ Tick) (expr_same e _ h.1
         ∙ ap (expr_code V s e) (place_same p Store StoreAt c h.0))
@@ -95,45 +95,45 @@ module _ (P : UnitCall → Type 0) (U V : CodeUnits) (same : SameUnits P U V) (s
         ∙ ap (arms_code V s arms w (length c)) (stmts_same otherwise w c h.1))
     stmt_same (CASE e arms otherwise) w c h = ap (λ d. d ◂ Tick) (expr_same e _ h.0
         ∙ ap (expr_code V s e) (case_same arms w (length c) _ h.1
-        ∙ ap (λ d. case_code V s arms w (length c) (d ◂ Leave 1)) (stmts_same otherwise w c h.2)))
+        ∙ ap (λ d. case_code V s arms w (length c) (d ◂ Pop 1)) (stmts_same otherwise w c h.2)))
     stmt_same (FOR a start limit step body) w c h =
         let k = slot_in s a in
-        let left = c ◂ Leave 2 in
+        let left = c ◂ Pop 2 in
         ap (λ d. d ◂ Tick) (expr_same start _ h.1 ∙ ap (expr_code V s start) (expr_same limit _ h.2
         ∙ ap (expr_code V s limit) (step_same step _ h.3 ∙ ap (λ (d : Code). step_code V s step
         (closed (length left) (d ◂ ForTest k (length left) ◂ ForStep k (length left))
         ◂ Jump (length (d ◂ ForTest k (length left))) ◂ ForBegin k))
-        (stmts_same body (loop_ways w (length left) 2) (left ◂ Back 0) h.4))))
+        (stmts_same body (loop_targets w (length left) 2) (left ◂ LoopBack 0) h.4))))
     stmt_same (WHILE e body) w c h = ap (λ d. d ◂ Tick) (ap (closed (length c)) (expr_same e _ h.0
-        ∙ ap (λ d. expr_code V s e (d ◂ Unless (length c)))
-        (stmts_same body (loop_ways w (length c) 0) (c ◂ Back 0) h.1)))
+        ∙ ap (λ d. expr_code V s e (d ◂ JumpIfFalse (length c)))
+        (stmts_same body (loop_targets w (length c) 0) (c ◂ LoopBack 0) h.1)))
     stmt_same (REPEAT body e) w c h = ap (λ d. d ◂ Tick) (ap (closed (length c))
-        (stmts_same body (loop_ways w (length c) 0) _ h.0
-        ∙ ap (stmts_code V s body (loop_ways w (length c) 0)) (expr_same e (c ◂ Back 0 ◂ When (length c)) h.1)))
+        (stmts_same body (loop_targets w (length c) 0) _ h.0
+        ∙ ap (stmts_code V s body (loop_targets w (length c) 0)) (expr_same e (c ◂ LoopBack 0 ◂ JumpIfTrue (length c)) h.1)))
     stmt_same EXIT w c h = refl
     stmt_same RETURN w c h = refl
 
-    pub stmts_same : (xs : SlotStmts) (w : Ways) (c : Code) → StmtsFit P s xs
+    pub stmts_same : (xs : SlotStmts) (w : JumpTargets) (c : Code) → StmtsFit P s xs
         → stmts_code U s xs w c ≡ stmts_code V s xs w c
     stmts_same no_stmts w c h = refl
     stmts_same (stmt_then x xs) w c h = stmt_same x w _ h.0 ∙ ap (stmt_code V s x w) (stmts_same xs w c h.1)
 
-    pub arms_same : (arms : SlotArms) (w : Ways) (to : ℕ) (c : Code) → ArmsFit P s arms
+    pub arms_same : (arms : SlotArms) (w : JumpTargets) (to : ℕ) (c : Code) → ArmsFit P s arms
         → arms_code U s arms w to c ≡ arms_code V s arms w to c
     arms_same no_arms w to c h = refl
     arms_same (arm_then e body arms) w to c h =
         let rest = arms_code U s arms w to c in
-        expr_same e _ h.0 ∙ ap (λ d. expr_code V s e (d ◂ Unless (length rest)))
+        expr_same e _ h.0 ∙ ap (λ d. expr_code V s e (d ◂ JumpIfFalse (length rest)))
         (stmts_same body w (rest ◂ Jump to) h.1)
-        ∙ ap (λ (d : Code). expr_code V s e (stmts_code V s body w (d ◂ Jump to) ◂ Unless (length d)))
+        ∙ ap (λ (d : Code). expr_code V s e (stmts_code V s body w (d ◂ Jump to) ◂ JumpIfFalse (length d)))
         (arms_same arms w to c h.2)
 
-    pub case_same : (arms : SlotCaseArms) (w : Ways) (to : ℕ) (c : Code) → CaseArmsFit P s arms
+    pub case_same : (arms : SlotCaseArms) (w : JumpTargets) (to : ℕ) (c : Code) → CaseArmsFit P s arms
         → case_code U s arms w to c ≡ case_code V s arms w to c
     case_same no_case_arms w to c h = refl
     case_same (case_arm_then labels body arms) w to c h =
         let rest = case_code U s arms w to c in
-        ap (λ (d : Code). labels_code labels (length (d ◂ Leave 1)) (d ◂ Leave 1 ◂ Jump (length rest)))
+        ap (λ (d : Code). labels_code labels (length (d ◂ Pop 1)) (d ◂ Pop 1 ◂ Jump (length rest)))
         (stmts_same body w (rest ◂ Jump to) h.0)
-        ∙ ap (λ (r : Code). labels_code labels (length (stmts_code V s body w (r ◂ Jump to) ◂ Leave 1))
-        (stmts_code V s body w (r ◂ Jump to) ◂ Leave 1 ◂ Jump (length r))) (case_same arms w to c h.1)
+        ∙ ap (λ (r : Code). labels_code labels (length (stmts_code V s body w (r ◂ Jump to) ◂ Pop 1))
+        (stmts_code V s body w (r ◂ Jump to) ◂ Pop 1 ◂ Jump (length r))) (case_same arms w to c h.1)

@@ -1,4 +1,4 @@
--- How large trees are: what calls go down by.
+-- The sizes of trees, by which calls decrease.
 use Rattle.std.proofs.Common.{ℕ, suc, ◌+◌, ◌*◌, List, [], ◌∷◌, Option, Some, None}
 use Rattle.slot_trees.specs.SlotTrees.{SlotExpr, constant, load, compute, call, unary, binary, SlotExprs}
 use Rattle.slot_trees.specs.SlotTrees.{no_exprs, expr_then, Place, place, Subscripts, no_subscripts, subscript_then}
@@ -77,6 +77,6 @@ blocks_size (body ∷ bodies) = stmts_size body + blocks_size bodies
 unfoldable pub body_bound : SlotLibrary → ℕ
 body_bound library = suc (functions_size library.functions + blocks_size library.blocks)
 
--- what all calls so deep are worth
+-- the weight of all calls at most this deep
 unfoldable pub weight : SlotLibrary → ℕ → ℕ
 weight library depth = depth * body_bound library

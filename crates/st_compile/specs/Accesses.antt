@@ -5,12 +5,12 @@ use Rattle.machine_code.specs.declared.instr.Instr.TheVariants as instrs
 use Rattle.st_compile.specs.declared.access.Access.{Access}
 use Rattle.st_compile.specs.declared.access.Access.TheVariants.{Load, Store}
 
--- where its slot is known
+-- if its slot is known
 abbrev pub known_instr : Access → ℕ → Instr
 known_instr Load = instrs.Load
 known_instr Store = instrs.Store
 
--- where subscripts lead to its slot
+-- if subscripts lead to its slot
 abbrev pub led_instr : Access → Instr
 led_instr Load = instrs.LoadAt
 led_instr Store = instrs.StoreAt

@@ -1,5 +1,5 @@
--- How many instructions the code of a tree has, over a library in which some units are left out: those of a unit that
--- is left out, and of one that is not there, are not counted.
+-- How many instructions the code of a tree has, over a library in which some units are left out: those of a unit that is
+-- left out, and of one that is not there, are not counted.
 use Rattle.std.specs.Prelude.{ℕ, zero, suc, ◌+◌, ◌*◌, List, [], ◌∷◌, length, Option, Some, None, slice_get, Result, Ok}
 use Rattle.std.specs.Prelude.{Err}
 use Rattle.st_types.specs.Values.{Datum}
@@ -21,7 +21,7 @@ pub record UnitLengths : Type 0 where
   pub functions : ℕ → ℕ
   pub blocks : BlockCode → ℕ
 
--- the value of a literal comes on the stack, where it has one
+-- the value of a literal is pushed on the stack, if it has one
 abbrev pub literal_length : Result Datum Failure → ℕ
 literal_length (Ok v) = 1
 literal_length (Err e) = 0
@@ -52,7 +52,7 @@ module _ (units : UnitLengths) where
     pub place_length : Place → ℕ
     place_length (place a ss) = led_length ss
 
-    -- two more where subscripts lead to the slot
+    -- two more if subscripts lead to the slot
     pub led_length : Subscripts → ℕ
     led_length no_subscripts = 1
     led_length (subscript_then e lower count stride ss) = 3 + expr_length e + subscripts_length ss
@@ -75,7 +75,7 @@ module _ (units : UnitLengths) where
   outputs_length (given o e ∷ rest) = outputs_length rest
   outputs_length (copied o p ∷ rest) = 1 + place_length p + outputs_length rest
 
-  -- a call of a block, but for its tick
+  -- a call of a block, except for its tick
   abbrev pub invoke_length : BlockCode → List SlotArgument → ℕ
   invoke_length code xs = 1 + outputs_length xs + units.blocks code + length (given_members xs) + inputs_length xs
 

@@ -4,3 +4,4 @@ pub mod Lengths
 pub mod Signatures
 pub mod Emitting
 pub mod Resets
+pub mod Sizes

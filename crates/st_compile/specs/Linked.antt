@@ -1,6 +1,6 @@
--- What code is made of, room for the values of functions and for instructions aside: its literals are values, its
--- labels, its lower bounds and how many arguments a standard function has are numbers that instructions hold, its places
--- lie among the values of their units, its units are known, and calls are not too deep.
+-- Trees of which code is made, if there is room for the values of functions and for instructions: literals are values;
+-- labels, lower bounds and numbers of arguments of standard functions are numbers that instructions hold; places lie among
+-- the values of their units; units are known; and calls are not too deep.
 use Rattle.std.specs.Prelude.{ℕ, zero, suc, ◌+◌, ◌<◌, ◌≤◌, ℤ, List, [], ◌∷◌, length, Option, Some, None}
 use Rattle.std.specs.Prelude.{slice_get}
 use Rattle.st_types.specs.Values.{IsHeld}
@@ -18,8 +18,8 @@ use Rattle.slot_trees.specs.LibraryViews.{KeptLibrary}
 use Rattle.slot_trees.specs.SlotEvaluation.{slot_at}
 use Rattle.machine_code.specs.Codes.{count_of, number_value}
 use Rattle.machine_code.specs.Fitting.{UnitCall, of_function, of_block, IsValue, reach}
-use Rattle.machine_code.specs.Programs.{program_site}
-use Rattle.machine_code.specs.Sites.{Site, end_of, site_at, site_from}
+use Rattle.machine_code.specs.Programs.{program_frame}
+use Rattle.machine_code.specs.UnitFrames.{UnitFrame, end_of, instance_frame, call_frame}
 use Rattle.st_compile.specs.Signatures.{HasSignature}
 
 -- a number that LINT or ULINT holds
@@ -39,7 +39,7 @@ AreLabels (l ∷ ls) = IsLabel l × AreLabels ls
 abbrev pub IsSubscript : ℤ → ℕ → ℕ → Type 0
 IsSubscript lower count stride = IsNumber lower × (count < 65536) × (stride < 65536)
 
-module _ (CallLinked : UnitCall → Type 0) (site : Site) where
+module _ (CallLinked : UnitCall → Type 0) (site : UnitFrame) where
   abbrev mutual
     pub ExprLinked : SlotExpr → Type 0
     ExprLinked (constant l) = IsValue (value_of_literal l)
@@ -76,7 +76,7 @@ module _ (CallLinked : UnitCall → Type 0) (site : Site) where
     StmtLinked empty = Unit {0}
     StmtLinked (assign p e) = PlaceLinked p × ExprLinked e
     StmtLinked (invoke a code arguments) =
-        (slot_at site.base a ≤ site.size) × CallLinked (of_block code (site_at site (slot_at site.base a)))
+        (slot_at site.base a ≤ site.size) × CallLinked (of_block code (instance_frame site (slot_at site.base a)))
         × ArgumentsLinked (slot_at site.base a) arguments
     StmtLinked (IF arms otherwise) = ArmsLinked arms × StmtsLinked otherwise
     StmtLinked (CASE e arms otherwise) = ExprLinked e × CaseArmsLinked arms × StmtsLinked otherwise
@@ -99,10 +99,10 @@ module _ (CallLinked : UnitCall → Type 0) (site : Site) where
     CaseArmsLinked no_case_arms = Unit {0}
     CaseArmsLinked (case_arm_then labels body arms) = AreLabels labels × StmtsLinked body × CaseArmsLinked arms
 
--- a function with its values from a slot on, and so many arguments
+-- a function with its values from a slot on, and `count` arguments
 abbrev pub FunctionLinked : (UnitCall → Type 0) → SlotFunction → ℕ → ℕ → Type 0
 FunctionLinked CallLinked f start count =
-    HasSignature f count × StmtsLinked CallLinked (site_from start (length f.fresh)) f.body
+    HasSignature f count × StmtsLinked CallLinked (call_frame start (length f.fresh)) f.body
 
 -- nothing is asked of a unit that is left out, for whose values no layout has room
 abbrev pub IfFunctionLinked : (UnitCall → Type 0) → Option (Option SlotFunction) → ℕ → ℕ → Type 0
@@ -110,12 +110,12 @@ IfFunctionLinked CallLinked (Some (Some f)) start count = FunctionLinked CallLin
 IfFunctionLinked CallLinked (Some None) start count = Unit {0}
 IfFunctionLinked CallLinked None start count = ⊥
 
-abbrev pub IfBodyLinked : (UnitCall → Type 0) → Option (Option SlotStmts) → Site → Type 0
+abbrev pub IfBodyLinked : (UnitCall → Type 0) → Option (Option SlotStmts) → UnitFrame → Type 0
 IfBodyLinked CallLinked (Some (Some body)) site = StmtsLinked CallLinked site body
 IfBodyLinked CallLinked (Some None) site = Unit {0}
 IfBodyLinked CallLinked None site = ⊥
 
-abbrev pub InstanceLinked : (UnitCall → Type 0) → KeptLibrary → BlockCode → Site → Type 0
+abbrev pub InstanceLinked : (UnitCall → Type 0) → KeptLibrary → BlockCode → UnitFrame → Type 0
 InstanceLinked CallLinked library (standard_block b) site = site.base + length (members_of b) ≤ site.size
 InstanceLinked CallLinked library (own_block i) site = IfBodyLinked CallLinked (slice_get library.blocks i) site
 
@@ -127,7 +127,7 @@ CallLinkedWithin library (suc n) (of_function f start count) =
 CallLinkedWithin library (suc n) (of_block code site) =
     InstanceLinked (CallLinkedWithin library n) library code site
 
--- a program with its own variables from a slot on, over so many slots, with calls at most n deep
+-- a program with its own variables from slot `base` on, over `size` slots, with calls at most n deep
 abbrev pub ProgramLinked : KeptLibrary → ℕ → ℕ → SlotStmts → ℕ → Type 0
 ProgramLinked library base size body n =
-    StmtsLinked (CallLinkedWithin library n) (program_site base size) body
+    StmtsLinked (CallLinkedWithin library n) (program_frame base size) body

@@ -1,15 +1,15 @@
 -- The slots that code resets: those of the values of functions.
 use Rattle.std.specs.Prelude.{ℕ, suc, List, [], ◌∷◌, max}
 use Rattle.machine_code.specs.declared.instr.Instr.{Instr}
-use Rattle.machine_code.specs.declared.instr.Instr.TheVariants.{Reset}
+use Rattle.machine_code.specs.declared.instr.Instr.TheVariants.{StoreRaw}
 use Rattle.machine_code.specs.Growing.{Code}
 
--- the slot behind the one that an instruction resets, or the first of all
-abbrev pub slot_behind_reset : Instr → ℕ
-slot_behind_reset (Reset k) = suc k
-slot_behind_reset _ = 0
+-- the slot after the one that an instruction resets, or the first of all
+abbrev pub slot_after_reset : Instr → ℕ
+slot_after_reset (StoreRaw k) = suc k
+slot_after_reset _ = 0
 
--- the slot behind all that are reset
-abbrev pub slot_behind_resets : Code → ℕ
-slot_behind_resets [] = 0
-slot_behind_resets (i ∷ is) = max (slot_behind_reset i) (slot_behind_resets is)
+-- the slot after all that are reset
+abbrev pub slot_after_resets : Code → ℕ
+slot_after_resets [] = 0
+slot_after_resets (i ∷ is) = max (slot_after_reset i) (slot_after_resets is)

@@ -1,21 +1,21 @@
-//! What is done with a variable.
+//! Accesses to variables.
 
 ghost use Rattle.std.specs.Prelude.{◌≡◌};
 ghost use Rattle.st_compile.specs.Accesses.{known_instr, led_instr};
 
 use machine_code::Instr;
 
-/// What is done with an elementary variable.
+/// An access to an elementary variable.
 #[derive(Clone, Copy)]
 pub enum Access {
-    /// Its value comes on the stack.
+    /// Its value is pushed on the stack.
     Load,
-    /// It takes the value that is on the stack.
+    /// It takes the value on the stack.
     Store,
 }
 
 impl Access {
-    /// The instruction where its slot is known.
+    /// The instruction if its slot is known.
     pub fn known(self, slot: u16) -> Instr
         ensures { result ≡ known_instr self slot }
     {
@@ -25,7 +25,7 @@ impl Access {
         }
     }
 
-    /// The instruction where subscripts lead to its slot.
+    /// The instruction if subscripts lead to its slot.
     pub fn led(self) -> Instr
         ensures { result ≡ led_instr self }
     {

@@ -1,4 +1,4 @@
-//! The code that stands in place of calls.
+//! The code that replaces calls.
 
 ghost use Rattle.std.specs.Prelude.{◌≡◌, ◌≤◌, ◌<◌, ◌+◌, OnOk, IfErr, length, map};
 ghost use Rattle.machine_code.specs.declared.limits.TheConstants.{MAX_INSTRUCTIONS, MAX_MEMORY};
@@ -7,8 +7,8 @@ ghost use Rattle.slot_trees.specs.ExpressionViews.{anchor_view};
 ghost use Rattle.slot_trees.specs.StatementViews.{block_code_view, slot_argument_view};
 ghost use Rattle.machine_code.specs.Codes.{inputs_code, outputs_code, invoke_code};
 ghost use Rattle.machine_code.specs.Fitting.{of_function, of_block, ArgumentsFit};
-ghost use Rattle.machine_code.specs.Sites.{end_of, site_at};
-ghost use Rattle.st_compile.specs.Emitting.{site_of, units_in, lengths_in, FitsIn, LinkedIn, InputsFit};
+ghost use Rattle.machine_code.specs.UnitFrames.{end_of, instance_frame};
+ghost use Rattle.st_compile.specs.Emitting.{frame_of, units_in, lengths_in, FitsIn, LinkedIn, InputsFit};
 ghost use Rattle.st_compile.specs.Emitting.{OutputsFit, InputsLinked, OutputsLinked};
 ghost use Rattle.st_compile.specs.Lengths.{inputs_length, outputs_length, invoke_length};
 ghost use Rattle.st_compile.specs.Linked.{ArgumentsLinked};
@@ -17,17 +17,18 @@ use crate::access::Access;
 use crate::compile_error::CompileError;
 use crate::draft::Draft;
 use crate::expressions::{put_expr, put_place};
-use crate::places::{slot_behind, value_at};
+use crate::places::{slot_after, value_at};
 use crate::scope::Scope;
 use crate::statements::put_statements;
 use crate::units::{
-    block_at, function_at, function_scope, given_count, has_signature, member_count, put_members,
-    put_resets, put_stores,
+    block_at, function_at, function_scope, given_count, has_signature, put_members, put_resets,
+    put_stores,
 };
-use machine_code::{Instr, Ways};
+use machine_code::{Instr, JumpTargets};
 use slot_trees::{Anchor, BlockCode, SlotArgument, SlotLibrary};
+use symbols::member_count;
 
-/// Puts the code of a function in place of its call with so many arguments.
+/// Puts the code of a function in place of its call with `count` arguments.
 #[cycle(unit)]
 pub fn put_function(
     library: &SlotLibrary,
@@ -39,16 +40,16 @@ pub fn put_function(
     requires room { scope.start + scope.size ≤ scope.memory }
     requires numbered { scope.memory ≤ MAX_MEMORY }
     ensures code { OnOk result (code.new
-        ≡ (units_in library.now scope).functions number (end_of (site_of scope)) code.old) }
-    ensures fits { OnOk result (FitsIn library.now scope (of_function number (end_of (site_of scope)) count)) }
+        ≡ (units_in library.now scope).functions number (end_of (frame_of scope)) code.old) }
+    ensures fits { OnOk result (FitsIn library.now scope (of_function number (end_of (frame_of scope)) count)) }
     ensures long { OnOk result (length code.new
         ≡ (lengths_in library.now scope).functions number + length code.old) }
     ensures wrong { IfErr result (λ e. e ≡ CompileError.NotLinked
-        → ¬ (LinkedIn library.now scope (of_function number (end_of (site_of scope)) count))) }
+        → ¬ (LinkedIn library.now scope (of_function number (end_of (frame_of scope)) count))) }
     ensures full { IfErr result (λ e. e ≡ CompileError.TooManyInstructions → MAX_INSTRUCTIONS
         < (lengths_in library.now scope).functions number + length code.old) }
     ensures crowded { IfErr result (λ e. e ≡ CompileError.TooManyPlaces
-        → ¬ (FitsIn library.now scope (of_function number (end_of (site_of scope)) count))) }
+        → ¬ (FitsIn library.now scope (of_function number (end_of (frame_of scope)) count))) }
 {
     let Some(depth) = scope.depth.checked_sub(1) else {
         return Err(CompileError::NotLinked);
@@ -61,9 +62,9 @@ pub fn put_function(
         return Err(CompileError::TooManyInstructions);
     };
     let inner = function_scope(scope, depth, function)?;
-    code.put(Instr::Fetch(slot_behind(inner.start, function.result)))?;
+    code.put(Instr::LoadRaw(slot_after(inner.start, function.result)))?;
     let end = code.len();
-    let ways = Ways {
+    let ways = JumpTargets {
         exit: end,
         back: end,
         held: 0,
@@ -71,7 +72,7 @@ pub fn put_function(
     put_statements(library, inner, code, &function.body, ways)?;
     put_stores(code, inner.start, &function.inputs)?;
     put_resets(code, inner.start, &function.fresh)?;
-    code.put(Instr::Turn(taken))
+    code.put(Instr::Reverse(taken))
 }
 
 /// The code of a block on the slots of an instance, the first of which is the base.
@@ -85,16 +86,16 @@ fn put_block(
     requires room { scope.start + scope.size ≤ scope.memory }
     requires numbered { scope.memory ≤ MAX_MEMORY }
     ensures code { OnOk result (code.new
-        ≡ (units_in library.now scope).blocks (block_code_view block) (site_of scope) code.old) }
-    ensures fits { OnOk result (FitsIn library.now scope (of_block (block_code_view block) (site_of scope))) }
+        ≡ (units_in library.now scope).blocks (block_code_view block) (frame_of scope) code.old) }
+    ensures fits { OnOk result (FitsIn library.now scope (of_block (block_code_view block) (frame_of scope))) }
     ensures long { OnOk result (length code.new
         ≡ (lengths_in library.now scope).blocks (block_code_view block) + length code.old) }
     ensures wrong { IfErr result (λ e. e ≡ CompileError.NotLinked
-        → ¬ (LinkedIn library.now scope (of_block (block_code_view block) (site_of scope)))) }
+        → ¬ (LinkedIn library.now scope (of_block (block_code_view block) (frame_of scope)))) }
     ensures full { IfErr result (λ e. e ≡ CompileError.TooManyInstructions → MAX_INSTRUCTIONS
         < (lengths_in library.now scope).blocks (block_code_view block) + length code.old) }
     ensures crowded { IfErr result (λ e. e ≡ CompileError.TooManyPlaces
-        → ¬ (FitsIn library.now scope (of_block (block_code_view block) (site_of scope)))) }
+        → ¬ (FitsIn library.now scope (of_block (block_code_view block) (frame_of scope)))) }
 {
     let Some(depth) = scope.depth.checked_sub(1) else {
         return Err(CompileError::NotLinked);
@@ -104,12 +105,12 @@ fn put_block(
             if scope.base > scope.size || member_count(block) > scope.size - scope.base {
                 return Err(CompileError::NotLinked);
             }
-            code.put(Instr::Step(block, slot_behind(scope.start, scope.base)))
+            code.put(Instr::Step(block, slot_after(scope.start, scope.base)))
         }
         BlockCode::Own(number) => {
             let body = block_at(library, number)?;
             let end = code.len();
-            let ways = Ways {
+            let ways = JumpTargets {
                 exit: end,
                 back: end,
                 held: 0,
@@ -119,7 +120,7 @@ fn put_block(
     }
 }
 
-/// The code of a call of a block, but for its tick.
+/// The code of a call of a block, except for its tick.
 #[cycle(unit)]
 pub fn put_invocation(
     library: &SlotLibrary,
@@ -131,27 +132,27 @@ pub fn put_invocation(
 ) -> Result<(), CompileError>
     requires room { scope.start + scope.size ≤ scope.memory }
     requires numbered { scope.memory ≤ MAX_MEMORY }
-    ensures code { OnOk result (code.new ≡ invoke_code (units_in library.now scope) (site_of scope)
+    ensures code { OnOk result (code.new ≡ invoke_code (units_in library.now scope) (frame_of scope)
         (slot_at scope.base (anchor_view instance)) (block_code_view block) (map slot_argument_view arguments.now)
         code.old) }
     ensures block { OnOk result (FitsIn library.now scope (of_block (block_code_view block)
-        (site_at (site_of scope) (slot_at scope.base (anchor_view instance))))) }
-    ensures fits { OnOk result (ArgumentsFit (FitsIn library.now scope) (site_of scope)
+        (instance_frame (frame_of scope) (slot_at scope.base (anchor_view instance))))) }
+    ensures fits { OnOk result (ArgumentsFit (FitsIn library.now scope) (frame_of scope)
         (slot_at scope.base (anchor_view instance)) (map slot_argument_view arguments.now)) }
     ensures long { OnOk result (length code.new
         ≡ invoke_length (lengths_in library.now scope) (block_code_view block) (map slot_argument_view arguments.now)
         + length code.old) }
     ensures wrong { IfErr result (λ e. e ≡ CompileError.NotLinked
         → let at = slot_at scope.base (anchor_view instance) in ¬ ((at ≤ scope.size)
-        × LinkedIn library.now scope (of_block (block_code_view block) (site_at (site_of scope) at))
-        × ArgumentsLinked (LinkedIn library.now scope) (site_of scope) at (map slot_argument_view arguments.now))) }
+        × LinkedIn library.now scope (of_block (block_code_view block) (instance_frame (frame_of scope) at))
+        × ArgumentsLinked (LinkedIn library.now scope) (frame_of scope) at (map slot_argument_view arguments.now))) }
     ensures full { IfErr result (λ e. e ≡ CompileError.TooManyInstructions → MAX_INSTRUCTIONS
         < invoke_length (lengths_in library.now scope) (block_code_view block) (map slot_argument_view arguments.now)
         + length code.old) }
     ensures crowded { IfErr result (λ e. e ≡ CompileError.TooManyPlaces
         → ¬ (FitsIn library.now scope (of_block (block_code_view block)
-        (site_at (site_of scope) (slot_at scope.base (anchor_view instance))))
-        × ArgumentsFit (FitsIn library.now scope) (site_of scope) (slot_at scope.base (anchor_view instance))
+        (instance_frame (frame_of scope) (slot_at scope.base (anchor_view instance))))
+        × ArgumentsFit (FitsIn library.now scope) (frame_of scope) (slot_at scope.base (anchor_view instance))
         (map slot_argument_view arguments.now))) }
 {
     let first = value_at(scope.base, instance);
@@ -168,11 +169,11 @@ pub fn put_invocation(
     };
     put_block(library, inner, code, block)?;
     put_members(code, scope.start + first, arguments)?;
-    code.put(Instr::Turn(count))?;
+    code.put(Instr::Reverse(count))?;
     put_inputs(library, scope, code, first, arguments)
 }
 
-/// The values of inputs come on the stack, for members of an instance from a slot on.
+/// The values of inputs are pushed on the stack, for members of an instance from a slot on.
 #[cycle(unit)]
 #[tactic(auto, using(crate::proofs::Elements::argument_smaller, crate::proofs::Behind::inputs_behind))]
 fn put_inputs(
@@ -184,19 +185,19 @@ fn put_inputs(
 ) -> Result<(), CompileError>
     requires room { scope.start + scope.size ≤ scope.memory }
     requires numbered { scope.memory ≤ MAX_MEMORY }
-    ensures code { OnOk result (code.new ≡ inputs_code (units_in library.now scope) (site_of scope)
+    ensures code { OnOk result (code.new ≡ inputs_code (units_in library.now scope) (frame_of scope)
         (map slot_argument_view arguments.now) code.old) }
-    ensures fits { OnOk result (InputsFit (FitsIn library.now scope) (site_of scope) first
+    ensures fits { OnOk result (InputsFit (FitsIn library.now scope) (frame_of scope) first
         (map slot_argument_view arguments.now)) }
     ensures long { OnOk result (length code.new
         ≡ inputs_length (lengths_in library.now scope) (map slot_argument_view arguments.now) + length code.old) }
     ensures wrong { IfErr result (λ e. e ≡ CompileError.NotLinked
-        → ¬ (InputsLinked (LinkedIn library.now scope) (site_of scope) first
+        → ¬ (InputsLinked (LinkedIn library.now scope) (frame_of scope) first
         (map slot_argument_view arguments.now))) }
     ensures full { IfErr result (λ e. e ≡ CompileError.TooManyInstructions → MAX_INSTRUCTIONS
         < inputs_length (lengths_in library.now scope) (map slot_argument_view arguments.now) + length code.old) }
     ensures crowded { IfErr result (λ e. e ≡ CompileError.TooManyPlaces
-        → ¬ (InputsFit (FitsIn library.now scope) (site_of scope) first (map slot_argument_view arguments.now))) }
+        → ¬ (InputsFit (FitsIn library.now scope) (frame_of scope) first (map slot_argument_view arguments.now))) }
 {
     let mut left = arguments.len();
     while left > 0 {
@@ -223,19 +224,19 @@ fn put_outputs(
 ) -> Result<(), CompileError>
     requires room { scope.start + scope.size ≤ scope.memory }
     requires numbered { scope.memory ≤ MAX_MEMORY }
-    ensures code { OnOk result (code.new ≡ outputs_code (units_in library.now scope) (site_of scope) first
+    ensures code { OnOk result (code.new ≡ outputs_code (units_in library.now scope) (frame_of scope) first
         (map slot_argument_view arguments.now) code.old) }
-    ensures fits { OnOk result (OutputsFit (FitsIn library.now scope) (site_of scope) first
+    ensures fits { OnOk result (OutputsFit (FitsIn library.now scope) (frame_of scope) first
         (map slot_argument_view arguments.now)) }
     ensures long { OnOk result (length code.new
         ≡ outputs_length (lengths_in library.now scope) (map slot_argument_view arguments.now) + length code.old) }
     ensures wrong { IfErr result (λ e. e ≡ CompileError.NotLinked
-        → ¬ (OutputsLinked (LinkedIn library.now scope) (site_of scope) first
+        → ¬ (OutputsLinked (LinkedIn library.now scope) (frame_of scope) first
         (map slot_argument_view arguments.now))) }
     ensures full { IfErr result (λ e. e ≡ CompileError.TooManyInstructions → MAX_INSTRUCTIONS
         < outputs_length (lengths_in library.now scope) (map slot_argument_view arguments.now) + length code.old) }
     ensures crowded { IfErr result (λ e. e ≡ CompileError.TooManyPlaces
-        → ¬ (OutputsFit (FitsIn library.now scope) (site_of scope) first (map slot_argument_view arguments.now))) }
+        → ¬ (OutputsFit (FitsIn library.now scope) (frame_of scope) first (map slot_argument_view arguments.now))) }
 {
     let mut left = arguments.len();
     while left > 0 {
@@ -246,7 +247,7 @@ fn put_outputs(
                 return Err(CompileError::NotLinked);
             }
             put_place(library, scope, code, target, Access::Store)?;
-            code.put(Instr::Fetch(slot_behind(scope.start, slot)))?;
+            code.put(Instr::LoadRaw(slot_after(scope.start, slot)))?;
         }
     }
     Ok(())

@@ -9,27 +9,28 @@ ghost use Rattle.slot_trees.specs.StatementViews.{slot_stmts_view};
 ghost use Rattle.machine_code.specs.Programs.{program_code, ProgramFits};
 ghost use Rattle.st_compile.specs.Emitting.{filled};
 ghost use Rattle.st_compile.specs.Linked.{ProgramLinked};
-ghost use Rattle.st_compile.specs.Resets.{slot_behind_resets};
+ghost use Rattle.st_compile.specs.Resets.{slot_after_resets};
+ghost use Rattle.st_compile.specs.Sizes.{IsWithinLimits};
 
 use crate::compile_error::CompileError;
 use crate::draft::Draft;
 use crate::limits::{CALL_DEPTH, FUNCTION_PLACES};
 use crate::scope::Scope;
 use crate::statements::put_statements;
-use machine_code::{Instr, MAX_MEMORY, Ways};
+use machine_code::{Instr, JumpTargets, MAX_MEMORY};
 use slot_trees::{SlotLibrary, SlotStmt};
 use std::alloc::Global;
 
 /// The code of a program, and the memory that it needs.
 #[derive(Drop)]
 pub struct Compiled {
-    /// The instructions from the end on: what runs first stands last.
+    /// The instructions from the end on: the one that runs first is last.
     pub code: Vec<Instr>,
     /// How many slots there are for the values of the program and of the functions that run.
     pub memory: usize,
 }
 
-/// The code of a program for a memory of so many slots.
+/// The code of a program for a memory of `memory` slots.
 fn compile_within(
     alloc: Global,
     library: &SlotLibrary,
@@ -62,7 +63,7 @@ fn compile_within(
         base,
         size,
     };
-    let ways = Ways {
+    let ways = JumpTargets {
         exit: 0,
         back: 0,
         held: 0,
@@ -75,27 +76,27 @@ fn compile_within(
     })
 }
 
-/// How many slots code needs. A call resets all values of its function, so the greatest slot that is reset tells.
+/// How many slots code needs. A call resets all values of its function, so the greatest slot that is reset gives it.
 fn needed(size: usize, code: &[Instr]) -> usize
     requires { size ≤ MAX_MEMORY }
-    ensures memory { result ≡ max size (slot_behind_resets code.now) }
+    ensures memory { result ≡ max size (slot_after_resets code.now) }
     ensures numbered { result ≤ MAX_MEMORY }
 {
     let mut memory = size;
     let mut left = code.len();
     while left > 0 {
         left -= 1;
-        if let Instr::Reset(slot) = code[left] {
+        if let Instr::StoreRaw(slot) = code[left] {
             memory = memory.max(usize::from(slot) + 1);
         }
     }
     memory
 }
 
-/// The code of a program with its own variables from a slot on, over so many slots.
+/// The code of a program with its own variables from slot `base` on, over `size` slots.
 ///
-/// It has at most 16,384 instructions, and at most 4,096 places for values of functions. The memory is the least that
-/// the program fits, for which the code is made again.
+/// It has at most 16,384 instructions, and at most 4,096 places for values of functions. The memory is the least that the
+/// program fits, for which the code is made again.
 pub fn compile(
     alloc: Global,
     library: &SlotLibrary,
@@ -107,13 +108,10 @@ pub fn compile(
         → x.code.items ≡ program_code whole base size (slot_stmts_view body.now) 64) }
     ensures fits { IfOk result (λ x. (whole : tree.SlotLibrary) → IsKeptOf (slot_library_view library.now) whole
         → ProgramFits x.memory whole base size (slot_stmts_view body.now) 64) }
-    ensures few { IfOk result (λ x. length x.code.items ≤ MAX_INSTRUCTIONS) }
+    ensures sizes { IfOk result (λ x. IsWithinLimits size (length x.code.items) x.memory) }
     ensures least { IfOk result (λ x. (whole : tree.SlotLibrary) (memory : ℕ)
         → IsKeptOf (slot_library_view library.now) whole
         → ProgramFits memory whole base size (slot_stmts_view body.now) 64 → x.memory ≤ memory) }
-    ensures near { IfOk result (λ x. x.memory ≤ size + FUNCTION_PLACES) }
-    ensures room { IfOk result (λ x. size ≤ x.memory) }
-    ensures numbered { IfOk result (λ x. x.memory ≤ MAX_MEMORY) }
     ensures wrong { IfErr result (λ e. e ≡ CompileError.NotLinked
         → ¬ (ProgramLinked (slot_library_view library.now) base size (slot_stmts_view body.now) 64)) }
     ensures long { IfErr result (λ e. e ≡ CompileError.TooManyInstructions
@@ -132,7 +130,7 @@ pub fn compile(
     if memory >= roomy.memory {
         return Ok(roomy);
     }
-    // There is such code: only memory can be wanting.
+    // There is such code: only memory can run out.
     match compile_within(alloc, library, base, size, memory, body) {
         Ok(tight) => Ok(tight),
         Err(_) => Err(CompileError::OutOfMemory),

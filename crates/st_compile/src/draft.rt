@@ -9,7 +9,7 @@ use machine_code::{Instr, MAX_INSTRUCTIONS};
 use std::alloc::Global;
 use std::marker::Model;
 
-/// Code from its end on: what runs first is put last. It has at most `MAX_INSTRUCTIONS` instructions.
+/// Code from its end on: the instruction that runs first is put last. It has at most `MAX_INSTRUCTIONS` instructions.
 pub struct Draft {
     code: Vec<Instr>,
 }
@@ -68,13 +68,13 @@ impl Draft {
         }
     }
 
-    /// Lets the jump back at a place lead to what is now the first instruction.
+    /// Makes the jump back at a place lead to the instruction that is now the first.
     pub fn close(&mut self, at: u16)
         requires { at < length self.old }
         ensures closed { self.new ≡ closed at self.old }
         ensures long { length self.new ≡ length self.old }
     {
-        self.code[at as usize] = Instr::Back(self.code.len() as u16);
+        self.code[at as usize] = Instr::LoopBack(self.code.len() as u16);
     }
 
     /// The instructions.

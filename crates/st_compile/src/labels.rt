@@ -23,13 +23,13 @@ fn literal_value(literal: &Literal) -> Result<Value, Fault>
 {
     match literal {
         Literal::Number(number) => value_of_number(number),
-        Literal::Truth(_, truth) => Ok(Value::truth(*truth)),
+        Literal::Truth(_, truth) => Ok(Value::from_bool(*truth)),
         Literal::Duration(_, milliseconds) => Value::new(Kind::Time, *milliseconds as i128),
         Literal::Enumerated(_) => Err(Fault::Index),
     }
 }
 
-/// The value of a literal comes on the stack.
+/// The value of a literal is pushed on the stack.
 pub fn put_literal(code: &mut Draft, literal: &Literal) -> Result<(), CompileError>
     ensures code { OnOk result (code.new ≡ literal_code (value_of_literal literal.now) code.old) }
     ensures fits { OnOk result (IsValue (value_of_literal literal.now)) }
@@ -45,7 +45,7 @@ pub fn put_literal(code: &mut Draft, literal: &Literal) -> Result<(), CompileErr
     }
 }
 
-/// A number as a value of LINT, or of ULINT where LINT does not hold it.
+/// A number as a value of LINT, or of ULINT if LINT does not hold it.
 pub fn number_value(number: i128) -> Result<Value, CompileError>
     ensures value { IfOk result (λ v. v ≡ number_value number) }
     ensures wrong { IfErr result (λ e. e ≡ CompileError.NotLinked → ¬ (IsNumber number)) }
@@ -60,7 +60,7 @@ pub fn number_value(number: i128) -> Result<Value, CompileError>
     }
 }
 
-/// A number of a label comes on the stack.
+/// A number of a label is pushed on the stack.
 pub fn put_number(code: &mut Draft, number: i128) -> Result<(), CompileError>
     ensures code { OnOk result (code.new ≡ code.old ◂ instrs.Push (number_value number)) }
     ensures long { OnOk result (length code.new ≡ 1 + length code.old) }
@@ -73,7 +73,7 @@ pub fn put_number(code: &mut Draft, number: i128) -> Result<(), CompileError>
     code.put(Instr::Push(value))
 }
 
-/// Where a label holds the selector, which is on the stack, the run goes on at a place.
+/// If a label holds the selector, which is on the stack, the run goes on at a place.
 fn put_label(code: &mut Draft, label: &Label, to: u16) -> Result<(), CompileError>
     ensures code { OnOk result (code.new ≡ label_code label.now to code.old) }
     ensures long { OnOk result (length code.new ≡ label_length label.now + length code.old) }
@@ -84,11 +84,11 @@ fn put_label(code: &mut Draft, label: &Label, to: u16) -> Result<(), CompileErro
 {
     match label {
         Label::Single(number) => {
-            code.put(Instr::Equals(to))?;
+            code.put(Instr::JumpIfEqual(to))?;
             put_number(code, number_of(number))
         }
         Label::Range(least, greatest) => {
-            code.put(Instr::Within(to))?;
+            code.put(Instr::JumpIfWithin(to))?;
             put_number(code, number_of(greatest))?;
             put_number(code, number_of(least))
         }
@@ -96,7 +96,7 @@ fn put_label(code: &mut Draft, label: &Label, to: u16) -> Result<(), CompileErro
     }
 }
 
-/// The same of labels, of which any may hold it.
+/// The same for labels, of which any may hold it.
 #[tactic(auto, using(crate::proofs::Elements::label_at, crate::proofs::Behind::labels_behind))]
 pub fn put_labels(code: &mut Draft, labels: &[Label], to: u16) -> Result<(), CompileError>
     ensures code { OnOk result (code.new ≡ labels_code labels.now to code.old) }

@@ -5,7 +5,7 @@ ghost use Rattle.std.specs.Prelude.{◌≡◌};
 /// How deep calls may be.
 pub const CALL_DEPTH: u16 = 64;
 
-/// How many values of functions may stand behind the values of a program.
+/// How many values of functions may come after the values of a program.
 pub const FUNCTION_PLACES: usize = 4096;
 
 /// The limits are these numbers. A law.

@@ -10,8 +10,8 @@ ghost use Rattle.machine_code.specs.declared.limits.TheConstants.{MAX_INSTRUCTIO
 ghost use Rattle.machine_code.specs.Codes.{number_value};
 ghost use Rattle.machine_code.specs.Fitting.{reach};
 ghost use Rattle.machine_code.specs.Growing.{◌◂◌};
-ghost use Rattle.machine_code.specs.Sites.{slot_in};
-ghost use Rattle.st_compile.specs.Emitting.{site_of};
+ghost use Rattle.machine_code.specs.UnitFrames.{slot_in};
+ghost use Rattle.st_compile.specs.Emitting.{frame_of};
 ghost use Rattle.st_compile.specs.Linked.{IsSubscript};
 
 use crate::compile_error::CompileError;
@@ -22,15 +22,15 @@ use machine_code::Instr;
 use slot_trees::{Anchor, Subscript};
 use st_types::{Kind, Value};
 
-/// The number of a slot that lies so many behind a first one.
-pub fn slot_behind(first: usize, offset: usize) -> u16
+/// The number of the slot at an offset from a first one.
+pub fn slot_after(first: usize, offset: usize) -> u16
     requires { first + offset < MAX_MEMORY }
     ensures { result ≡ first + offset }
 {
     (first + offset) as u16
 }
 
-/// A slot's number as it stands on the stack.
+/// A slot's number as it is on the stack.
 pub fn slot_value(slot: u16) -> Value
     ensures { result ≡ slot_number slot }
 {
@@ -40,7 +40,7 @@ pub fn slot_value(slot: u16) -> Value
     }
 }
 
-/// The value of a unit that an anchor means where its own variables begin at the base, or the greatest number.
+/// The value of a unit that an anchor means if its own variables begin at the base, or the greatest number.
 pub fn value_at(base: usize, anchor: Anchor) -> usize
     ensures { result ≡ min (slot_at base (anchor_view anchor)) (2 ^ 64 - 1) }
 {
@@ -68,7 +68,7 @@ fn farthest(subscripts: &[Subscript]) -> usize
     total
 }
 
-/// The slot where a variable begins that lies among the values of its unit, all of its array.
+/// The slot at which a variable begins that lies among the values of its unit, with all of its array.
 pub fn first_slot(
     scope: Scope,
     anchor: Anchor,
@@ -76,7 +76,7 @@ pub fn first_slot(
 ) -> Result<u16, CompileError>
     requires room { scope.start + scope.size ≤ scope.memory }
     requires numbered { scope.memory ≤ MAX_MEMORY }
-    ensures slot { IfOk result (λ k. k ≡ slot_in (site_of scope) (anchor_view anchor)) }
+    ensures slot { IfOk result (λ k. k ≡ slot_in (frame_of scope) (anchor_view anchor)) }
     ensures within { IfOk result (λ k. slot_at scope.base (anchor_view anchor)
         + reach (subscripts_of (map subscript_view subscripts.now)) < scope.size) }
     ensures wrong { IfErr result (λ e. e ≡ CompileError.NotLinked
@@ -88,14 +88,14 @@ pub fn first_slot(
     if first.saturating_add(farthest(subscripts)) >= scope.size {
         return Err(CompileError::NotLinked);
     }
-    Ok(slot_behind(scope.start, first))
+    Ok(slot_after(scope.start, first))
 }
 
 /// The slot of the control variable of a FOR.
 pub fn control_slot(scope: Scope, control: Anchor) -> Result<u16, CompileError>
     requires room { scope.start + scope.size ≤ scope.memory }
     requires numbered { scope.memory ≤ MAX_MEMORY }
-    ensures slot { IfOk result (λ k. k ≡ slot_in (site_of scope) (anchor_view control)) }
+    ensures slot { IfOk result (λ k. k ≡ slot_in (frame_of scope) (anchor_view control)) }
     ensures within { IfOk result (λ k. slot_at scope.base (anchor_view control) < scope.size) }
     ensures wrong { IfErr result (λ e. e ≡ CompileError.NotLinked
         → ¬ (slot_at scope.base (anchor_view control) < scope.size)) }
@@ -105,7 +105,7 @@ pub fn control_slot(scope: Scope, control: Anchor) -> Result<u16, CompileError>
     if slot >= scope.size {
         return Err(CompileError::NotLinked);
     }
-    Ok(slot_behind(scope.start, slot))
+    Ok(slot_after(scope.start, slot))
 }
 
 /// The instruction of a subscript.

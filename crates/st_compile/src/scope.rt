@@ -1,7 +1,7 @@
-//! Where the values of a unit stand.
+//! The place of a unit's values in memory.
 
-/// How deep its calls may be, how many slots the memory has, where the unit's values begin in it, where its own
-/// variables begin among these, and how many values there are.
+/// How deep its calls may be, how many slots the memory has, at which slot the unit's values begin, after how many of them
+/// its own variables begin, and how many values there are.
 #[derive(Clone, Copy)]
 pub struct Scope {
     pub depth: u16,

@@ -9,7 +9,7 @@ ghost use Rattle.slot_trees.specs.StatementViews.{slot_stmt_view, slot_arm_view,
 ghost use Rattle.slot_trees.specs.SlotTrees as trees;
 ghost use Rattle.machine_code.specs.Codes.{stmt_code, stmts_code, arms_code, case_code, step_code};
 ghost use Rattle.machine_code.specs.Fitting.{StmtFits, StmtsFit, ArmsFit, CaseArmsFit, StepFits};
-ghost use Rattle.st_compile.specs.Emitting.{site_of, units_in, lengths_in, FitsIn, LinkedIn, turns_code};
+ghost use Rattle.st_compile.specs.Emitting.{frame_of, units_in, lengths_in, FitsIn, LinkedIn, turns_code};
 ghost use Rattle.st_compile.specs.Lengths.{stmt_length, stmts_length, turns_length, arms_length, case_length};
 ghost use Rattle.st_compile.specs.Lengths.{step_length};
 ghost use Rattle.st_compile.specs.Linked.{StmtLinked, StmtsLinked, ArmsLinked, CaseArmsLinked, StepLinked};
@@ -22,10 +22,10 @@ use crate::expressions::{put_expr, put_place};
 use crate::labels::{put_labels, put_number};
 use crate::places::control_slot;
 use crate::scope::Scope;
-use machine_code::{Instr, Ways};
+use machine_code::{Instr, JumpTargets};
 use slot_trees::{SlotArm, SlotCaseArm, SlotExpr, SlotLibrary, SlotStmt};
 
-/// Puts the code of a statement that leads so before the code that runs behind it.
+/// Puts the code of a statement with these jump targets before the code that runs after it.
 #[cycle(unit)]
 #[tactic(auto, using(slot_trees::proofs::Bridge::choose_view, slot_trees::proofs::Bridge::select_view))]
 fn put_statement(
@@ -33,22 +33,22 @@ fn put_statement(
     scope: Scope,
     code: &mut Draft,
     statement: &SlotStmt,
-    ways: Ways,
+    ways: JumpTargets,
 ) -> Result<(), CompileError>
     requires room { scope.start + scope.size ≤ scope.memory }
     requires numbered { scope.memory ≤ MAX_MEMORY }
     requires held { ways.held ≤ length code.old }
-    ensures code { OnOk result (code.new ≡ stmt_code (units_in library.now scope) (site_of scope)
+    ensures code { OnOk result (code.new ≡ stmt_code (units_in library.now scope) (frame_of scope)
         (slot_stmt_view statement.now) ways code.old) }
-    ensures fits { OnOk result (StmtFits (FitsIn library.now scope) (site_of scope) (slot_stmt_view statement.now)) }
+    ensures fits { OnOk result (StmtFits (FitsIn library.now scope) (frame_of scope) (slot_stmt_view statement.now)) }
     ensures long { OnOk result (length code.new
         ≡ stmt_length (lengths_in library.now scope) (slot_stmt_view statement.now) + length code.old) }
     ensures wrong { IfErr result (λ e. e ≡ CompileError.NotLinked
-        → ¬ (StmtLinked (LinkedIn library.now scope) (site_of scope) (slot_stmt_view statement.now))) }
+        → ¬ (StmtLinked (LinkedIn library.now scope) (frame_of scope) (slot_stmt_view statement.now))) }
     ensures full { IfErr result (λ e. e ≡ CompileError.TooManyInstructions → MAX_INSTRUCTIONS
         < stmt_length (lengths_in library.now scope) (slot_stmt_view statement.now) + length code.old) }
     ensures crowded { IfErr result (λ e. e ≡ CompileError.TooManyPlaces
-        → ¬ (StmtFits (FitsIn library.now scope) (site_of scope) (slot_stmt_view statement.now))) }
+        → ¬ (StmtFits (FitsIn library.now scope) (frame_of scope) (slot_stmt_view statement.now))) }
 {
     match statement {
         SlotStmt::Empty => code.put(Instr::Tick),
@@ -90,13 +90,13 @@ fn put_statement(
         }
         SlotStmt::Return => {
             code.put(Instr::Jump(ways.back))?;
-            code.put(Instr::Leave(ways.held))?;
+            code.put(Instr::Pop(ways.held))?;
             code.put(Instr::Tick)
         }
     }
 }
 
-/// The same of an IF: its arms, and the statements that run where no condition holds.
+/// The same for an IF: its arms, and the statements that run if no condition holds.
 #[cycle(unit)]
 fn put_if(
     library: &SlotLibrary,
@@ -104,29 +104,29 @@ fn put_if(
     code: &mut Draft,
     arms: &[SlotArm],
     otherwise: &[SlotStmt],
-    ways: Ways,
+    ways: JumpTargets,
 ) -> Result<(), CompileError>
     requires room { scope.start + scope.size ≤ scope.memory }
     requires numbered { scope.memory ≤ MAX_MEMORY }
     requires held { ways.held ≤ length code.old }
-    ensures code { OnOk result (code.new ≡ stmt_code (units_in library.now scope) (site_of scope)
+    ensures code { OnOk result (code.new ≡ stmt_code (units_in library.now scope) (frame_of scope)
         (trees.IF (arms_of (map slot_arm_view arms.now))
         (stmts_of (map slot_stmt_view otherwise.now))) ways code.old) }
-    ensures fits { OnOk result (StmtFits (FitsIn library.now scope) (site_of scope)
+    ensures fits { OnOk result (StmtFits (FitsIn library.now scope) (frame_of scope)
         (trees.IF (arms_of (map slot_arm_view arms.now))
         (stmts_of (map slot_stmt_view otherwise.now)))) }
     ensures long { OnOk result (length code.new
         ≡ stmt_length (lengths_in library.now scope) (trees.IF (arms_of (map slot_arm_view arms.now))
         (stmts_of (map slot_stmt_view otherwise.now))) + length code.old) }
     ensures wrong { IfErr result (λ e. e ≡ CompileError.NotLinked
-        → ¬ (StmtLinked (LinkedIn library.now scope) (site_of scope)
+        → ¬ (StmtLinked (LinkedIn library.now scope) (frame_of scope)
         (trees.IF (arms_of (map slot_arm_view arms.now))
         (stmts_of (map slot_stmt_view otherwise.now))))) }
     ensures full { IfErr result (λ e. e ≡ CompileError.TooManyInstructions → MAX_INSTRUCTIONS
         < stmt_length (lengths_in library.now scope) (trees.IF (arms_of (map slot_arm_view arms.now))
         (stmts_of (map slot_stmt_view otherwise.now))) + length code.old) }
     ensures crowded { IfErr result (λ e. e ≡ CompileError.TooManyPlaces
-        → ¬ (StmtFits (FitsIn library.now scope) (site_of scope) (trees.IF (arms_of (map slot_arm_view arms.now))
+        → ¬ (StmtFits (FitsIn library.now scope) (frame_of scope) (trees.IF (arms_of (map slot_arm_view arms.now))
         (stmts_of (map slot_stmt_view otherwise.now))))) }
 {
     let end = code.len();
@@ -135,7 +135,7 @@ fn put_if(
     code.put(Instr::Tick)
 }
 
-/// The same of a CASE: its selector, its arms, and the statements that run where no label holds.
+/// The same for a CASE: its selector, its arms, and the statements that run if no label holds.
 #[cycle(unit)]
 fn put_case(
     library: &SlotLibrary,
@@ -144,15 +144,15 @@ fn put_case(
     selector: &SlotExpr,
     arms: &[SlotCaseArm],
     otherwise: &[SlotStmt],
-    ways: Ways,
+    ways: JumpTargets,
 ) -> Result<(), CompileError>
     requires room { scope.start + scope.size ≤ scope.memory }
     requires numbered { scope.memory ≤ MAX_MEMORY }
     requires held { ways.held ≤ length code.old }
-    ensures code { OnOk result (code.new ≡ stmt_code (units_in library.now scope) (site_of scope)
+    ensures code { OnOk result (code.new ≡ stmt_code (units_in library.now scope) (frame_of scope)
         (trees.CASE (slot_expr_view selector.now) (case_arms_of (map slot_case_arm_view arms.now))
         (stmts_of (map slot_stmt_view otherwise.now))) ways code.old) }
-    ensures fits { OnOk result (StmtFits (FitsIn library.now scope) (site_of scope)
+    ensures fits { OnOk result (StmtFits (FitsIn library.now scope) (frame_of scope)
         (trees.CASE (slot_expr_view selector.now) (case_arms_of (map slot_case_arm_view arms.now))
         (stmts_of (map slot_stmt_view otherwise.now)))) }
     ensures long { OnOk result (length code.new
@@ -160,7 +160,7 @@ fn put_case(
         (case_arms_of (map slot_case_arm_view arms.now))
         (stmts_of (map slot_stmt_view otherwise.now))) + length code.old) }
     ensures wrong { IfErr result (λ e. e ≡ CompileError.NotLinked
-        → ¬ (StmtLinked (LinkedIn library.now scope) (site_of scope)
+        → ¬ (StmtLinked (LinkedIn library.now scope) (frame_of scope)
         (trees.CASE (slot_expr_view selector.now) (case_arms_of (map slot_case_arm_view arms.now))
         (stmts_of (map slot_stmt_view otherwise.now))))) }
     ensures full { IfErr result (λ e. e ≡ CompileError.TooManyInstructions → MAX_INSTRUCTIONS
@@ -168,19 +168,19 @@ fn put_case(
         (case_arms_of (map slot_case_arm_view arms.now))
         (stmts_of (map slot_stmt_view otherwise.now))) + length code.old) }
     ensures crowded { IfErr result (λ e. e ≡ CompileError.TooManyPlaces
-        → ¬ (StmtFits (FitsIn library.now scope) (site_of scope) (trees.CASE (slot_expr_view selector.now)
+        → ¬ (StmtFits (FitsIn library.now scope) (frame_of scope) (trees.CASE (slot_expr_view selector.now)
         (case_arms_of (map slot_case_arm_view arms.now))
         (stmts_of (map slot_stmt_view otherwise.now))))) }
 {
     let end = code.len();
     put_statements(library, scope, code, otherwise, ways)?;
-    code.put(Instr::Leave(1))?;
+    code.put(Instr::Pop(1))?;
     put_case_arms(library, scope, code, arms, ways, end)?;
     put_expr(library, scope, code, selector)?;
     code.put(Instr::Tick)
 }
 
-/// The same of a WHILE.
+/// The same for a WHILE.
 #[cycle(unit)]
 fn put_while(
     library: &SlotLibrary,
@@ -188,15 +188,15 @@ fn put_while(
     code: &mut Draft,
     condition: &SlotExpr,
     body: &[SlotStmt],
-    ways: Ways,
+    ways: JumpTargets,
 ) -> Result<(), CompileError>
     requires room { scope.start + scope.size ≤ scope.memory }
     requires numbered { scope.memory ≤ MAX_MEMORY }
     requires held { ways.held ≤ length code.old }
-    ensures code { OnOk result (code.new ≡ stmt_code (units_in library.now scope) (site_of scope)
+    ensures code { OnOk result (code.new ≡ stmt_code (units_in library.now scope) (frame_of scope)
         (trees.WHILE (slot_expr_view condition.now)
         (stmts_of (map slot_stmt_view body.now))) ways code.old) }
-    ensures fits { OnOk result (StmtFits (FitsIn library.now scope) (site_of scope)
+    ensures fits { OnOk result (StmtFits (FitsIn library.now scope) (frame_of scope)
         (trees.WHILE (slot_expr_view condition.now)
         (stmts_of (map slot_stmt_view body.now)))) }
     ensures long { OnOk result (length code.new
@@ -204,7 +204,7 @@ fn put_while(
         slot_stmt_view body.now)))
         + length code.old) }
     ensures wrong { IfErr result (λ e. e ≡ CompileError.NotLinked
-        → ¬ (StmtLinked (LinkedIn library.now scope) (site_of scope)
+        → ¬ (StmtLinked (LinkedIn library.now scope) (frame_of scope)
         (trees.WHILE (slot_expr_view condition.now)
         (stmts_of (map slot_stmt_view body.now))))) }
     ensures full { IfErr result (λ e. e ≡ CompileError.TooManyInstructions → MAX_INSTRUCTIONS
@@ -212,19 +212,25 @@ fn put_while(
         slot_stmt_view body.now)))
         + length code.old) }
     ensures crowded { IfErr result (λ e. e ≡ CompileError.TooManyPlaces
-        → ¬ (StmtFits (FitsIn library.now scope) (site_of scope)
+        → ¬ (StmtFits (FitsIn library.now scope) (frame_of scope)
         (trees.WHILE (slot_expr_view condition.now) (stmts_of (map slot_stmt_view body.now))))) }
 {
     let end = code.len();
-    code.put(Instr::Back(0))?;
-    put_statements(library, scope, code, body, Ways { exit: end, ..ways })?;
-    code.put(Instr::Unless(end))?;
+    code.put(Instr::LoopBack(0))?;
+    put_statements(
+        library,
+        scope,
+        code,
+        body,
+        JumpTargets { exit: end, ..ways },
+    )?;
+    code.put(Instr::JumpIfFalse(end))?;
     put_expr(library, scope, code, condition)?;
     code.close(end);
     code.put(Instr::Tick)
 }
 
-/// The same of a REPEAT.
+/// The same for a REPEAT.
 #[cycle(unit)]
 fn put_repeat(
     library: &SlotLibrary,
@@ -232,15 +238,15 @@ fn put_repeat(
     code: &mut Draft,
     body: &[SlotStmt],
     condition: &SlotExpr,
-    ways: Ways,
+    ways: JumpTargets,
 ) -> Result<(), CompileError>
     requires room { scope.start + scope.size ≤ scope.memory }
     requires numbered { scope.memory ≤ MAX_MEMORY }
     requires held { ways.held ≤ length code.old }
-    ensures code { OnOk result (code.new ≡ stmt_code (units_in library.now scope) (site_of scope)
+    ensures code { OnOk result (code.new ≡ stmt_code (units_in library.now scope) (frame_of scope)
         (trees.REPEAT (stmts_of (map slot_stmt_view body.now))
         (slot_expr_view condition.now)) ways code.old) }
-    ensures fits { OnOk result (StmtFits (FitsIn library.now scope) (site_of scope)
+    ensures fits { OnOk result (StmtFits (FitsIn library.now scope) (frame_of scope)
         (trees.REPEAT (stmts_of (map slot_stmt_view body.now))
         (slot_expr_view condition.now))) }
     ensures long { OnOk result (length code.new
@@ -248,7 +254,7 @@ fn put_repeat(
         (slot_expr_view condition.now))
         + length code.old) }
     ensures wrong { IfErr result (λ e. e ≡ CompileError.NotLinked
-        → ¬ (StmtLinked (LinkedIn library.now scope) (site_of scope)
+        → ¬ (StmtLinked (LinkedIn library.now scope) (frame_of scope)
         (trees.REPEAT (stmts_of (map slot_stmt_view body.now))
         (slot_expr_view condition.now)))) }
     ensures full { IfErr result (λ e. e ≡ CompileError.TooManyInstructions → MAX_INSTRUCTIONS
@@ -256,19 +262,25 @@ fn put_repeat(
         (slot_expr_view condition.now))
         + length code.old) }
     ensures crowded { IfErr result (λ e. e ≡ CompileError.TooManyPlaces
-        → ¬ (StmtFits (FitsIn library.now scope) (site_of scope)
+        → ¬ (StmtFits (FitsIn library.now scope) (frame_of scope)
         (trees.REPEAT (stmts_of (map slot_stmt_view body.now)) (slot_expr_view condition.now)))) }
 {
     let end = code.len();
-    code.put(Instr::Back(0))?;
-    code.put(Instr::When(end))?;
+    code.put(Instr::LoopBack(0))?;
+    code.put(Instr::JumpIfTrue(end))?;
     put_expr(library, scope, code, condition)?;
-    put_statements(library, scope, code, body, Ways { exit: end, ..ways })?;
+    put_statements(
+        library,
+        scope,
+        code,
+        body,
+        JumpTargets { exit: end, ..ways },
+    )?;
     code.close(end);
     code.put(Instr::Tick)
 }
 
-/// The same of statements one after another.
+/// The same for statements one after another.
 #[cycle(unit)]
 #[tactic(auto, using(crate::proofs::Elements::stmt_smaller, crate::proofs::Behind::stmts_behind))]
 pub fn put_statements(
@@ -276,26 +288,26 @@ pub fn put_statements(
     scope: Scope,
     code: &mut Draft,
     statements: &[SlotStmt],
-    ways: Ways,
+    ways: JumpTargets,
 ) -> Result<(), CompileError>
     requires room { scope.start + scope.size ≤ scope.memory }
     requires numbered { scope.memory ≤ MAX_MEMORY }
     requires held { ways.held ≤ length code.old }
-    ensures code { OnOk result (code.new ≡ stmts_code (units_in library.now scope) (site_of scope)
+    ensures code { OnOk result (code.new ≡ stmts_code (units_in library.now scope) (frame_of scope)
         (stmts_of (map slot_stmt_view statements.now)) ways code.old) }
-    ensures fits { OnOk result (StmtsFit (FitsIn library.now scope) (site_of scope)
+    ensures fits { OnOk result (StmtsFit (FitsIn library.now scope) (frame_of scope)
         (stmts_of (map slot_stmt_view statements.now))) }
     ensures long { OnOk result (length code.new
         ≡ stmts_length (lengths_in library.now scope) (stmts_of (map slot_stmt_view statements.now))
         + length code.old) }
     ensures wrong { IfErr result (λ e. e ≡ CompileError.NotLinked
-        → ¬ (StmtsLinked (LinkedIn library.now scope) (site_of scope)
+        → ¬ (StmtsLinked (LinkedIn library.now scope) (frame_of scope)
         (stmts_of (map slot_stmt_view statements.now)))) }
     ensures full { IfErr result (λ e. e ≡ CompileError.TooManyInstructions → MAX_INSTRUCTIONS
         < stmts_length (lengths_in library.now scope) (stmts_of (map slot_stmt_view statements.now))
         + length code.old) }
     ensures crowded { IfErr result (λ e. e ≡ CompileError.TooManyPlaces
-        → ¬ (StmtsFit (FitsIn library.now scope) (site_of scope) (stmts_of (map slot_stmt_view statements.now)))) }
+        → ¬ (StmtsFit (FitsIn library.now scope) (frame_of scope) (stmts_of (map slot_stmt_view statements.now)))) }
 {
     let mut left = statements.len();
     while left > 0 {
@@ -305,7 +317,7 @@ pub fn put_statements(
     Ok(())
 }
 
-/// The same of the arms of an IF that ends at a place, before the statements that run where no condition holds.
+/// The same for the arms of an IF that ends at a place, before the statements that run if no condition holds.
 #[cycle(unit)]
 #[tactic(auto, using(crate::proofs::Elements::condition_smaller, crate::proofs::Elements::body_smaller, crate::proofs::Behind::arms_behind))]
 fn put_arms(
@@ -313,24 +325,24 @@ fn put_arms(
     scope: Scope,
     code: &mut Draft,
     arms: &[SlotArm],
-    ways: Ways,
+    ways: JumpTargets,
     end: u16,
 ) -> Result<(), CompileError>
     requires room { scope.start + scope.size ≤ scope.memory }
     requires numbered { scope.memory ≤ MAX_MEMORY }
     requires held { ways.held ≤ length code.old }
-    ensures code { OnOk result (code.new ≡ arms_code (units_in library.now scope) (site_of scope)
+    ensures code { OnOk result (code.new ≡ arms_code (units_in library.now scope) (frame_of scope)
         (arms_of (map slot_arm_view arms.now)) ways end code.old) }
-    ensures fits { OnOk result (ArmsFit (FitsIn library.now scope) (site_of scope)
+    ensures fits { OnOk result (ArmsFit (FitsIn library.now scope) (frame_of scope)
         (arms_of (map slot_arm_view arms.now))) }
     ensures long { OnOk result (length code.new
         ≡ arms_length (lengths_in library.now scope) (arms_of (map slot_arm_view arms.now)) + length code.old) }
     ensures wrong { IfErr result (λ e. e ≡ CompileError.NotLinked
-        → ¬ (ArmsLinked (LinkedIn library.now scope) (site_of scope) (arms_of (map slot_arm_view arms.now)))) }
+        → ¬ (ArmsLinked (LinkedIn library.now scope) (frame_of scope) (arms_of (map slot_arm_view arms.now)))) }
     ensures full { IfErr result (λ e. e ≡ CompileError.TooManyInstructions → MAX_INSTRUCTIONS
         < arms_length (lengths_in library.now scope) (arms_of (map slot_arm_view arms.now)) + length code.old) }
     ensures crowded { IfErr result (λ e. e ≡ CompileError.TooManyPlaces
-        → ¬ (ArmsFit (FitsIn library.now scope) (site_of scope) (arms_of (map slot_arm_view arms.now)))) }
+        → ¬ (ArmsFit (FitsIn library.now scope) (frame_of scope) (arms_of (map slot_arm_view arms.now)))) }
 {
     let mut left = arms.len();
     while left > 0 {
@@ -338,13 +350,13 @@ fn put_arms(
         let next = code.len();
         code.put(Instr::Jump(end))?;
         put_statements(library, scope, code, &arms[left].body, ways)?;
-        code.put(Instr::Unless(next))?;
+        code.put(Instr::JumpIfFalse(next))?;
         put_expr(library, scope, code, &arms[left].condition)?;
     }
     Ok(())
 }
 
-/// The same of those of a CASE, whose selector is on the stack until statements are chosen.
+/// The same for those of a CASE, whose selector is on the stack until statements are chosen.
 #[cycle(unit)]
 #[tactic(auto, using(crate::proofs::Elements::case_smaller, crate::proofs::Behind::case_behind))]
 fn put_case_arms(
@@ -352,27 +364,27 @@ fn put_case_arms(
     scope: Scope,
     code: &mut Draft,
     arms: &[SlotCaseArm],
-    ways: Ways,
+    ways: JumpTargets,
     end: u16,
 ) -> Result<(), CompileError>
     requires room { scope.start + scope.size ≤ scope.memory }
     requires numbered { scope.memory ≤ MAX_MEMORY }
     requires held { ways.held ≤ length code.old }
-    ensures code { OnOk result (code.new ≡ case_code (units_in library.now scope) (site_of scope)
+    ensures code { OnOk result (code.new ≡ case_code (units_in library.now scope) (frame_of scope)
         (case_arms_of (map slot_case_arm_view arms.now)) ways end code.old) }
-    ensures fits { OnOk result (CaseArmsFit (FitsIn library.now scope) (site_of scope)
+    ensures fits { OnOk result (CaseArmsFit (FitsIn library.now scope) (frame_of scope)
         (case_arms_of (map slot_case_arm_view arms.now))) }
     ensures long { OnOk result (length code.new
         ≡ case_length (lengths_in library.now scope) (case_arms_of (map slot_case_arm_view arms.now))
         + length code.old) }
     ensures wrong { IfErr result (λ e. e ≡ CompileError.NotLinked
-        → ¬ (CaseArmsLinked (LinkedIn library.now scope) (site_of scope)
+        → ¬ (CaseArmsLinked (LinkedIn library.now scope) (frame_of scope)
         (case_arms_of (map slot_case_arm_view arms.now)))) }
     ensures full { IfErr result (λ e. e ≡ CompileError.TooManyInstructions → MAX_INSTRUCTIONS
         < case_length (lengths_in library.now scope) (case_arms_of (map slot_case_arm_view arms.now))
         + length code.old) }
     ensures crowded { IfErr result (λ e. e ≡ CompileError.TooManyPlaces
-        → ¬ (CaseArmsFit (FitsIn library.now scope) (site_of scope)
+        → ¬ (CaseArmsFit (FitsIn library.now scope) (frame_of scope)
         (case_arms_of (map slot_case_arm_view arms.now)))) }
 {
     let mut left = arms.len();
@@ -381,7 +393,7 @@ fn put_case_arms(
         let next = code.len();
         code.put(Instr::Jump(end))?;
         put_statements(library, scope, code, &arms[left].body, ways)?;
-        code.put(Instr::Leave(1))?;
+        code.put(Instr::Pop(1))?;
         let chosen = code.len();
         code.put(Instr::Jump(next))?;
         put_labels(code, &arms[left].labels, chosen)?;
@@ -389,7 +401,7 @@ fn put_case_arms(
     Ok(())
 }
 
-/// The turns of a FOR over a slot: its body, the test before it, the step behind it, and the end of the loop.
+/// The turns of a FOR over a slot: its body, the test before it, the step after it, and the end of the loop.
 #[cycle(unit)]
 fn put_turns(
     library: &SlotLibrary,
@@ -397,28 +409,28 @@ fn put_turns(
     code: &mut Draft,
     control: u16,
     body: &[SlotStmt],
-    ways: Ways,
+    ways: JumpTargets,
 ) -> Result<(), CompileError>
     requires room { scope.start + scope.size ≤ scope.memory }
     requires numbered { scope.memory ≤ MAX_MEMORY }
     requires held { ways.held ≤ length code.old }
-    ensures code { OnOk result (code.new ≡ turns_code (units_in library.now scope) (site_of scope) control
+    ensures code { OnOk result (code.new ≡ turns_code (units_in library.now scope) (frame_of scope) control
         (stmts_of (map slot_stmt_view body.now)) ways code.old) }
-    ensures fits { OnOk result (StmtsFit (FitsIn library.now scope) (site_of scope)
+    ensures fits { OnOk result (StmtsFit (FitsIn library.now scope) (frame_of scope)
         (stmts_of (map slot_stmt_view body.now))) }
     ensures long { OnOk result (length code.new
         ≡ turns_length (lengths_in library.now scope) (stmts_of (map slot_stmt_view body.now)) + length code.old) }
     ensures wrong { IfErr result (λ e. e ≡ CompileError.NotLinked
-        → ¬ (StmtsLinked (LinkedIn library.now scope) (site_of scope) (stmts_of (map slot_stmt_view body.now)))) }
+        → ¬ (StmtsLinked (LinkedIn library.now scope) (frame_of scope) (stmts_of (map slot_stmt_view body.now)))) }
     ensures full { IfErr result (λ e. e ≡ CompileError.TooManyInstructions → MAX_INSTRUCTIONS
         < turns_length (lengths_in library.now scope) (stmts_of (map slot_stmt_view body.now)) + length code.old) }
     ensures crowded { IfErr result (λ e. e ≡ CompileError.TooManyPlaces
-        → ¬ (StmtsFit (FitsIn library.now scope) (site_of scope) (stmts_of (map slot_stmt_view body.now)))) }
+        → ¬ (StmtsFit (FitsIn library.now scope) (frame_of scope) (stmts_of (map slot_stmt_view body.now)))) }
 {
-    code.put(Instr::Leave(2))?;
+    code.put(Instr::Pop(2))?;
     let end = code.len();
-    code.put(Instr::Back(0))?;
-    let inner = Ways {
+    code.put(Instr::LoopBack(0))?;
+    let inner = JumpTargets {
         exit: end,
         back: ways.back,
         held: ways.held + 2,
@@ -441,18 +453,18 @@ fn put_step(
 ) -> Result<(), CompileError>
     requires room { scope.start + scope.size ≤ scope.memory }
     requires numbered { scope.memory ≤ MAX_MEMORY }
-    ensures code { OnOk result (code.new ≡ step_code (units_in library.now scope) (site_of scope)
+    ensures code { OnOk result (code.new ≡ step_code (units_in library.now scope) (frame_of scope)
         (option_map slot_expr_view step.now) code.old) }
-    ensures fits { OnOk result (StepFits (FitsIn library.now scope) (site_of scope)
+    ensures fits { OnOk result (StepFits (FitsIn library.now scope) (frame_of scope)
         (option_map slot_expr_view step.now)) }
     ensures long { OnOk result (length code.new
         ≡ step_length (lengths_in library.now scope) (option_map slot_expr_view step.now) + length code.old) }
     ensures wrong { IfErr result (λ e. e ≡ CompileError.NotLinked
-        → ¬ (StepLinked (LinkedIn library.now scope) (site_of scope) (option_map slot_expr_view step.now))) }
+        → ¬ (StepLinked (LinkedIn library.now scope) (frame_of scope) (option_map slot_expr_view step.now))) }
     ensures full { IfErr result (λ e. e ≡ CompileError.TooManyInstructions → MAX_INSTRUCTIONS
         < step_length (lengths_in library.now scope) (option_map slot_expr_view step.now) + length code.old) }
     ensures crowded { IfErr result (λ e. e ≡ CompileError.TooManyPlaces
-        → ¬ (StepFits (FitsIn library.now scope) (site_of scope) (option_map slot_expr_view step.now))) }
+        → ¬ (StepFits (FitsIn library.now scope) (frame_of scope) (option_map slot_expr_view step.now))) }
 {
     match step {
         Some(step) => put_expr(library, scope, code, step),

@@ -1,4 +1,4 @@
--- What the marks of a walk over a whole text tell.
+-- The meaning of the marks of a walk over a whole text.
 use Rattle.std.proofs.Common.{◌≡◌, refl, sym, ap, subst, ◌∙◌, ℕ, suc, ◌+◌, ◌*◌, ◌≤◌, List, map, length}
 use Rattle.std.proofs.Common.{Option, Some, None, Bool, true, false, arith}
 use Rattle.std.specs.Prelude.{slice_get, nat_lt, nat_le}
@@ -23,19 +23,19 @@ use Rattle.st_decl.specs.declared.depths.Seen.TheVariants as seen
 use Rattle.st_decl.specs.Graphs.{Graph}
 use Rattle.st_decl.specs.Parts.{node_parts, target_of_name, link_of}
 use Rattle.st_decl.specs.Numbered.{IsGraphOf}
-use Rattle.st_decl.specs.Walks.{cut, seen_of_mark, seen_of_target, seen_in_row, seen_of, has_depth, AllTold, is_deep}
+use Rattle.st_decl.specs.Walks.{capped_depth, seen_of_mark, seen_of_target, seen_in_row, seen_of, has_depth, AllMarked, is_deep}
 use Rattle.st_decl.specs.Walks.{is_deep_seen}
 use Rattle.st_decl.proofs.WalkLemmas.{link_told}
 use Rattle.st_decl.proofs.GraphDepths.{part_depth}
 use Rattle.st_decl.proofs.GraphWays.{name_at, leads_holds}
 
--- the depth of a part, and what the marks tell of it
+-- the depth of a part, and the marks' view of it
 record IsDeepAs (text : Declared) (marks : List Mark) (l : Link) (p : Part) : Type 0 where
   depth : ℕ
   has : HasDepth text p depth
   shown : ℕ
   sees : seen_of marks l ≡ seen.Depth shown
-  is_cut : shown ≡ cut depth
+  is_cut : shown ≡ capped_depth depth
 
 data HasShown (s : Seen) : Type 0 where
   shows : (c : ℕ) → s ≡ seen.Depth c → HasShown s
@@ -49,11 +49,11 @@ shown_mark (Some (Depth c)) i h = shows c refl
 shown_row : (b : Bool) (s : Seen) → HasShown s → HasShown (seen_in_row b s)
 shown_row false s h = h
 shown_row true (seen.Open i) (shows c e) = absurd (cc)
-shown_row true (seen.Depth d) (shows c e) = shows (cut (suc d)) refl
+shown_row true (seen.Depth d) (shows c e) = shows (capped_depth (suc d)) refl
 
 -- each target of a part is marked
 shown_target : (text : Declared) (numbers : Name → Option ℕ) (graph : Graph) (marks : List Mark) (x : Name) (t : Target)
-    → IsGraphOf text numbers graph → AllTold graph marks → t ≡ target_of_name numbers x
+    → IsGraphOf text numbers graph → AllMarked graph marks → t ≡ target_of_name numbers x
     → HasShown (seen_of_target marks t)
 shown_target text numbers graph marks x Plain g told e = shows 1 refl
 shown_target text numbers graph marks x Standard g told e = shows 2 refl
@@ -65,17 +65,17 @@ shown_target text numbers graph marks x (Node i) g told e =
     shown_mark (slice_get marks i) i (told.all i (subst (λ n. suc i ≤ n) (sym long) within))
 
 shown_part : (text : Declared) (numbers : Name → Option ℕ) (graph : Graph) (marks : List Mark) (p : Part)
-    → IsGraphOf text numbers graph → AllTold graph marks → HasShown (seen_of marks (link_of numbers p))
+    → IsGraphOf text numbers graph → AllMarked graph marks → HasShown (seen_of marks (link_of numbers p))
 shown_part text numbers graph marks rules_of.elementary g told = shows 1 refl
 shown_part text numbers graph marks (rules_of.named x) g told =
     shown_target text numbers graph marks x (target_of_name numbers x) g told refl
-shown_part text numbers graph marks (rules_of.row (Elementary k at)) g told = shows (cut 2) refl
+shown_part text numbers graph marks (rules_of.row (Elementary k at)) g told = shows (capped_depth 2) refl
 shown_part text numbers graph marks (rules_of.row (Named x)) g told =
     shown_row true (seen_of_target marks (target_of_name numbers x.name))
     (shown_target text numbers graph marks x.name (target_of_name numbers x.name) g told refl)
 
 part_told : (text : Declared) (numbers : Name → Option ℕ) (graph : Graph) (marks : List Mark) (p : Part)
-    → IsGraphOf text numbers graph → AllTold graph marks → IsDeepAs text marks (link_of numbers p) p
+    → IsGraphOf text numbers graph → AllMarked graph marks → IsDeepAs text marks (link_of numbers p) p
 part_told text numbers graph marks p g told = by_shown (shown_part text numbers graph marks p g told)
   where
     by_shown : HasShown (seen_of marks (link_of numbers p)) → IsDeepAs text marks (link_of numbers p) p
@@ -89,12 +89,12 @@ part_told text numbers graph marks p g told = by_shown (shown_part text numbers 
           is_cut = link.is_cut;
         }
 
-deep_cut : (d c : ℕ) → c ≡ cut d → nat_lt MAX_TYPE_DEPTH c ≡ nat_le (MAX_TYPE_DEPTH + 1) d
+deep_cut : (d c : ℕ) → c ≡ capped_depth d → nat_lt MAX_TYPE_DEPTH c ≡ nat_le (MAX_TYPE_DEPTH + 1) d
 deep_cut d c e = grind (arith, nat_tests, e)
 
--- the marks tell what is too deep
+-- the marks say which parts are too deep
 pub deep_told : (text : Declared) (numbers : Name → Option ℕ) (graph : Graph) (marks : List Mark) (p : Part)
-    → IsGraphOf text numbers graph → AllTold graph marks → is_deep marks (link_of numbers p) ≡ is_too_deep text p
+    → IsGraphOf text numbers graph → AllMarked graph marks → is_deep marks (link_of numbers p) ≡ is_too_deep text p
 deep_told text numbers graph marks p g told =
     let here = part_told text numbers graph marks p g told in
     ap is_deep_seen here.sees ∙ deep_cut here.depth here.shown here.is_cut
@@ -105,7 +105,7 @@ not_above d = grind (arith, nat_tests)
 
 -- and that nothing contains itself
 pub none_contains_itself : (text : Declared) (numbers : Name → Option ℕ) (graph : Graph) (marks : List Mark) (x : Name)
-    → IsGraphOf text numbers graph → AllTold graph marks → contains_itself text x ≡ false
+    → IsGraphOf text numbers graph → AllMarked graph marks → contains_itself text x ≡ false
 none_contains_itself text numbers graph marks x g told = by_test (contains_itself text x) refl
   where
     never : true ≡ false → ⊥

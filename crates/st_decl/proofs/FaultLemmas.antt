@@ -1,4 +1,4 @@
--- What a search for faults in parts tells of the whole.
+-- The results of a search for faults in parts are those of the whole.
 use Rattle.std.proofs.Common.{◌≡◌, sym, ap, subst, ◌∙◌, ℕ, List, [], ◌++◌, Option, Some, Result, Ok, Err, append_assoc}
 use Rattle.std.specs.Prelude.{IfOk}
 use Rattle.std.specs.List.{flat_map, Contains}
@@ -7,7 +7,7 @@ use Rattle.std.proofs.lemmas.List.Concat.{flat_map-append}
 use Rattle.st_rules.specs.declared.rule.Broken.{Broken}
 use Rattle.st_rules.specs.Faults.{Finds}
 
--- places that were pushed for two lists, one behind the other
+-- places that were pushed for two lists, one after the other
 pub two_pushed : {A : Type 0} (f : A → List ℕ) (none some all : List ℕ) (xs ys first second : List A) → none ≡ []
     → some ≡ none ++ flat_map f xs → all ≡ some ++ flat_map f ys → xs ≡ first → ys ≡ second
     → all ≡ flat_map f (first ++ second)

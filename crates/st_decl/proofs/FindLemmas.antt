@@ -1,14 +1,15 @@
--- What a search in parts tells of the whole.
+-- The results of a search in parts are those of the whole.
 use Rattle.std.proofs.Common.{◌≡◌, refl, sym, ap, subst, ◌∙◌, ℕ, ◌+◌, ◌<◌, List, [], ◌∷◌, ◌++◌, Option, Some, take}
 use Rattle.std.proofs.Common.{drop}
 use Rattle.std.proofs.Common.{length, slice_index_or, arith}
 use Rattle.std.specs.Prelude.{map, Result, Ok, Err, IfOk}
 use Rattle.std.specs.List.{flat_map, Contains}
-use Rattle.std.proofs.lemmas.List.{map-append, take_more, take-append-drop}
+use Rattle.std.proofs.lemmas.List.{map-append, take_more, take-append-drop, append-nil}
 use Rattle.std.proofs.lemmas.List.Elements.{Contains-append_left, Contains-append_right}
 use Rattle.std.proofs.lemmas.List.Concat.{flat_map-append}
 use Rattle.symbols.specs.Searches.{FindsPlace}
 use Rattle.st_decl.specs.Places.{first}
+use Rattle.st_types.proofs.ListLemmas.{map_take_next}
 
 pub first_finds : (ps : List ℕ) → FindsPlace ps (first ps)
 first_finds [] = refl
@@ -20,28 +21,18 @@ finds_front ps qs p h = Contains-append_left ps qs p h
 pub finds_behind : (ps qs : List ℕ) (o : Option ℕ) → ps ≡ [] → FindsPlace qs o → FindsPlace (ps ++ qs) o
 finds_behind ps qs o h k = subst (λ xs. FindsPlace (xs ++ qs) o) (sym h) k
 
--- one more of a list that is looked through
-more_viewed : {A B : Type 0} (g : A → B) (xs : List A) (i : ℕ) (x : A) → i < length xs → x ≡ slice_index_or xs i x
-    → map g (take (i + 1) xs) ≡ map g (take i xs) ++ g x ∷ []
-more_viewed g xs i x h is =
-    ap (map g) (take_more xs i x h ∙ ap (λ y. take i xs ++ y ∷ []) (sym is)) ∙ map-append g (take i xs) (x ∷ [])
-
-append_none : {X : Type 0} (xs : List X) → xs ++ [] ≡ xs
-append_none [] = refl
-append_none (x ∷ xs) = ap (λ ys. x ∷ ys) (append_none xs)
-
 pub clean_turn : {A B : Type 0} (f : B → List ℕ) (g : A → B) (xs : List A) (i : ℕ) (x : A) → i < length xs
     → x ≡ slice_index_or xs i x → flat_map f (map g (take i xs)) ≡ [] → f (g x) ≡ []
     → flat_map f (map g (take (i + 1) xs)) ≡ []
 clean_turn f g xs i x h is before here =
-    ap (flat_map f) (more_viewed g xs i x h is) ∙ flat_map-append f (map g (take i xs)) (g x ∷ [])
-    ∙ ap (λ ys. ys ++ (f (g x) ++ [])) before ∙ append_none (f (g x)) ∙ here
+    ap (flat_map f) (map_take_next g xs i x h is) ∙ flat_map-append f (map g (take i xs)) (g x ∷ [])
+    ∙ ap (λ ys. ys ++ (f (g x) ++ [])) before ∙ append-nil (f (g x)) ∙ here
 
 pub found_turn : {A B : Type 0} (f : B → List ℕ) (g : A → B) (xs : List A) (i : ℕ) (x : A) (p : ℕ) → i < length xs
     → x ≡ slice_index_or xs i x → Contains (f (g x)) p → Contains (flat_map f (map g xs)) p
 found_turn f g xs i x p h is here =
     let all : map g xs ≡ (map g (take i xs) ++ g x ∷ []) ++ map g (drop (i + 1) xs) =
-    sym (ap (λ ys. ys ++ map g (drop (i + 1) xs)) (sym (more_viewed g xs i x h is))
+    sym (ap (λ ys. ys ++ map g (drop (i + 1) xs)) (sym (map_take_next g xs i x h is))
     ∙ sym (map-append g (take (i + 1) xs) (drop (i + 1) xs)) ∙ ap (map g) (take-append-drop (i + 1) xs)) in
     let now = map g (take i xs) ++ g x ∷ [] in
     let there : Contains (flat_map f now) p =

@@ -1,4 +1,4 @@
--- Lists of statements with and without the loops that they stand in.
+-- Lists of statements with and without the loops that they are in.
 use Rattle.std.proofs.Common.{◌≡◌, refl, sym, ap, ◌∙◌, List, [], ◌∷◌, ◌++◌, map}
 use Rattle.std.specs.Prelude.{Vec, Result, Ok, Err, IfOk}
 use Rattle.std.specs.declared.alloc.Global.{Global}
@@ -78,7 +78,7 @@ pub case_below : (x : code_stmt.Stmt) (selector : code_expr.Expr) (arms : Vec co
 case_below x selector arms otherwise is =
     ap (λ y. all_below (stmt_view y)) is ∙ ap all_below (select_view selector arms otherwise)
 
--- what two pushes leave
+-- the list after two pushes
 pub joined : {A E X : Type 0} (r : Result A E) (start mid all ys zs both : List X) → mid ≡ start ++ ys → both ≡ ys ++ zs
     → IfOk r (λ d. all ≡ mid ++ zs) → IfOk r (λ d. all ≡ start ++ both)
 joined (Ok d) start mid all ys zs both h k more =

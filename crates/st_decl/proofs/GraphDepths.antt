@@ -46,10 +46,10 @@ elementary_depth text graph Plain d plain e = elementary_one text
 elementary_depth text graph Standard d standard e = absurd (cc)
 elementary_depth text graph (Node i) d (node h) e = absurd (cc)
 
-none_plus : (n : ℕ) → 0 + n ≡ n
+pub none_plus : (n : ℕ) → 0 + n ≡ n
 none_plus n = omega arith
 
--- what a name leads to
+-- the target of a name
 pub target_standing : (text : Declared) (numbers : Name → Option ℕ) (graph : Graph) (x : Name)
     → IsGraphOf text numbers graph → (s : Stands (node_names text) (node_parts text) 0 x (parts_named text x))
     → target_of_name numbers x ≡ Node s.place
@@ -96,7 +96,7 @@ standard_depth text numbers graph x g e = by_name (nodes.named text x)
     by_name (nodes.absent none parts) =
         parts_depth_two text x (is_some (block_of x)) (e ∙ target_absent text numbers graph x g none) parts
 
-node_is : {i j : ℕ} → Node i ≡ Node j → i ≡ j
+pub node_is : {i j : ℕ} → Node i ≡ Node j → i ≡ j
 node_is h = search rules
 
 not_node : (b : Bool) (i : ℕ) → Node i ≡ (if b then Standard else Plain) → ⊥

@@ -19,20 +19,18 @@ use Rattle.st_rules.specs.Depths as depths
 use Rattle.st_rules.specs.Depths.{Holds, holds_part, holds_further}
 use Rattle.st_decl.specs.declared.links.Target.TheVariants.{Plain, Standard, Node}
 use Rattle.st_decl.specs.declared.links.Link.{Link}
-use Rattle.st_decl.specs.Graphs.{Graph, links_at, links_or_none, Among, first, later, Leads, Way, one, further, IsCycle}
+use Rattle.st_decl.specs.Graphs.{Graph, links_at, links_or_none, Among, first, later, LinksTo, LinkPath, one, further, IsCycle}
 use Rattle.st_decl.specs.Parts.{node_names, node_parts, target_of_name, link_of}
 use Rattle.st_decl.specs.Numbered.{IsGraphOf}
 use Rattle.st_decl.proofs.NodeLemmas as nodes
-use Rattle.st_decl.proofs.NodeLemmas.{bytes_same, bytes_self}
-use Rattle.st_decl.proofs.GraphDepths.{links_are, target_standing, target_absent}
+use Rattle.st_decl.proofs.GraphDepths.{links_are, target_standing, target_absent, node_is}
+use Rattle.std.proofs.lemmas.Bool.{or_left, or_right}
+use Rattle.st_types.specs.Comparisons.{same_bytes, same_bytes_itself}
 
 -- the name and the parts of a number
 pub record At (text : Declared) (i : ℕ) (x : Name) : Type 0 where
   pub name : slice_get (node_names text) i ≡ Some x
   pub holds : slice_get (node_parts text) i ≡ Some (parts_named text x)
-
-node_is : {i j : ℕ} → Node i ≡ Node j → i ≡ j
-node_is h = search rules
 
 not_node : (b : Bool) (i : ℕ) → (if b then Standard else Plain) ≡ Node i → ⊥
 not_node true i h = cc
@@ -79,13 +77,13 @@ part_of numbers l (p ∷ ps) (later a) =
     record { part = below.part; among = depths.later below.among; is = below.is }
 
 step_of : (text : Declared) (numbers : Name → Option ℕ) (graph : Graph) (from to : ℕ) (ps : List Part)
-    → IsGraphOf text numbers graph → Leads graph from to → links_at graph from ≡ map (link_of numbers) ps
+    → IsGraphOf text numbers graph → LinksTo graph from to → links_at graph from ≡ map (link_of numbers) ps
     → Step text ps to
 step_of text numbers graph from to ps g leads are =
     let p = part_of numbers leads.link ps (subst (Among leads.link) are leads.among) in
     step_of_part text numbers graph p.part ps to g p.among (ap (λ l. l.target) (sym p.is) ∙ leads.target)
 
--- where a link leads from, there is something
+-- the parts of the type or unit that a link leads from
 record Source (text : Declared) (numbers : Name → Option ℕ) (graph : Graph) (from : ℕ) : Type 0 where
   parts : List Part
   are : links_at graph from ≡ map (link_of numbers) parts
@@ -94,7 +92,7 @@ no_links : (l : Link) → Among l [] → ⊥
 no_links l a = elim a [ ]
 
 source_of : (text : Declared) (numbers : Name → Option ℕ) (graph : Graph) (from to : ℕ)
-    → IsGraphOf text numbers graph → Leads graph from to → Source text numbers graph from
+    → IsGraphOf text numbers graph → LinksTo graph from to → Source text numbers graph from
 source_of text numbers graph from to g leads = by_parts (slice_get (node_parts text) from) refl
   where
     by_parts : (o : Option (List Part)) → slice_get (node_parts text) from ≡ o → Source text numbers graph from
@@ -113,24 +111,17 @@ named_step text ps i (direct z a at) = record { name = z; at = at }
 named_step text ps i (by_row z a at) = record { name = z.name; at = at }
 
 way_end : (text : Declared) (numbers : Name → Option ℕ) (graph : Graph) (n from to : ℕ)
-    → IsGraphOf text numbers graph → Way graph n from to → Named_at text to
+    → IsGraphOf text numbers graph → LinkPath graph n from to → Named_at text to
 way_end text numbers graph n from to g (one leads) =
     let s = source_of text numbers graph from to g leads in
     named_step text s.parts to (step_of text numbers graph from to s.parts g leads s.are)
 way_end text numbers graph n from to g (further {n = m} {at = at} leads way) =
     way_end text numbers graph m at to g way
 
-or_true : (b c : Bool) → c ≡ true → (b || c) ≡ true
-or_true true c h = refl
-or_true false c h = h
-
-or_left : (b c : Bool) → b ≡ true → (b || c) ≡ true
-or_left b c h = ap (λ d. d || c) h
-
 any_among : (f : Part → Bool) (p : Part) (ps : List Part) → depths.Among p ps → f p ≡ true → list_any f ps ≡ true
 any_among f p [] a h = elim a [ ]
 any_among f p (q ∷ ps) depths.first h = rw h refl
-any_among f p (q ∷ ps) (depths.later a) h = or_true (f q) (list_any f ps) (any_among f p ps a h)
+any_among f p (q ∷ ps) (depths.later a) h = or_right (f q) (list_any f ps) (any_among f p ps a h)
 
 leads_more : (text : Declared) (n : ℕ) (x : Name) (p : Part)
     → leads_to text (suc n) x p ≡ list_any (λ q. is_part_named x q || leads_to text n x q) (parts_of text p)
@@ -152,7 +143,7 @@ leads_by_part : (text : Declared) (n : ℕ) (x : Name) (p q : Part) → depths.A
     → leads_to text n x q ≡ true → leads_to text (suc n) x p ≡ true
 leads_by_part text n x p q a h = leads_more text n x p
     ∙ any_among (λ r. is_part_named x r || leads_to text n x r) q (parts_of text p) a
-    (or_true (is_part_named x q) (leads_to text n x q) h)
+    (or_right (is_part_named x q) (leads_to text n x q) h)
 
 record Found (f : Part → Bool) (ps : List Part) : Type 0 where
   part : Part
@@ -173,12 +164,12 @@ any_found f (p ∷ ps) h = by_test (f p) refl h (λ e. any_found f ps e)
 named_is : (x : Name) (q : Part) → is_part_named x q ≡ true → q ≡ rules_of.named x
 named_is x rules_of.elementary h = absurd (cc)
 named_is x (rules_of.row t) h = absurd (cc)
-named_is x (rules_of.named y) h = ap rules_of.named (sym (bytes_same x y h))
+named_is x (rules_of.named y) h = ap rules_of.named (sym (same_bytes x y h))
 
 or_either : (b c : Bool) → b ≡ false → (b || c) ≡ true → c ≡ true
 or_either b c e h = sym (ap (λ d. d || c) e) ∙ h
 
--- what leads to a name holds it
+-- a part that leads to a name holds it
 pub leads_holds : (text : Declared) (n : ℕ) (x : Name) (p : Part) → leads_to text n x p ≡ true
     → Holds text p (rules_of.named x)
 leads_holds text zero x p h = absurd (never (sym (leads_none text x p) ∙ h))
@@ -248,7 +239,7 @@ row_leads text n x z h =
 row_is : (text : Declared) (n : ℕ) (x : Name) (z : Identifier) → x ≡ z.name
     → leads_to text (suc n) x (rules_of.row (Named z)) ≡ true
 row_is text n x z e = leads_by_name text n x (rules_of.row (Named z)) (rules_of.named z.name) depths.first
-    (ap (bytes_eq x) (sym e) ∙ bytes_self x)
+    (ap (bytes_eq x) (sym e) ∙ same_bytes_itself x)
 
 same_at : (text : Declared) (i : ℕ) (x z : Name) → slice_get (node_names text) i ≡ Some x → At text i z → x ≡ z
 same_at text i x z at there = some_is (sym at ∙ there.name)
@@ -262,7 +253,7 @@ double m = omega arith
 last_step : (text : Declared) (to : ℕ) (x : Name) (p : Part) → slice_get (node_names text) to ≡ Some x
     → Step text (parts_of text p) to → leads_to text (1 + 1) x p ≡ true
 last_step text to x p at (direct z a there) = leads_by_name text 1 x p (rules_of.named z) a
-    (ap (bytes_eq x) (sym (same_at text to x z at there)) ∙ bytes_self x)
+    (ap (bytes_eq x) (sym (same_at text to x z at there)) ∙ same_bytes_itself x)
 last_step text to x p at (by_row z a there) = leads_by_part text 1 x p (rules_of.row (Named z)) a
     (row_is text 0 x z (same_at text to x z.name at there))
 
@@ -276,7 +267,7 @@ more_step text n to x p rest (by_row z a there) = subst (λ m. leads_to text m x
     (row_leads text (n + n) x z (rest z.name there)))
 
 way_leads : (text : Declared) (numbers : Name → Option ℕ) (graph : Graph) (n from to : ℕ) (x : Name) (p : Part)
-    → IsGraphOf text numbers graph → Way graph n from to → slice_get (node_names text) to ≡ Some x
+    → IsGraphOf text numbers graph → LinkPath graph n from to → slice_get (node_names text) to ≡ Some x
     → links_at graph from ≡ map (link_of numbers) (parts_of text p) → leads_to text (n + n) x p ≡ true
 way_leads text numbers graph n from to x p g (one leads) at are =
     last_step text to x p at (step_of text numbers graph from to (parts_of text p) g leads are)
@@ -286,7 +277,7 @@ way_leads text numbers graph n from to x p g (further {n = m} {at = via} leads w
     (links_are text numbers graph via (parts_named text z) g there.holds))
     (step_of text numbers graph from via (parts_of text p) g leads are)
 
--- what is on a cycle contains itself
+-- a type or unit on a cycle contains itself
 pub record Cycles (text : Declared) (i : ℕ) : Type 0 where
   pub name : Name
   pub at : slice_get (node_names text) i ≡ Some name

@@ -1,4 +1,4 @@
--- What the depths of the code's graph say of C6.
+-- The rule C6 by the depths of the code's graph.
 use Rattle.std.proofs.Common.{◌≡◌, sym, ap, subst, ◌∙◌, ℕ, List, ◌++◌, Option, Some, None}
 use Rattle.std.specs.Prelude.{slice_get, Result, Ok, Err, IfOk}
 use Rattle.std.specs.List.{flat_map}
@@ -14,7 +14,7 @@ use Rattle.st_rules.specs.Containment.{too_deep, too_deep_types, too_deep_units,
 use Rattle.symbols.specs.Searches.{FindsPlace}
 use Rattle.st_decl.specs.declared.depths.Mark.{Mark}
 use Rattle.st_decl.specs.Graphs.{Graph, IsCycle}
-use Rattle.st_decl.specs.Walks.{AllTold}
+use Rattle.st_decl.specs.Walks.{AllMarked}
 use Rattle.st_decl.specs.Numbered.{IsGraphOf, node_places, AreJudged}
 use Rattle.st_decl.specs.Places.{first}
 use Rattle.st_decl.proofs.FindLemmas.{first_finds}
@@ -23,7 +23,7 @@ use Rattle.st_decl.proofs.DeepLemmas.{deep_told, none_contains_itself}
 use Rattle.st_decl.proofs.PlaceLemmas.{cycle_place, cycle_has_place}
 
 pub judged : (text : Declared) (numbers : Name → Option ℕ) (graph : Graph) (marks : List Mark)
-    → IsGraphOf text numbers graph → AllTold graph marks → AreJudged text numbers marks
+    → IsGraphOf text numbers graph → AllMarked graph marks → AreJudged text numbers marks
 judged text numbers graph marks g told = record {
   deep = λ p. deep_told text numbers graph marks p g told;
   clean = λ x. none_contains_itself text numbers graph marks x g told;

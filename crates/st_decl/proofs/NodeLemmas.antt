@@ -1,4 +1,4 @@
--- What the number of a name stands for.
+-- The type or unit of a name's number.
 use Rattle.std.proofs.Common.{◌≡◌, refl, sym, ap, subst, ◌∙◌, ℕ, suc, ◌+◌, List, [], ◌∷◌, ◌++◌, map}
 use Rattle.std.proofs.Common.{Option, Some, None, Bool, true, false, arith, rules}
 use Rattle.std.specs.Prelude.{slice_get, bytes_eq, if◌then◌else◌}
@@ -10,20 +10,13 @@ use Rattle.st_meaning.specs.Scopes.{Name}
 use Rattle.st_meaning.specs.NameTypes.{Declared, type_named, unit_named}
 use Rattle.st_rules.specs.Containment.{Part, parts_of_definition, parts_of_unit, parts_of_standard, parts_named}
 use Rattle.st_decl.specs.Parts.{node_names, node_parts, number_in, number_of_name}
-
-same_bytes : (r : Bool) (xs ys : List ℕ) → Decides r (xs ≡ ys) → r ≡ true → xs ≡ ys
-same_bytes r xs ys d h = grind (arith, d)
-
-pub bytes_same : (xs ys : List ℕ) → bytes_eq xs ys ≡ true → xs ≡ ys
-bytes_same xs ys h = same_bytes (bytes_eq xs ys) xs ys (bytes_eq-Decides xs ys) h
+use Rattle.symbols.proofs.Entries.{same_bytes}
+use Rattle.st_types.specs.Comparisons.{same_bytes as bytes_same}
 
 same_self : (r : Bool) (xs : List ℕ) → Decides r (xs ≡ xs) → r ≡ true
 same_self r xs d = d.1 refl
 
-pub bytes_self : (xs : List ℕ) → bytes_eq xs xs ≡ true
-bytes_self xs = same_self (bytes_eq xs xs) xs (bytes_eq-Decides xs xs)
-
--- a name stands in a list, with these parts
+-- a name is in a list, with these parts
 pub record Stands (names : List Name) (parts : List (List Part)) (n : ℕ) (x : Name) (ps : List Part) : Type 0 where
   pub place : ℕ
   pub number : number_in names n x ≡ Some (n + place)
@@ -54,7 +47,7 @@ stands_later names parts n x y ps qs h s = record {
     plus_suc : (a b : ℕ) → suc a + b ≡ a + suc b
     plus_suc a b = omega arith
 
--- the types stand first
+-- the types are first
 type_stands : (ts : List TypeDeclaration) (names : List Name) (parts : List (List Part)) (n : ℕ) (x : Name)
     (d : TypeDefinition) → type_named ts x ≡ Some d
     → Stands (map (λ t. t.name.name) ts ++ names) (map (λ t. parts_of_definition t.definition) ts ++ parts) n x
@@ -107,7 +100,7 @@ unit_stands text (v ∷ us) n x u h =
         (parts_of_unit text u) (parts_of_unit text v) e
         (rest (sym (ap (λ b. if b then Some v else unit_named us x) e) ∙ h))
 
--- what is no type stands behind them
+-- the units come after them
 behind_types : (ts : List TypeDeclaration) (names : List Name) (parts : List (List Part)) (n : ℕ) (x : Name)
     (ps : List Part) → type_named ts x ≡ None → ((k : ℕ) → Stands names parts k x ps)
     → Stands (map (λ t. t.name.name) ts ++ names) (map (λ t. parts_of_definition t.definition) ts ++ parts) n x ps
@@ -160,7 +153,7 @@ no_unit (v ∷ us) n x h = by_test (bytes_eq x v.name.name) refl (λ e. no_unit 
     by_test false e rest = ap (λ b. if b then Some n else number_in (map (λ u. u.name.name) us) (suc n) x) e
         ∙ rest (sym (ap (λ b. if b then Some v else unit_named us x) e) ∙ h)
 
--- what a name stands for: a type or unit by its number, or nothing of the text
+-- the target of a name: a type or unit by its number, or nothing of the text
 pub data Named (text : Declared) (x : Name) : Type 0 where
   standing : Stands (node_names text) (node_parts text) 0 x (parts_named text x) → Named text x
   absent : number_of_name text x ≡ None → parts_named text x ≡ parts_of_standard x → Named text x

@@ -5,24 +5,12 @@ use Rattle.std.specs.Prelude.{slice_get}
 use Rattle.std.specs.List.{sum_by}
 use Rattle.std.proofs.lemmas.Option.{get_or_from_slice_get, slice_get_within}
 use Rattle.std.proofs.lemmas.List.Sums.{sum_by-set, sum_by-cons}
-
-pub get_end : {A : Type 0} (xs : List A) (x : A) → slice_get (xs ++ x ∷ []) (length xs) ≡ Some x
-get_end [] x = refl
-get_end (y ∷ xs) x = get_end xs x
-
-pub get_front : {A : Type 0} (xs ys : List A) (k : ℕ) (x : A) → slice_get xs k ≡ Some x
-    → slice_get (xs ++ ys) k ≡ Some x
-get_front [] ys k x h = absurd (cc)
-get_front (y ∷ xs) ys zero x h = h
-get_front (y ∷ xs) ys (suc k) x h = get_front xs ys k x h
+use Rattle.st_types.proofs.OptionLemmas.{some_is}
 
 -- an element of a list with one more is one of the list, or that one
 pub data Split {A : Type 0} (xs : List A) (x y : A) (k : ℕ) : Type 0 where
   in_front : slice_get xs k ≡ Some y → Split xs x y k
   at_end : k ≡ length xs → x ≡ y → Split xs x y k
-
-some_is : {A : Type 0} {x y : A} → Some x ≡ Some y → x ≡ y
-some_is h = search rules
 
 pub get_split : {A : Type 0} (xs : List A) (x y : A) (k : ℕ) → slice_get (xs ++ x ∷ []) k ≡ Some y → Split xs x y k
 get_split [] x y zero h = at_end refl (some_is h)
@@ -52,7 +40,7 @@ set_length [] i y = refl
 set_length (z ∷ xs) zero y = refl
 set_length (z ∷ xs) (suc i) y = ap suc (set_length xs i y)
 
--- an element of a changed list is the new one, or one that stood there
+-- an element of a changed list is the new one, or one of the old list
 pub data Changed {A : Type 0} (xs : List A) (i k : ℕ) (new x : A) : Type 0 where
   changed : i ≡ k → new ≡ x → Changed xs i k new x
   kept : i ≢ k → slice_get xs k ≡ Some x → Changed xs i k new x

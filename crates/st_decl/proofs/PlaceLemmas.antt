@@ -1,4 +1,4 @@
--- Where what contains itself is declared.
+-- The places of types and units that contain themselves.
 use Rattle.std.proofs.Common.{◌≡◌, refl, sym, ap, subst, ◌∙◌, ℕ, zero, suc, ◌+◌, ◌*◌, List, [], ◌∷◌, ◌++◌, map, length}
 use Rattle.std.proofs.lemmas.List.{append_assoc}
 use Rattle.std.proofs.Common.{Some, None, Bool, true, arith, rules}
@@ -27,7 +27,7 @@ place_is h = search rules
 only : (p : ℕ) → Contains (p ∷ []) p
 only p = (0, omega arith, refl)
 
--- an element with a name is told at its place
+-- an element with a name is reported at its place
 told_in : {A : Type 0} (f : A → List ℕ) (name : A → Name) (place : A → ℕ) (xs : List A) (i : ℕ) (x : Name) (p : ℕ)
     → slice_get (map name xs) i ≡ Some x → slice_get (map place xs) i ≡ Some p
     → ((a : A) → name a ≡ x → f a ≡ place a ∷ []) → Contains (flat_map f xs) p
@@ -66,7 +66,7 @@ wrong_unit text (Function t) x h = deep_name text x h
 wrong_unit text FunctionBlock x h = deep_name text x h
 wrong_unit text Program x h = h
 
--- what contains itself is told at its place
+-- a type or unit that contains itself is reported at its place
 pub cycle_place : (text : Declared) (i p : ℕ) → Cycles text i → slice_get (node_places text) i ≡ Some p
     → Contains (too_deep_types text ++ too_deep_units text) p
 cycle_place text i p cycle at = told_in_both

@@ -1,4 +1,4 @@
--- What is found is there, however it is seen.
+-- A value that is found is there, in each view of it.
 use Rattle.std.proofs.Common.{◌≡◌, refl, Option, Some, None}
 use Rattle.std.specs.Prelude.{option_map, is_some}
 

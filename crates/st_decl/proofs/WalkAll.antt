@@ -9,7 +9,7 @@ use Rattle.st_decl.specs.declared.depths.Mark.{Mark}
 use Rattle.st_decl.specs.declared.depths.Mark.TheVariants.{Unseen, OnPath, Depth}
 use Rattle.st_decl.specs.declared.depths.Visit.{Visit}
 use Rattle.st_decl.specs.Graphs.{Graph}
-use Rattle.st_decl.specs.Walks.{Walking, has_depth, is_unseen, Ended, Walked, AllTold, on_path}
+use Rattle.st_decl.specs.Walks.{Walking, has_depth, is_unseen, Ended, Walked, AllMarked, on_path}
 
 -- an element of a list of one value
 repeated : (count i : ℕ) (m : Mark) → slice_get (replicate count Unseen) i ≡ Some m → m ≡ Unseen
@@ -54,7 +54,7 @@ walked_none graph marks is = subst (λ ms. Walked graph ms 0) (sym is) (record {
   each = λ i h. absurd (omega (arith, h));
 })
 
--- one that has its depth, since nothing stands on a path
+-- one that has its depth, since nothing is on a path
 pub has_its_depth : (graph : Graph) (marks : List Mark) (start : ℕ) → Walking graph marks [] → start < length marks
     → is_unseen (slice_get marks start) ≡ false → Ended graph marks marks start
 has_its_depth graph marks start w within seen = record {
@@ -103,7 +103,7 @@ walked_more graph old new start before ended = record {
     by_place i h = by_order i h (cases_eq i start)
 
 pub walked_all : (graph : Graph) (marks : List Mark) (count : ℕ) → Walked graph marks count → count ≡ length graph
-    → AllTold graph marks
+    → AllMarked graph marks
 walked_all graph marks count walked all = record {
   told = walked.walking.told;
   all = λ i h. walked.each i (omega (arith, h, all));

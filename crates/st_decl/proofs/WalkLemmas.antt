@@ -1,4 +1,4 @@
--- What a walk over types and units knows, step by step.
+-- The invariant of a walk over types and units, step by step.
 use Rattle.std.proofs.Common.{◌≡◌, refl, sym, ap, subst, ◌∙◌, ℕ, zero, suc, ◌+◌, ◌<◌, ◌≤◌, List, [], ◌∷◌, ◌++◌, take}
 use Rattle.std.proofs.Common.{length}
 use Rattle.std.proofs.Common.{Option, Some, None, Bool, true, false, arith, rules, slice_index_or}
@@ -15,14 +15,15 @@ use Rattle.st_decl.specs.declared.depths.Seen.TheVariants as seen
 use Rattle.st_decl.specs.Graphs.{Graph, links_at, links_or_none, TargetDepth, plain, standard, node, LinkDepth}
 use Rattle.st_decl.specs.Graphs.{straight, row}
 use Rattle.st_decl.specs.Graphs.{Deepest, nothing, deepest, Among, first, later}
-use Rattle.st_decl.specs.Walks.{cut, deeper, seen_of_mark, seen_of_target, seen_in_row, seen_of, IsCutDeepest}
-use Rattle.st_decl.specs.Walks.{MarksTell}
+use Rattle.st_decl.specs.Walks.{capped_depth, deeper, seen_of_mark, seen_of_target, seen_in_row, seen_of, IsCappedDepth}
+use Rattle.st_decl.specs.Walks.{MarksHold}
 use Rattle.st_decl.specs.Walks.{IsOpen}
+use Rattle.st_types.proofs.ListLemmas.{none_from}
 
-cut_suc : (d : ℕ) → cut (suc (cut d)) ≡ cut (suc d)
+cut_suc : (d : ℕ) → capped_depth (suc (capped_depth d)) ≡ capped_depth (suc d)
 cut_suc d = omega arith
 
-cut_max : (a b : ℕ) → max (cut a) (cut b) ≡ cut (max a b)
+cut_max : (a b : ℕ) → max (capped_depth a) (capped_depth b) ≡ capped_depth (max a b)
 cut_max a b = omega arith
 
 max_assoc : (a b c : ℕ) → max a (max b c) ≡ max (max a b) c
@@ -42,31 +43,24 @@ deepest_push {d = d} l (deepest {l = l'} {ls = ls} {d = e} {m = m} here rest) ha
 pub record IsCutLink (graph : Graph) (l : Link) (c : ℕ) : Type 0 where
   pub depth : ℕ
   pub has : LinkDepth graph l depth
-  pub is_cut : c ≡ cut depth
+  pub is_cut : c ≡ capped_depth depth
 
 record IsCutTarget (graph : Graph) (t : Target) (c : ℕ) : Type 0 where
   depth : ℕ
   has : TargetDepth graph t depth
-  is_cut : c ≡ cut depth
+  is_cut : c ≡ capped_depth depth
 
 depth_is : {a b : ℕ} → seen.Depth a ≡ seen.Depth b → a ≡ b
 depth_is h = search rules
 
-slice_get_none : {A : Type 0} (xs : List A) (i : ℕ) → slice_get xs i ≡ None → length xs ≤ i
-slice_get_none [] i h = omega arith
-slice_get_none (x ∷ xs) zero h = absurd (cc)
-slice_get_none (x ∷ xs) (suc i) h =
-    let rest = slice_get_none xs i h in
-    omega arith
-
-missing : (graph : Graph) (marks : List Mark) (i : ℕ) → MarksTell graph marks → slice_get marks i ≡ None
+missing : (graph : Graph) (marks : List Mark) (i : ℕ) → MarksHold graph marks → slice_get marks i ≡ None
     → links_at graph i ≡ []
-missing graph marks i told none = ap links_or_none (slice_get_past graph i (past (slice_get_none marks i none)))
+missing graph marks i told none = ap links_or_none (slice_get_past graph i (past (none_from marks i none)))
   where
     past : length marks ≤ i → length graph ≤ i
     past h = subst (λ n. n ≤ i) told.length h
 
-target_told : (graph : Graph) (marks : List Mark) (t : Target) (c : ℕ) → MarksTell graph marks
+target_told : (graph : Graph) (marks : List Mark) (t : Target) (c : ℕ) → MarksHold graph marks
     → seen_of_target marks t ≡ seen.Depth c → IsCutTarget graph t c
 target_told graph marks Plain c told is = record { depth = 1; has = plain; is_cut = sym (depth_is is) }
 target_told graph marks Standard c told is = record { depth = 2; has = standard; is_cut = sym (depth_is is) }
@@ -90,7 +84,7 @@ target_told graph marks (Node i) c told is = node_told (slice_get marks i) refl 
               ∙ cut_suc tells.deepest.depth;
         }
 
-pub link_told : (graph : Graph) (marks : List Mark) (l : Link) (c : ℕ) → MarksTell graph marks
+pub link_told : (graph : Graph) (marks : List Mark) (l : Link) (c : ℕ) → MarksHold graph marks
     → seen_of marks l ≡ seen.Depth c → IsCutLink graph l c
 link_told graph marks l c told is = by_row l.is_row l.target refl is
   where
@@ -118,8 +112,8 @@ link_told graph marks l c told is = by_row l.is_row l.target refl is
         subst (λ k. IsCutLink graph k c) (sym at) (lifted t (seen_of_target marks t) refl sees)
 
 pub look_turn : (graph : Graph) (marks : List Mark) (links : List Link) (i : ℕ) (d : Link) (c below : ℕ)
-    → MarksTell graph marks → i < length links → seen_of marks (slice_index_or links i d) ≡ seen.Depth c
-    → IsCutDeepest graph (take i links) below → IsCutDeepest graph (take (i + 1) links) (max below c)
+    → MarksHold graph marks → i < length links → seen_of marks (slice_index_or links i d) ≡ seen.Depth c
+    → IsCappedDepth graph (take i links) below → IsCappedDepth graph (take (i + 1) links) (max below c)
 look_turn graph marks links i d c below told within sees before =
     let l = slice_index_or links i d in
     let has = link_told graph marks l c told sees in
@@ -127,7 +121,7 @@ look_turn graph marks links i d c below told within sees before =
       depth = max before.depth has.depth;
       deepest = subst (λ ls. Deepest graph ls (max before.depth has.depth)) (sym (take_more links i d within))
           (deepest_push l before.deepest has.has);
-      is_cut = ap (λ a. max a c) before.is_cut ∙ ap (max (cut before.depth)) has.is_cut
+      is_cut = ap (λ a. max a c) before.is_cut ∙ ap (max (capped_depth before.depth)) has.is_cut
           ∙ cut_max before.depth has.depth;
     }
 
@@ -139,7 +133,7 @@ among_at (l ∷ ls) (suc i) d h = later (among_at ls i d (omega arith))
 node_is : {a b : ℕ} → seen.Open a ≡ seen.Open b → a ≡ b
 node_is h = search rules
 
--- what is not known is a type or unit
+-- a type or unit without a known depth is seen as itself
 open_mark : (m : Option Mark) (i n : ℕ) → seen_of_mark m i ≡ seen.Open n → i ≡ n
 open_mark None i n h = absurd (cc)
 open_mark (Some (Depth d)) i n h = absurd (cc)

@@ -8,12 +8,13 @@ use Rattle.st_decl.specs.declared.depths.Mark.{Mark}
 use Rattle.st_decl.specs.declared.depths.Mark.TheVariants.{Unseen, OnPath, Depth}
 use Rattle.st_decl.specs.declared.depths.Visit.{Visit}
 use Rattle.st_decl.specs.declared.depths.Seen.TheVariants as seen
-use Rattle.st_decl.specs.Graphs.{Graph, links_at, Leads, IsCycle}
-use Rattle.st_decl.specs.Walks.{deeper, seen_of_mark, IsCutDeepest, HasLooked, IsOpen, Walking, Stay, is_seen}
+use Rattle.st_decl.specs.Graphs.{Graph, links_at, LinksTo, IsCycle}
+use Rattle.st_decl.specs.Walks.{deeper, seen_of_mark, IsCappedDepth, HasLooked, IsOpen, Walking, Stay, is_seen}
 use Rattle.st_decl.specs.Walks.{has_depth}
 use Rattle.st_decl.specs.Walks.{is_on_path, Underway, Ended, left_of}
-use Rattle.st_decl.proofs.PathLemmas.{get_end, Split, in_front, at_end, get_split, set_other, sum_changed}
+use Rattle.st_decl.proofs.PathLemmas.{Split, in_front, at_end, get_split, set_other, sum_changed}
 use Rattle.st_decl.proofs.WalkSteps.{fresh, looked_further, LastLeads, entered, left, comes_back}
+use Rattle.st_types.proofs.ListLemmas.{get_last}
 
 take_all : {A : Type 0} (xs : List A) → take (length xs) xs ≡ xs
 take_all [] = refl
@@ -27,7 +28,7 @@ seen_set (m ∷ ms) zero (suc k) new is h = h
 seen_set (m ∷ ms) (suc i) zero new is h = h
 seen_set (m ∷ ms) (suc i) (suc k) new is h = seen_set ms i k new is h
 
--- what had no depth is changed alone
+-- only an element without a depth is changed
 stay_set : (old marks : List Mark) (i : ℕ) (new m : Mark) → Stay old marks → slice_get marks i ≡ Some m
     → ((c : ℕ) → m ≢ Depth c) → Stay old (set marks i new)
 stay_set old marks i new m stay at other = λ k c h.
@@ -40,14 +41,14 @@ top : {graph : Graph} {old marks : List Mark} {path : List Visit} {start : ℕ} 
     → Underway graph old marks path start → path ≡ init ++ v ∷ [] → Walking graph marks (init ++ v ∷ [])
 top {graph = graph} {marks = marks} init v u is = subst (Walking graph marks) is u.walking
 
--- what the top of the path was looked at
+-- the looks at the links of the path's top
 pub top_looked : {graph : Graph} {old marks : List Mark} {path : List Visit} {start : ℕ} (init : List Visit) (v : Visit)
     → Underway graph old marks path start → path ≡ init ++ v ∷ [] → HasLooked graph (links_at graph v.node) v
-top_looked init v u is = (top init v u is).looked (length init) v (get_end init v)
+top_looked init v u is = (top init v u is).looked (length init) v (get_last init v)
 
 top_marked : {graph : Graph} {old marks : List Mark} {path : List Visit} {start : ℕ} (init : List Visit) (v : Visit)
     → Underway graph old marks path start → path ≡ init ++ v ∷ [] → slice_get marks v.node ≡ Some (OnPath (length init))
-top_marked init v u is = (top init v u is).marked (length init) v (get_end init v)
+top_marked init v u is = (top init v u is).marked (length init) v (get_last init v)
 
 pub top_within : {graph : Graph} {old marks : List Mark} {path : List Visit} {start : ℕ} (init : List Visit)
     (v new : Visit) → Underway graph old marks path start → path ≡ init ++ v ∷ [] → new.node ≡ v.node
@@ -98,7 +99,7 @@ close_turn {graph = graph} {old = old} {marks = marks} {start = start} init v ne
     subst (λ n. Underway graph old (set marks n (Depth c)) init start) (sym same) (record {
       walking = left graph marks init v c (top init v u is) (record {
         below = new.deepest;
-        deepest = subst (λ ls. IsCutDeepest graph ls new.deepest)
+        deepest = subst (λ ls. IsCappedDepth graph ls new.deepest)
             (ap (λ n. take n (links_at graph v.node)) all ∙ take_all (links_at graph v.node)) looked.deepest;
         is_above = right;
       });
@@ -116,12 +117,12 @@ close_smaller {marks = marks} init v new c u is same =
     let less = sum_changed left_of marks new.node (OnPath (length init)) (Depth c) at in
     omega (arith, less)
 
--- what the top leads to
+-- the target of the top
 leads_on : (graph : Graph) (marks : List Mark) (v : Visit) (n : ℕ) → IsOpen marks (links_at graph v.node) n
-    → Leads graph v.node n
+    → LinksTo graph v.node n
 leads_on graph marks v n is_open = record { link = is_open.link; among = is_open.among; target = is_open.target }
 
-last_leads : (graph : Graph) (init : List Visit) (new : Visit) (n : ℕ) → Leads graph new.node n
+last_leads : (graph : Graph) (init : List Visit) (new : Visit) (n : ℕ) → LinksTo graph new.node n
     → LastLeads graph (init ++ new ∷ []) n
 last_leads graph init new n leads k v at ends = by_split (get_split init new v k at)
   where
@@ -129,12 +130,12 @@ last_leads graph init new n leads k v at ends = by_split (get_split init new v k
     longer [] = refl
     longer (x ∷ xs) = ap suc (longer xs)
 
-    by_split : Split init new v k → Leads graph v.node n
+    by_split : Split init new v k → LinksTo graph v.node n
     by_split (in_front there) =
         let within = slice_get_within init k v there in
         let one_more = longer init in
         absurd (omega (arith, within, one_more, ends))
-    by_split (at_end there is) = subst (λ x. Leads graph x.node n) is leads
+    by_split (at_end there is) = subst (λ x. LinksTo graph x.node n) is leads
 
 open_not_standing : (m : Option Mark) (n : ℕ) → seen_of_mark m n ≡ seen.Open n → is_on_path m ≡ false
     → m ≡ Some Unseen
@@ -157,7 +158,7 @@ pub open_unseen : (graph : Graph) (marks : List Mark) (v : Visit) (n : ℕ) → 
     → is_on_path (slice_get marks n) ≡ false → slice_get marks n ≡ Some Unseen
 open_unseen graph marks v n is_open h = open_not_standing (slice_get marks n) n is_open.unknown h
 
--- the top leads to what was not seen yet
+-- the top leads to a type or unit that was not seen yet
 pub push_turn : {graph : Graph} {old marks : List Mark} {path : List Visit} {start : ℕ} (init : List Visit)
     (v new : Visit) (n : ℕ) (then : List Mark) (pushed next : List Visit) → Underway graph old marks path start
     → path ≡ init ++ v ∷ [] → new.node ≡ v.node → HasLooked graph (links_at graph v.node) new
@@ -167,7 +168,7 @@ pub push_turn : {graph : Graph} {old marks : List Mark} {path : List Visit} {sta
 push_turn {graph = graph} {old = old} {marks = marks} {start = start} init v new n then pushed next u is same looked
     is_open unseen puts marked stands =
     let further = looked_further graph marks init v new (top init v u is) same looked in
-    let leads = subst (λ i. Leads graph i n) (sym same) (leads_on graph marks v n is_open) in
+    let leads = subst (λ i. LinksTo graph i n) (sym same) (leads_on graph marks v n is_open) in
     let last = last_leads graph init new n leads in
     let walking = entered graph marks pushed n (subst (Walking graph marks) (sym puts) further)
     (subst (λ p. LastLeads graph p n) (sym puts) last) unseen in
@@ -194,7 +195,7 @@ pub cycle_turn : {graph : Graph} {old marks : List Mark} {path : List Visit} {st
     → is_on_path (slice_get marks n) ≡ true → IsCycle graph n
 cycle_turn {graph = graph} {marks = marks} init v new n u is same looked is_open stands =
     let further = looked_further graph marks init v new (top init v u is) same looked in
-    let leads = subst (λ i. Leads graph i n) (sym same) (leads_on graph marks v n is_open) in
+    let leads = subst (λ i. LinksTo graph i n) (sym same) (leads_on graph marks v n is_open) in
     let at = standing_at (slice_get marks n) stands in
     comes_back graph marks (init ++ new ∷ []) n at.position further (last_leads graph init new n leads) at.is
 

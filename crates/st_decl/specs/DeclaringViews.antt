@@ -1,4 +1,4 @@
--- The mirrors that declarations of the code stand for.
+-- The mirrors of the code's declarations.
 use Rattle.std.specs.Prelude.{option_map}
 use Rattle.st_types.specs.InitialViews.{initial_view}
 use Rattle.st_rules.specs.DeclaredTypes.{Role, field, variable_of, global, Declaring}

@@ -1,4 +1,4 @@
--- All statements of a body, without the loops that they stand in.
+-- All statements of a body, without the loops that they are in.
 use Rattle.std.specs.Prelude.{List, [], ◌∷◌, ◌++◌}
 use Rattle.st_types.specs.Statements.{Stmt, IF, CASE, FOR, WHILE, REPEAT, Stmts, no_stmts, stmt_then, Arms, no_arms}
 use Rattle.st_types.specs.Statements.{arm_then, CaseArms, no_case_arms, case_arm_then}

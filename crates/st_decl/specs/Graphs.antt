@@ -1,4 +1,4 @@
--- Types and units with what they lead to, as numbers: depths and ways.
+-- Types and units with their links, as numbers: depths and ways.
 use Rattle.std.specs.Prelude.{◌≡◌, ℕ, suc, ◌≤◌, max, length, List, [], ◌∷◌, Option, Some, None, slice_get, true, false}
 use Rattle.st_decl.specs.declared.links.Target.{Target}
 use Rattle.st_decl.specs.declared.links.Target.TheVariants.{Plain, Standard, Node}
@@ -37,18 +37,18 @@ pub data Among : Link → List Link → Type 0 where
   later : {l m : Link} {ls : List Link} → Among l ls → Among l (m ∷ ls)
 
 -- a link leads from the one to the other
-pub record Leads (graph : Graph) (from to : ℕ) : Type 0 where
+pub record LinksTo (graph : Graph) (from to : ℕ) : Type 0 where
   pub link : Link
   pub among : Among link (links_at graph from)
   pub target : link.target ≡ Node to
 
--- so many links lead from the one to the other
-pub data Way (graph : Graph) : ℕ → ℕ → ℕ → Type 0 where
-  one : {from to : ℕ} → Leads graph from to → Way graph 1 from to
-  further : {n from at to : ℕ} → Leads graph from at → Way graph n at to → Way graph (suc n) from to
+-- this number of links lead from the one to the other
+pub data LinkPath (graph : Graph) : ℕ → ℕ → ℕ → Type 0 where
+  one : {from to : ℕ} → LinksTo graph from to → LinkPath graph 1 from to
+  further : {n from at to : ℕ} → LinksTo graph from at → LinkPath graph n at to → LinkPath graph (suc n) from to
 
 -- a type or unit that is a part of itself, by a way of no more links than there are types and units
 pub record IsCycle (graph : Graph) (i : ℕ) : Type 0 where
   pub links : ℕ
   pub short : links ≤ length graph
-  pub way : Way graph links i i
+  pub way : LinkPath graph links i i

@@ -17,7 +17,7 @@ pub record IsGraphOf (text : Declared) (numbers : Name → Option ℕ) (graph : 
 abbrev pub node_places : Declared → List ℕ
 node_places text = map (λ t. t.name.place) text.types ++ map (λ u. u.name.place) text.units
 
--- what is too deep is told of each part, and nothing contains itself
+-- the marks say for each part whether it is too deep, and nothing contains itself
 pub record AreJudged (text : Declared) (numbers : Name → Option ℕ) (marks : List Mark) : Type 0 where
   pub deep : (p : Part) → is_deep marks (link_of numbers p) ≡ is_too_deep text p
   pub clean : (x : Name) → contains_itself text x ≡ false

@@ -1,4 +1,4 @@
--- The parts of units and types, as numbers of what a text declares.
+-- The parts of units and types, as numbers of a text's declarations.
 use Rattle.std.specs.Prelude.{ℕ, suc, List, [], ◌∷◌, ◌++◌, map, Option, Some, None, is_some, if◌then◌else◌, bytes_eq}
 use Rattle.std.specs.Prelude.{true, false}
 use Rattle.st_types.specs.declared.data_type.SimpleType.{SimpleType}
@@ -14,20 +14,20 @@ use Rattle.st_decl.specs.declared.links.Target.{Target}
 use Rattle.st_decl.specs.declared.links.Target.TheVariants.{Plain, Standard, Node}
 use Rattle.st_decl.specs.declared.links.Link.{Link}
 
--- the part that one of the code stands for
+-- the mirror of a part of the code
 abbrev pub part_view : code_part.Part → Part
 part_view code.Elementary = rules.elementary
 part_view (code.Named x) = rules.named x.now
 part_view (code.Row t) = rules.row t.now
 
--- the names of types and units, types first, and their parts: what a number of one stands for
+-- the names of types and units, types first, and their parts: the number of each is its place there
 abbrev pub node_names : Declared → List Name
 node_names text = map (λ t. t.name.name) text.types ++ map (λ u. u.name.name) text.units
 
 abbrev pub node_parts : Declared → List (List Part)
 node_parts text = map (λ t. parts_of_definition t.definition) text.types ++ map (parts_of_unit text) text.units
 
--- where a name stands in a list of which the first has that number
+-- the number of a name in a list of which the first has that number
 abbrev pub number_in : List Name → ℕ → Name → Option ℕ
 number_in [] n x = None
 number_in (y ∷ ys) n x = if bytes_eq x y then Some n else number_in ys (suc n) x
@@ -35,7 +35,7 @@ number_in (y ∷ ys) n x = if bytes_eq x y then Some n else number_in ys (suc n)
 abbrev pub number_of_name : Declared → Name → Option ℕ
 number_of_name text x = number_in (node_names text) 0 x
 
--- what a name leads to: a type or unit of the text by its number, a standard block, or what has no parts
+-- the target of a name: a type or unit of the text by its number, a standard block, or a type without parts
 abbrev pub target_found : Option ℕ → Name → Target
 target_found (Some i) x = Node i
 target_found None x = if is_some (block_of x) then Standard else Plain

@@ -1,4 +1,4 @@
--- The mirrors that initial values with their types stand for.
+-- The mirrors of initial values with their types.
 use Rattle.std.specs.Prelude.{option_map}
 use Rattle.st_types.specs.InitialViews.{initial_view}
 use Rattle.st_rules.specs.InitialRules.{Start}

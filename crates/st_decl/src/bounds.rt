@@ -12,7 +12,7 @@ use st_types::{ArrayType, Number};
 use std::alloc::AllocError;
 
 /// The number of a bound, of at most 64 bits.
-fn bound(number: &Number) -> i128
+pub fn bound(number: &Number) -> i128
     ensures value { result ≡ number_of number.now }
     ensures least { neg_ℤ (pos (2 ^ 64)) ≤ℤ result }
     ensures greatest { result ≤ℤ pos (2 ^ 64) }
@@ -21,7 +21,7 @@ fn bound(number: &Number) -> i128
     number_of(number)
 }
 
-/// How many elements an array has; none where its bounds are reversed.
+/// How many elements an array has; none if its bounds are reversed.
 pub fn elements_of_array(array: &ArrayType) -> u128
     ensures { result ≡ elements_of_array array.now }
 {
@@ -40,7 +40,7 @@ fn has_wrong_bounds(array: &ArrayType) -> bool
         || (MAX_ELEMENTS as u128) < elements_of_array(array)
 }
 
-/// Appends where the bounds of an array are reversed or too wide (C8).
+/// Appends a place if the bounds of an array are reversed or too wide (C8).
 pub fn push_wrong_bounds(places: &mut Vec<usize>, arrays: &[&ArrayType]) -> Result<(), AllocError>
     ensures { IfOk result (λ done. places.new.items ≡ places.old.items
         ++ flat_map wrong_bounds (map (λ a. a.now) arrays.now)) }

@@ -1,4 +1,4 @@
-//! The rules on declarations: what a text must keep to before anything else in it is looked at.
+//! The rules on declarations: they are judged before anything else in a text.
 
 ghost use Rattle.std.specs.Prelude.{◌≡◌, ◌++◌, ℕ, List, map, IfOk};
 ghost use Rattle.std.specs.List.{flat_map};
@@ -33,7 +33,7 @@ use st_types::{ArrayType, Source};
 use std::alloc::{AllocError, Global};
 use symbols::{FieldNames, TextNames};
 
-/// One of the places, where there are any.
+/// One of the places, if there are any.
 fn first_of(places: &[usize]) -> Option<usize>
     ensures { (all : List ℕ) → places.now ≡ all → FindsPlace all result }
 {
@@ -123,7 +123,7 @@ fn wrong_bounds<'a>(
     Ok(broken_at(Rule::WrongBounds, place))
 }
 
-/// What contains itself or is too deep (C6), or has wrong bounds or too long a list (C8).
+/// A type or unit that contains itself or is too deep (C6), or has wrong bounds or too long a list (C8).
 fn wrong_types(alloc: Global, source: &Source) -> Result<Option<Broken>, AllocError>
     ensures { IfOk result (λ broken. Finds (breaking TooDeep (too_deep (source_view source.now))
         ++ breaking WrongBounds (flat_map wrong_bounds (arrays_in (source_view source.now)))
@@ -162,9 +162,9 @@ fn wrong_declaration(alloc: Global, source: &Source) -> Result<Option<Broken>, A
     wrong_address(alloc, source)
 }
 
-/// Judges a text by the rules on declarations alone: names (C2), what contains itself or is too deep (C6), bounds of
-/// arrays and lengths of lists (C8), addresses (C11). It accepts exactly where none of them is broken anywhere; else it
-/// tells one that is, with its place, or that there is no memory (C12).
+/// Judges a text by the rules on declarations alone: names (C2), types and units that contain themselves or are too deep
+/// (C6), bounds of arrays and lengths of lists (C8), addresses (C11). It accepts exactly if none of them is broken anywhere;
+/// else it reports one that is, with its place, or that there is no memory (C12).
 pub fn declare(alloc: Global, source: &Source) -> Result<(), CheckError>
     ensures { Judges (wrong_declarations (source_view source.now)) result }
 {

@@ -1,4 +1,4 @@
-//! What a text declares, as one list: fields, variables and globals.
+//! The declarations of a text, as one list: fields, variables and globals.
 
 ghost use Rattle.std.specs.Prelude.{◌≡◌, ◌++◌, map, IfOk};
 ghost use Rattle.std.specs.List.{flat_map};
@@ -18,7 +18,7 @@ use st_types::{
 };
 use std::alloc::{AllocError, Global};
 
-/// Where a declaration stands.
+/// Where a declaration is.
 #[derive(Clone, Copy)]
 pub enum Role<'a> {
     /// In a structure.
@@ -29,7 +29,7 @@ pub enum Role<'a> {
     Global,
 }
 
-/// A declared type with its initial value, where it has one.
+/// A declared type with its initial value, if it has one.
 #[derive(Clone, Copy)]
 pub struct Declaring<'a> {
     pub role: Role<'a>,

@@ -3,18 +3,18 @@
 ghost use Rattle.std.specs.Prelude.{◌≡◌, ◌++◌, ◌∷◌, ◌≤◌, ◌<◌, [], map, IfOk, IfSome, Some, None, length, set, slice_get, replicate};
 ghost use Rattle.st_decl.specs.Graphs.{Graph, links_at};
 ghost use Rattle.st_decl.specs.declared.depths.Mark.TheVariants.{Unseen, OnPath, Depth};
-ghost use Rattle.st_decl.specs.Walks.{seen_of, seen_of_target, deeper, MarksTell, HasLooked, IsOpen, Walking, Ends};
-ghost use Rattle.st_decl.specs.Walks.{is_on_path, is_unseen, AreTold, AreDepths};
+ghost use Rattle.st_decl.specs.Walks.{seen_of, seen_of_target, deeper, MarksHold, HasLooked, IsOpen, Walking, WalkEnds};
+ghost use Rattle.st_decl.specs.Walks.{is_on_path, is_unseen, IsWalked, AreDepths};
 
 use crate::links::{Link, Target};
 use st_rules::limits::MAX_TYPE_DEPTH;
 use std::alloc::{AllocError, Global};
 
-/// What the walk knows of a type or unit.
+/// The state of a type or unit in the walk.
 #[derive(Clone, Copy)]
 pub enum Mark {
     Unseen,
-    /// It stands on the path, at the position.
+    /// It is on the path, at this position.
     OnPath(usize),
     /// Its depth, cut off above the limit.
     Depth(usize),
@@ -30,7 +30,7 @@ pub struct Visit {
     pub deepest: usize,
 }
 
-/// What the walk knows of a link.
+/// The state of a link in the walk.
 #[derive(Clone, Copy)]
 pub enum Seen {
     Depth(usize),
@@ -82,11 +82,11 @@ pub fn seen_of(marks: &[Mark], link: Link) -> Seen
     }
 }
 
-/// Looks at further links, up to one of which the depth is not known.
+/// Looks at further links, up to one whose depth is not known.
 fn look(visit: Visit, links: &[Link], marks: &[Mark]) -> (Visit, Option<usize>)
     requires { visit.looked ≤ length links.now }
     ensures node { result.0.node ≡ visit.node }
-    ensures keeps { (graph : Graph) → MarksTell graph marks.now → HasLooked graph links.now visit
+    ensures keeps { (graph : Graph) → MarksHold graph marks.now → HasLooked graph links.now visit
         → HasLooked graph links.now result.0 }
     ensures all { result.1 ≡ None → result.0.looked ≡ length links.now }
     ensures leads { IfSome result.1 (IsOpen marks.now links.now) }
@@ -143,7 +143,7 @@ fn mark_depth(marks: &mut [Mark], node: usize, depth: usize)
     marks[node] = Mark::Depth(depth);
 }
 
-/// Walks from a type or unit until its depth is known; answers one that contains itself, where it meets one.
+/// Walks from a type or unit until its depth is known; answers one that contains itself, if it meets one.
 fn walk_from(
     alloc: Global,
     graph: &[Vec<Link>],
@@ -152,7 +152,7 @@ fn walk_from(
 ) -> Result<Option<usize>, AllocError>
     requires unseen { slice_get marks.old start ≡ Some Unseen }
     requires walking { Walking (map (λ n. n.items) graph.now) marks.old [] }
-    ensures { IfOk result (Ends (map (λ n. n.items) graph.now) marks.old marks.new start) }
+    ensures { IfOk result (WalkEnds (map (λ n. n.items) graph.now) marks.old marks.new start) }
 {
     let mut path = Vec::new(alloc);
     enter(marks, &mut path, start)?;
@@ -195,7 +195,7 @@ fn walk_once(
 ) -> Result<Option<usize>, AllocError>
     requires there { start < length marks.old }
     requires walking { Walking (map (λ n. n.items) graph.now) marks.old [] }
-    ensures { IfOk result (Ends (map (λ n. n.items) graph.now) marks.old marks.new start) }
+    ensures { IfOk result (WalkEnds (map (λ n. n.items) graph.now) marks.old marks.new start) }
 {
     if is_unseen(marks, start) {
         walk_from(alloc, graph, marks, start)
@@ -204,14 +204,14 @@ fn walk_once(
     }
 }
 
-/// Walks from each type and unit; answers one that contains itself, where it meets one.
+/// Walks from each type and unit; answers one that contains itself, if it meets one.
 fn walk_all(
     alloc: Global,
     graph: &[Vec<Link>],
     marks: &mut [Mark],
 ) -> Result<Option<usize>, AllocError>
     requires { marks.old ≡ replicate (length graph.now) Unseen }
-    ensures { IfOk result (AreTold (map (λ n. n.items) graph.now) marks.new) }
+    ensures { IfOk result (IsWalked (map (λ n. n.items) graph.now) marks.new) }
 {
     for start in 0..graph.len() {
         if let Some(node) = walk_once(alloc, graph, marks, start)? {

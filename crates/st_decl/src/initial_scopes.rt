@@ -106,7 +106,7 @@ fn push_members<'a>(
     Ok(())
 }
 
-/// Appends the scopes inside an initial value, where there is one.
+/// Appends the scopes inside an initial value, if there is one.
 pub fn push_optional<'a>(
     alloc: Global,
     scopes: &mut Vec<Vec<&'a Identifier>>,

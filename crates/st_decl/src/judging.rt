@@ -1,4 +1,4 @@
-//! What judging a text answers.
+//! The answers when a text is judged.
 
 ghost use Rattle.std.specs.Prelude.{◌≡◌, ℕ, List};
 ghost use Rattle.st_rules.specs.Faults.{breaking, Finds};
@@ -18,7 +18,7 @@ pub enum CheckError {
     OutOfMemory,
 }
 
-/// The rule, where there is a place at which it is broken.
+/// The rule, if there is a place at which it is broken.
 pub fn broken_at(rule: Rule, place: Option<usize>) -> Option<Broken>
     ensures { (places : List ℕ) → FindsPlace places place → Finds (breaking rule places) result }
 {

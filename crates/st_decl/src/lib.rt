@@ -1,4 +1,5 @@
-//! The rules on declarations: names that are declared twice, what contains itself or is too deep, bounds, addresses.
+//! The rules on declarations: names that are declared twice, types that contain themselves or are too deep, bounds,
+//! addresses.
 #![tactic(auto)]
 
 mod arrays;
@@ -26,6 +27,7 @@ mod too_deep;
 mod twice_declared;
 
 pub use arrays::{named_arrays, unnamed_arrays};
+pub use bounds::{bound, elements_of_array};
 pub use calls::calls_of;
 pub use declarations::declare;
 pub use declarings::{Declaring, Role, declarings_in};

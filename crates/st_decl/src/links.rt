@@ -1,4 +1,4 @@
-//! What a part leads to, by numbers.
+//! The links from types and units to their parts, by numbers.
 
 ghost use Rattle.std.specs.Prelude.{◌≡◌, ◌++◌, map, IfOk, List, ℕ, bytes_eq};
 ghost use Rattle.st_types.specs.DeclarationViews.{type_declaration_view, type_definition_view};
@@ -15,10 +15,10 @@ use st_types::{Name, SimpleType, TypeDeclaration, Unit};
 use std::alloc::{AllocError, Global};
 use symbols::{Index, TextNames};
 
-/// What a name leads to.
+/// The target of a name.
 #[derive(Clone, Copy)]
 pub enum Target {
-    /// What has no parts: an elementary type, or a name that is unknown.
+    /// A type without parts: an elementary one, or a name that is unknown.
     Plain,
     /// A standard block.
     Standard,
@@ -26,7 +26,7 @@ pub enum Target {
     Node(usize),
 }
 
-/// What a part is.
+/// The link of a part.
 #[derive(Clone, Copy)]
 pub struct Link {
     pub target: Target,
@@ -53,7 +53,7 @@ fn target_of_simple(numbers: &Index<usize>, simple: &SimpleType) -> Target
     }
 }
 
-/// What a part is, by the numbers of the text's types and units.
+/// The link of a part, by the numbers of the text's types and units.
 pub fn link_of(numbers: &Index<usize>, part: Part) -> Link
     ensures { result ≡ link_of (found numbers.now) (part_view part.entry) }
 {
@@ -160,8 +160,8 @@ fn push_unit_names<'a>(names: &mut Vec<&'a Name>, units: &[&'a Unit]) -> Result<
     Ok(())
 }
 
-/// A list of names, each with its number; of a name that stands again the first.
-#[tactic(auto, using(crate::proofs::NumberLemmas::or_step, crate::proofs::NumberLemmas::or_nothing))]
+/// A list of names, each with its number; a name that occurs again has the first.
+#[tactic(auto, using(crate::proofs::NumberLemmas::or_step, symbols::proofs::TextLemmas::or_none))]
 fn numbered<'a>(alloc: Global, names: &[&'a Name]) -> Result<Index<'a, usize>, AllocError>
     ensures { IfOk result
         (λ numbers. (q : List ℕ) → found numbers q ≡ number_in (map (λ x. x.now) names.now) 0 q) }

@@ -18,7 +18,7 @@ use st_types::{ArrayType, Initial, InitialElement, Number};
 use std::alloc::AllocError;
 use symbols::TextNames;
 
-/// A number of elements; a negative one stands for none.
+/// A number of elements; a negative one counts as 0.
 fn natural(number: &Number) -> u128
     ensures { result ≡ natural (number_of number.now) }
 {
@@ -85,7 +85,7 @@ fn push_long_list<'a>(
     }
 }
 
-/// Appends where a list has more elements than its array (C8).
+/// Appends a place if a list has more elements than its array (C8).
 pub fn push_long_lists<'a>(
     places: &mut Vec<usize>,
     names: &TextNames<'a>,

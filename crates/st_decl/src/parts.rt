@@ -32,7 +32,7 @@ pub enum Part<'a> {
     Row(&'a SimpleType),
 }
 
-/// The part that a type named by one word is.
+/// The part of a type named by one word.
 pub fn part_of_simple(simple: &SimpleType) -> Part<'_>
     ensures { part_view result ≡ part_of_simple simple.now }
 {

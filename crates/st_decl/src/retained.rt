@@ -67,7 +67,7 @@ fn push_element(places: &mut Vec<usize>, element: &LibraryElement) -> Result<(),
     }
 }
 
-/// Where a global has an address in a block of retained ones (C11).
+/// The places of globals with an address in a block of retained ones (C11).
 pub fn retained_addresses(alloc: Global, source: &Source) -> Result<Vec<usize>, AllocError>
     ensures { IfOk result (λ places. places.items ≡ flat_map retained_addresses_of (source_view source.now)) }
 {

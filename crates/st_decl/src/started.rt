@@ -1,4 +1,4 @@
-//! The types of what initial values are for: those of elements and fields, found on the way down.
+//! The types of the targets of initial values: those of elements and fields, found on the way down.
 
 ghost use Rattle.std.specs.Prelude.{◌≡◌, option_map};
 ghost use Rattle.st_meaning.specs.NameTypes.{Declared, definition_of};
@@ -11,7 +11,7 @@ ghost use Rattle.symbols.specs.PlaceTypes.{place_type_view};
 use st_types::{ArrayType, Name, SimpleType, TypeDefinition};
 use symbols::{FieldNames, PlaceType, TextNames, place_type};
 
-/// The array that a declared type is.
+/// The array of a declared type, if it is one.
 fn array_of<'a>(names: &TextNames<'a>, declared: PlaceType<'a>) -> Option<&'a ArrayType>
     ensures { (text : Declared) → ServesText names.now text
         → option_map (λ a. a.now) result ≡ array_in (definition_of text (place_type_view declared.entry)) }
@@ -29,7 +29,7 @@ fn array_of<'a>(names: &TextNames<'a>, declared: PlaceType<'a>) -> Option<&'a Ar
     }
 }
 
-/// The array that a type is, where the type is known.
+/// The array of a type, if the type is known and is one.
 pub fn array_at<'a>(names: &TextNames<'a>, declared: Option<PlaceType<'a>>) -> Option<&'a ArrayType>
     ensures { (text : Declared) → ServesText names.now text → option_map (λ a. a.now) result
         ≡ array_in (definition_at text (option_map place_type_view declared.entry)) }

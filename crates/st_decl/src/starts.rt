@@ -1,4 +1,4 @@
-//! All initial values of a text, as one list: those inside others too, each with the type of what it is for.
+//! All initial values of a text, as one list: those inside others too, each with the type of its target.
 
 ghost use Rattle.std.specs.Prelude.{◌≡◌, ◌++◌, ◌∷◌, map, option_map, Some, if◌then◌else◌, [], IfOk};
 ghost use Rattle.std.specs.List.{flat_map};
@@ -23,7 +23,7 @@ use st_types::{
 use std::alloc::{AllocError, Global};
 use symbols::{FieldNames, PlaceType, TextNames, place_type};
 
-/// An initial value, or one inside another, with the type of what it is for.
+/// An initial value, or one inside another, with the type of its target.
 #[derive(Clone, Copy)]
 pub struct Start<'a> {
     pub declared: Option<PlaceType<'a>>,

@@ -27,7 +27,7 @@ use st_types::{ArrayType, Name, Source, TypeDeclaration, Unit, UnitSort};
 use std::alloc::{AllocError, Global};
 use symbols::{Index, TextNames};
 
-/// Whether what a link leads to is over 64 deep.
+/// Whether the target of a link is over 64 deep.
 fn is_deep(marks: &[Mark], link: Link) -> bool
     ensures { result ≡ is_deep marks.now link }
 {
@@ -144,7 +144,7 @@ fn place_of(
     Ok(places.get(node).copied())
 }
 
-/// Where something is too deep, though nothing contains itself.
+/// The place of a type or unit that is too deep, though nothing contains itself.
 fn first_deep(
     alloc: Global,
     numbers: &Index<usize>,

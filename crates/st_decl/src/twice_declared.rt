@@ -19,7 +19,7 @@ use st_types::{Identifier, Source};
 use std::alloc::{AllocError, Global};
 use symbols::{Index, first_repeat, index_of};
 
-/// A name that stands again in one of these scopes.
+/// A name that occurs again in one of these scopes.
 fn repeat_in_scopes(alloc: Global, scopes: &[Vec<&Identifier>]) -> Result<Option<usize>, AllocError>
     ensures { IfOk result (λ place. FindsPlace
         (flat_map repeats (map (λ s. map (λ x. x.now) s.items) scopes.now)) place) }

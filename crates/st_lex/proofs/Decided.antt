@@ -1,4 +1,4 @@
--- Each text has tokens or a first fault, and not two of them.
+-- Each text has tokens or a first fault, and not both.
 use Rattle.std.proofs.Common.{◌≡◌, ℕ, zero, suc, ◌+◌, ◌<◌, ◌≤◌, List, [], ◌∷◌, ◌⊎◌, length, drop, refl, arith, inl, inr}
 use Rattle.std.proofs.Common.{length-drop}
 use Rattle.st_lex.specs.declared.token.TokenKind.{TokenKind}

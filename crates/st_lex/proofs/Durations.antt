@@ -5,9 +5,9 @@ use Rattle.std.proofs.lemmas.Bool.{lt-ltb, cases_lt, le-ltb}
 use Rattle.std.proofs.lemmas.List.{take_all}
 use Rattle.st_lex.specs.declared.time_unit.TimeUnit.{TimeUnit}
 use Rattle.st_lex.specs.declared.time_unit.TimeUnit.TheVariants.{Day}
-use Rattle.st_lex.specs.Durations.{sum, fits, parts, part_milliseconds, is_part_in, behind_part, over_underscore}
+use Rattle.st_lex.specs.Durations.{sum, fits, parts, part_milliseconds, is_part_in, after_part, over_underscore}
 
--- a sum is too large where a part of it is
+-- a sum is too large if a part of it is
 pub fits_sum : (a b : Option ℕ) → fits (sum (fits a) (fits b)) ≡ fits (sum a b)
 fits_sum None b = refl
 fits_sum (Some n) None = elim (ltb n (2 ^ 63)) as (λ x. fits (sum (cond x (Some n) None) None) ≡ None) [
@@ -25,7 +25,7 @@ fits_sum (Some n) (Some m) = elim (cases_lt n (2 ^ 63)) [
 -- a part in the first of the units, and the rest in the smaller ones
 pub with_part :
     (units : List TimeUnit) (is_first is_part : Bool) (text front rest : List ℕ) (part smaller whole : Option ℕ)
-    → 1 ≤ length units → front ≡ over_underscore is_first text → rest ≡ behind_part front
+    → 1 ≤ length units → front ≡ over_underscore is_first text → rest ≡ after_part front
     → is_part ≡ is_part_in (get_or units 0 Day) front → is_part ≡ true
     → part ≡ fits (part_milliseconds (get_or units 0 Day) is_first front)
     → smaller ≡ fits (parts (take (length units - 1) (drop 1 units)) false rest)

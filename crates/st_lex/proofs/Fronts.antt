@@ -23,7 +23,7 @@ one_list (token k n e s) (blank m f t) = cc
 one_list (token k n e s) (token l m f t) = let q : m ≡ n = cc in let r : l ≡ k = cc in let t' = rw q at t in
     let rest = one_list s t' in cc
 
--- where there is a fault there are no tokens
+-- if there is a fault there are no tokens
 pub no_list : {at : ℕ} {text : List ℕ} {a : List Token} {fault : LexFault} {place : ℕ} → HasFault at text fault place
     → Spells at text a → ⊥
 no_list (here n e) (ends f) = cc

@@ -1,4 +1,4 @@
--- Laws of the tokens of a text, by induction on how it is spelled.
+-- Laws of the tokens of a text, by induction on its spelling.
 use Rattle.std.proofs.Common.{◌≡◌, ℕ, ◌+◌, ◌-◌, ◌<◌, ◌≤◌, Bool, List, [], ◌∷◌, ◌&&◌, length, take, drop, refl, sym, ap}
 use Rattle.std.proofs.Common.{subst, ◌∙◌, arith, length-drop}
 use Rattle.std.specs.Prelude.{slice_index}
@@ -10,8 +10,8 @@ use Rattle.st_lex.specs.declared.front.Front.{Front}
 use Rattle.st_lex.specs.declared.front.Front.TheVariants as fronts
 use Rattle.st_lex.specs.Characters.{is_word_character}
 use Rattle.st_lex.specs.Fronts.{front_of, IsWithin}
-use Rattle.st_lex.specs.Texts.{Spells, ends, blank, token, IsSpelledBy}
-use Rattle.st_lex.specs.Laws.{AreInOrder, Each, IsItsSlice, IsParted, IsWhole}
+use Rattle.st_lex.specs.Texts.{Spells, ends, blank, token, Lexes}
+use Rattle.st_lex.specs.Laws.{AreInOrder, Each, IsItsSlice, IsParted, IsWholeToken}
 use Rattle.st_lex.proofs.Within.{front_within}
 use Rattle.st_lex.proofs.Sound.{IsSound, IsCut, front_sound}
 
@@ -39,7 +39,7 @@ in_order {at} {text} (token {tokens} kind n e s) =
     let w : (0 < n) × (n ≤ length text) = within text (fronts.Token kind n) e in
     (omega arith, omega (arith, w.0), subst (λ m. AreInOrder (at + n) m tokens) (end_is at n text w.1) (in_order s))
 
-pub all_in_order : (text : List ℕ) (tokens : List Token) → IsSpelledBy text tokens → AreInOrder 0 (length text) tokens
+pub all_in_order : (text : List ℕ) (tokens : List Token) → Lexes text tokens → AreInOrder 0 (length text) tokens
 all_in_order text tokens s = let e : 0 + length text ≡ length text = omega arith in
     subst (λ m. AreInOrder 0 m tokens) e (in_order s.spells)
 
@@ -66,7 +66,7 @@ its_slice : (whole : List ℕ) (at n : ℕ) (kind : TokenKind) → length whole 
 its_slice whole at n kind short le e =
     let len : length (take n (drop at whole)) ≡ n = length-take-le n (drop at whole) le in
     let m : n ≡ at + n - at = omega arith in
-    subst (λ x. IsSpelledBy (take x (drop at whole)) (token_at kind 0 (at + n - at) ∷ [])) m
+    subst (λ x. Lexes (take x (drop at whole)) (token_at kind 0 (at + n - at) ∷ [])) m
     (record {
       short = omega (arith, len, length-drop at whole);
       spells =
@@ -88,7 +88,7 @@ parted whole at n h cut = λ _.
     ∙ sym (ap (λ x. W x && W (slice_index (drop at whole) n)) e) ∙ cut
 
 abbrev pub IsLawful : List ℕ → Token → Type 0
-IsLawful whole t = IsItsSlice whole t × IsWhole whole t
+IsLawful whole t = IsItsSlice whole t × IsWholeToken whole t
 
 lawful : {at : ℕ} {text : List ℕ} {tokens : List Token} (whole : List ℕ) → length whole ≤ MAX_SOURCE_BYTES
     → text ≡ drop at whole → IsParted whole at → Spells at text tokens → Each (IsLawful whole) tokens
@@ -109,15 +109,15 @@ firsts : (whole : List ℕ) (tokens : List Token) → Each (IsLawful whole) toke
 firsts whole [] = λ h. tt
 firsts whole (t ∷ ts) = λ h. (h.0.0, firsts whole ts h.1)
 
-seconds : (whole : List ℕ) (tokens : List Token) → Each (IsLawful whole) tokens → Each (IsWhole whole) tokens
+seconds : (whole : List ℕ) (tokens : List Token) → Each (IsLawful whole) tokens → Each (IsWholeToken whole) tokens
 seconds whole [] = λ h. tt
 seconds whole (t ∷ ts) = λ h. (h.0.1, seconds whole ts h.1)
 
-all_lawful : (text : List ℕ) (tokens : List Token) → IsSpelledBy text tokens → Each (IsLawful text) tokens
+all_lawful : (text : List ℕ) (tokens : List Token) → Lexes text tokens → Each (IsLawful text) tokens
 all_lawful text tokens s = lawful {at = 0} text s.short refl (λ h. absurd (omega arith)) s.spells
 
-pub each_is_its_slice : (text : List ℕ) (tokens : List Token) → IsSpelledBy text tokens → Each (IsItsSlice text) tokens
+pub each_is_its_slice : (text : List ℕ) (tokens : List Token) → Lexes text tokens → Each (IsItsSlice text) tokens
 each_is_its_slice text tokens s = firsts text tokens (all_lawful text tokens s)
 
-pub each_is_whole : (text : List ℕ) (tokens : List Token) → IsSpelledBy text tokens → Each (IsWhole text) tokens
+pub each_is_whole : (text : List ℕ) (tokens : List Token) → Lexes text tokens → Each (IsWholeToken text) tokens
 each_is_whole text tokens s = seconds text tokens (all_lawful text tokens s)

@@ -1,4 +1,4 @@
--- What stands in front is what its own bytes are alone, and no word goes on after it.
+-- The front of a text is the same for its own bytes alone, and no word goes on after it.
 use Rattle.std.proofs.Common.{◌≡◌, ℕ, ◌+◌, ◌-◌, ◌<◌, Bool, true, false, not, cond, eqb, List, [], ◌∷◌, ◌&&◌, length}
 use Rattle.std.proofs.Common.{take, drop, Option, Some, None, refl, sym, ap, subst, zero, suc, ◌∙◌, arith, inl, inr}
 use Rattle.std.specs.Prelude.{nat_lt, nat_eq, IfSome, slice_index}
@@ -221,7 +221,7 @@ abbrev pub EachRow : (List ℕ × Mark → Type 0) → List (List ℕ × Mark) �
 EachRow P [] = Unit {0}
 EachRow P (row ∷ rows) = P row × EachRow P rows
 
--- alone a mark is read as itself, and it does not end as a word
+-- a mark alone is read as itself, and it doesn't end like a word
 abbrev pub IsMark : List ℕ × Mark → Type 0
 IsMark row = (front_of row.0 ≡ fronts.Token (kinds.Mark row.1) (length row.0))
     × (is_word_character (slice_index row.0 (length row.0 - 1)) ≡ false) × (0 < length row.0)

@@ -1,4 +1,4 @@
--- What stands in front lies in the text.
+-- The front of a text is within the text.
 use Rattle.std.proofs.Common.{◌≡◌, ℕ, ◌+◌, ◌<◌, ◌≤◌, Bool, true, false, not, cond, eqb, List, [], ◌∷◌, length, take}
 use Rattle.std.proofs.Common.{drop, Option, Some, None, refl, sym, ap, arith, ◌++◌}
 use Rattle.std.proofs.Math.ListN.{length-take, length-append}
@@ -23,7 +23,7 @@ use Rattle.st_lex.specs.Words.{word_length, word_front, read_as, with_percent, m
 use Rattle.st_lex.specs.Marks.{leading, marks, longest_mark, read_mark, mark_front}
 use Rattle.st_lex.specs.Fronts.{IsWithin, front_of}
 
--- a property of what stands in front by one test, and by three
+-- a property of a front by one test, and by three
 pub by_test : (P : Front → Type 0) (p : Bool) (a b : Front) → (p ≡ true → P a) → (p ≡ false → P b) → P (cond p a b)
 by_test P true a b = λ yes no. yes refl
 by_test P false a b = λ yes no. no refl

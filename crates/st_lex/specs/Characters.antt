@@ -14,7 +14,7 @@ is_space b = (b == 32) || (b == 9) || (b == 10) || (b == 13)
 abbrev pub is_word_character : ℕ → Bool
 is_word_character b = is_ascii_alphanumeric b || (b == 95) || (b == 35)
 
--- the two bytes stand in front
+-- the text begins with the two bytes
 abbrev pub begins : ℕ → ℕ → List ℕ → Bool
 begins x y [] = false
 begins x y (b ∷ []) = false

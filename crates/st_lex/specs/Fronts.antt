@@ -1,4 +1,4 @@
--- What stands in front of a text.
+-- The front of a text.
 use Rattle.std.specs.Prelude.{ℕ, ◌<◌, ◌≤◌, nat_lt, List, [], ◌∷◌, take, drop, if◌then◌else◌}
 use Rattle.st_lex.specs.declared.front.Front.{Front}
 use Rattle.st_lex.specs.declared.front.Front.TheVariants as fronts
@@ -16,7 +16,7 @@ front_of (b ∷ bs) =
     if nat_lt 0 (word_length (b ∷ bs)) then word_front (take (word_length (b ∷ bs)) (b ∷ bs)) else
     mark_front (b ∷ bs)
 
--- what stands in front is some bytes of the text, and a fault's place is in it
+-- the front consists of some bytes of the text, and a fault's place is in it
 abbrev pub IsWithin : ℕ → Front → Type 0
 IsWithin len fronts.End = Unit {0}
 IsWithin len (fronts.Blank n) = (0 < n) × (n ≤ len)

@@ -19,7 +19,7 @@ marks =
     (codes "(", m.Open) ∷ (codes ")", m.Close) ∷ (codes "[", m.OpenBracket) ∷ (codes "]", m.CloseBracket) ∷
     (codes ",", m.Comma) ∷ (codes ";", m.Semicolon) ∷ (codes ":", m.Colon) ∷ (codes ".", m.Dot) ∷ []
 
--- the first of the table that stands in front, with its length
+-- the first entry of the table that the text begins with, with its length
 abbrev pub leading : {X : Type 0} → List (List ℕ × X) → List ℕ → Option (X × ℕ)
 leading [] text = None
 leading (row ∷ rows) text = if starts_with nat_eq text row.0 then Some (row.1, length row.0) else leading rows text
@@ -31,7 +31,7 @@ abbrev pub read_mark : Option (Mark × ℕ) → Front
 read_mark None = fronts.Fault faults.Byte 0
 read_mark (Some found) = fronts.Token (kinds.Mark found.0) found.1
 
--- `&` is another spelling of AND; what is no mark may not stand here
+-- `&` is another spelling of AND; bytes that aren't a mark are a fault here
 abbrev pub mark_front : List ℕ → Front
 mark_front [] = fronts.Fault faults.Byte 0
 mark_front (b ∷ bs) = if b == 38 then fronts.Token (kinds.Keyword k.And) 1 else read_mark (longest_mark (b ∷ bs))

@@ -13,7 +13,7 @@ use Rattle.st_lex.specs.declared.token.WholeNumber.{WholeNumber}
 use Rattle.st_lex.specs.Tables.{lookup}
 use Rattle.st_lex.specs.ReservedWords.{elementary}
 
--- the number that the digits write on from n; an underscore has no meaning
+-- the number that the digits continue from n; an underscore has no meaning
 abbrev pub value_from : ℕ → ℕ → List ℕ → ℕ
 value_from base n [] = n
 value_from base n (b ∷ bs) = if b == 95 then value_from base n bs else value_from base (n * base + digit_value b) bs
@@ -34,12 +34,12 @@ below limit n = if nat_lt n limit then Some n else None
 unfoldable pub numeral : ℕ → List ℕ → Option ℕ
 numeral base word = if is_numeral base word then below (2 ^ 64) (value_from base 0 word) else None
 
--- what stands before the first `#`, and what after it
+-- the text before the first `#`, and the text after it
 abbrev pub before_hash : List ℕ → List ℕ
 before_hash word = take_while (λ b. not (b == 35)) word
 
-abbrev pub behind_hash : List ℕ → List ℕ
-behind_hash word = drop (length (before_hash word) + 1) word
+abbrev pub after_hash : List ℕ → List ℕ
+after_hash word = drop (length (before_hash word) + 1) word
 
 abbrev pub bases : List (List ℕ × ℕ)
 bases = (codes "2", 2) ∷ (codes "8", 8) ∷ (codes "16", 16) ∷ []
@@ -50,7 +50,7 @@ in_base (Some base) word = numeral base word
 
 -- `2#`, `8#` or `16#`, then digits of that base
 unfoldable pub based : List ℕ → Option ℕ
-based word = in_base (lookup bases (before_hash word)) (behind_hash word)
+based word = in_base (lookup bases (before_hash word)) (after_hash word)
 
 -- the number of a decimal or based literal
 unfoldable pub magnitude : List ℕ → Option ℕ
@@ -71,7 +71,7 @@ with_type _ _ = None
 
 -- a whole-number or bit-string type's name, `#`, then a decimal or based literal
 unfoldable pub typed : List ℕ → Option WholeNumber
-typed word = with_type (elementary (before_hash word)) (magnitude (behind_hash word))
+typed word = with_type (elementary (before_hash word)) (magnitude (after_hash word))
 
 abbrev pub untyped : Bool → ℕ → WholeNumber
 untyped is_decimal n = record { written = None; magnitude = n; is_decimal = is_decimal }

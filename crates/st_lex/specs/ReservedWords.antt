@@ -46,8 +46,8 @@ abbrev pub types : List (List ℕ × Kind)
 types = map (λ kind. ((row_of kind).keyword, kind))
     (Sint ∷ Int ∷ Dint ∷ Lint ∷ Usint ∷ Uint ∷ Udint ∷ Ulint ∷ Byte ∷ Word ∷ Dword ∷ Lword ∷ Time ∷ Boolean ∷ [])
 
-abbrev pub truths : List (List ℕ × Bool)
-truths = (codes "TRUE", true) ∷ (codes "FALSE", false) ∷ []
+abbrev pub bool_words : List (List ℕ × Bool)
+bool_words = (codes "TRUE", true) ∷ (codes "FALSE", false) ∷ []
 
 unfoldable pub keyword_of : List ℕ → Option Keyword
 keyword_of word = lookup keywords word
@@ -55,10 +55,10 @@ keyword_of word = lookup keywords word
 unfoldable pub elementary : List ℕ → Option Kind
 elementary word = lookup types word
 
-unfoldable pub truth : List ℕ → Option Bool
-truth word = lookup truths word
+unfoldable pub bool_word : List ℕ → Option Bool
+bool_word word = lookup bool_words word
 
 -- the token that a reserved word is
 abbrev pub reserved : List ℕ → Option TokenKind
 reserved word = option_or (option_map kinds.Keyword (keyword_of word))
-    (option_or (option_map kinds.Elementary (elementary word)) (option_map kinds.Truth (truth word)))
+    (option_or (option_map kinds.Elementary (elementary word)) (option_map kinds.Truth (bool_word word)))

@@ -3,8 +3,8 @@ use Rattle.std.specs.Prelude.{ℕ, List, [], ◌∷◌, codes}
 use Rattle.st_lex.specs.declared.time_unit.TimeUnit.{TimeUnit}
 use Rattle.st_lex.specs.declared.time_unit.TimeUnit.TheVariants.{Day, Hour, Minute, Second, Millisecond}
 
--- a line of the table of units: its letters, its length in milliseconds, and below how many of it a later part must be;
--- a day is none
+-- a line of the table of units: its letters, its length in milliseconds, and the limit for the number of a later
+-- part, except for days
 pub record UnitRow : Type 0 where
   pub letters : List ℕ
   pub milliseconds : ℕ

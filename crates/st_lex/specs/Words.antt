@@ -1,4 +1,4 @@
--- Words: the longest runs of letters, digits, `_` and `#`, each with a `%` directly before it where there is one.
+-- Words: the longest runs of letters, digits, `_` and `#`, each with a `%` directly before it if there is one.
 use Rattle.std.specs.Prelude.{ℕ, ◌+◌, List, [], ◌∷◌, length, map, Bool, false, ◌&&◌, ◌||◌, ◌==◌, nat_le, if◌then◌else◌}
 use Rattle.std.specs.Prelude.{Option, Some, None, is_none, not, codes, bytes_eq}
 use Rattle.std.specs.Option.{unwrap_or, option_or}
@@ -15,12 +15,12 @@ use Rattle.st_lex.specs.declared.front.Front.TheVariants as fronts
 use Rattle.st_lex.specs.Characters.{is_word_character}
 use Rattle.st_lex.specs.ReservedWords.{reserved}
 use Rattle.st_lex.specs.Literals.{literal}
-use Rattle.st_lex.specs.Numbers.{before_hash, behind_hash}
+use Rattle.st_lex.specs.Numbers.{before_hash, after_hash}
 
 abbrev pub with_percent : ℕ → ℕ
 with_percent n = if n == 0 then 0 else n + 1
 
--- how many bytes the word in front has, 0 where there is none
+-- how many bytes the word in front has, 0 if there is none
 abbrev pub word_length : List ℕ → ℕ
 word_length [] = 0
 word_length (b ∷ bs) =
@@ -37,12 +37,11 @@ starts_with_decimal_digit (b ∷ bs) = is_ascii_digit b
 abbrev pub must_be_literal : List ℕ → Bool
 must_be_literal word = starts_with_decimal_digit word || list_any (λ b. (b == 35) || (b == 37)) word
 
--- of such a word that need not be a literal: at most 64 characters, without two underscores in a row and without a
--- trailing one
+-- such a word that need not be a literal: at most 64 characters, without two underscores in a row and without a trailing one
 abbrev pub is_identifier : List ℕ → Bool
 is_identifier word = nat_le (length word) MAX_NAME_LENGTH && is_spaced word
 
--- a reserved word is no name
+-- a reserved word isn't a name
 abbrev pub named : List ℕ → TokenKind
 named word = unwrap_or (reserved word) (Name (upper word))
 
@@ -53,7 +52,7 @@ read_as fault n (Some kind) = fronts.Token kind n
 abbrev pub identifier : List ℕ → Option TokenKind
 identifier word = if is_identifier word then Some (named word) else None
 
--- an identifier that is no reserved word
+-- an identifier that isn't a reserved word
 abbrev pub is_name : List ℕ → Bool
 is_name [] = false
 is_name (b ∷ bs) = not (must_be_literal (b ∷ bs)) && is_identifier (b ∷ bs) && is_none (reserved (b ∷ bs))
@@ -65,14 +64,14 @@ begins_duration word = bytes_eq (upper (before_hash word)) (codes "T")
 -- a type's name, `#`, and the name of one of its values
 unfoldable pub enumerated : List ℕ → Option TokenKind
 enumerated word =
-    if is_name (before_hash word) && is_name (behind_hash word) && not (begins_duration word)
-    then Some (Enumerated (upper (before_hash word)) (upper (behind_hash word))) else None
+    if is_name (before_hash word) && is_name (after_hash word) && not (begins_duration word)
+    then Some (Enumerated (upper (before_hash word)) (upper (after_hash word))) else None
 
--- of a word that is no identifier: a literal or an address, and only where it is neither, a value of an enumerated type
+-- a word that isn't an identifier: a literal or an address, and only if it is neither, a value of an enumerated type
 abbrev pub literal_of : List ℕ → Option TokenKind
 literal_of word = option_or (literal word) (enumerated word)
 
--- what a word is
+-- the front that a word is
 unfoldable pub word_front : List ℕ → Front
 word_front word =
     if must_be_literal word

@@ -59,7 +59,7 @@ fn joined(
 }
 
 /// `address = "%", ( "I" | "Q" ), ( "X" | "W" ), digit, { digit } .`
-/// The address that the word is.
+/// The word as an address.
 #[tactic(auto, unfolding(crate::specs::Addresses::address))]
 pub fn address(word: &[u8]) -> Option<Address>
     ensures { result ≡ addresses.address word.now }

@@ -3,7 +3,7 @@
 ghost use Rattle.std.specs.Prelude.{◌≡◌};
 ghost use Rattle.st_lex.specs.Characters as characters;
 
-/// It may stand in a text: TAB, LF, CR, or 32 to 126.
+/// Whether it may occur in a text: TAB, LF, CR, or 32 to 126.
 pub fn is_allowed(b: u8) -> bool
     ensures { result ≡ characters.is_allowed b }
 {
@@ -16,14 +16,14 @@ pub fn is_space(b: u8) -> bool
     b == b' ' || b == b'\t' || b == b'\n' || b == b'\r'
 }
 
-/// It may stand in a word after its `%`.
+/// Whether it may occur in a word after its `%`.
 pub fn is_word_character(b: u8) -> bool
     ensures { result ≡ characters.is_word_character b }
 {
     b.is_ascii_alphanumeric() || b == b'_' || b == b'#'
 }
 
-/// The two bytes stand in front.
+/// Whether the text begins with the two bytes.
 pub fn begins(first: u8, second: u8, text: &[u8]) -> bool
     ensures { result ≡ characters.begins first second text.now }
 {

@@ -9,7 +9,7 @@ use crate::character::{begins, is_allowed};
 use crate::fault::LexFault;
 use crate::front::Front;
 
-/// How many bytes stand before the first place where the two begin; all, where they begin nowhere.
+/// How many bytes come before the first place where the two begin; all, if they begin nowhere.
 fn before(first: u8, second: u8, text: &[u8]) -> usize
     ensures value { result ≡ comments.before first second text.now }
     ensures bound { result ≤ length text.now }
@@ -33,8 +33,8 @@ fn has_allowed_bytes_alone(text: &[u8]) -> bool
     text.iter().all(|b| is_allowed(*b))
 }
 
-/// What a comment is, by what stands after its opening. The next `(*` is never looked for past the next comment, so a
-/// whole text is read in time linear in its length.
+/// A comment, by the text after its opening. The next `(*` is never looked for past the next comment, so a whole text
+/// is read in time linear in its length.
 #[tactic(auto, unfolding(crate::specs::Comments::comment_front))]
 pub fn comment_front(inside: &[u8]) -> Front
     requires { length inside.now + 2 < 2 ^ 64 }

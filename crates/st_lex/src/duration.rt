@@ -6,11 +6,11 @@ ghost use Rattle.st_lex.specs.TimeUnits.{unit_row};
 ghost use Rattle.st_lex.specs.Numbers.{below};
 ghost use Rattle.st_lex.specs.Durations as durations;
 
-use crate::number::{before_hash, behind_hash, value};
+use crate::number::{after_hash, before_hash, value};
 use crate::table::same_word;
 use crate::time_unit::TimeUnit;
 
-/// All units, from great to small.
+/// All units, from large to small.
 const UNITS: [TimeUnit; 5] = [
     TimeUnit::Day,
     TimeUnit::Hour,
@@ -41,7 +41,7 @@ fn starts_with_underscore(text: &[u8]) -> bool
     }
 }
 
-/// The text after an underscore that may stand before a later part.
+/// The text after an underscore that may come before a later part.
 fn over_underscore(is_first: bool, text: &[u8]) -> &[u8]
     ensures { result.now ≡ durations.over_underscore is_first text.now }
 {
@@ -66,7 +66,7 @@ fn letters_len(text: &[u8]) -> usize
     text.iter().take_while(|b| b.is_ascii_alphabetic()).count()
 }
 
-/// A number of a unit in front of a text, and what stands after it.
+/// A number of a unit in front of a text, and the text after it.
 #[derive(Clone, Copy)]
 struct Part<'a> {
     digits: &'a [u8],
@@ -77,7 +77,7 @@ struct Part<'a> {
 fn leading_part(text: &[u8]) -> Part<'_>
     ensures digits { result.digits.now ≡ durations.digits_of text.now }
     ensures letters { result.letters.now ≡ durations.letters_of text.now }
-    ensures rest { result.rest.now ≡ durations.behind_part text.now }
+    ensures rest { result.rest.now ≡ durations.after_part text.now }
 {
     let (digits, behind) = text.split_at(digits_len(text));
     let (letters, rest) = behind.split_at(letters_len(behind));
@@ -113,7 +113,7 @@ fn product(count: u64, milliseconds: u64) -> Option<u64>
     fits(count.checked_mul(milliseconds)?)
 }
 
-/// The milliseconds of the part in front, where its number is allowed.
+/// The milliseconds of the part in front, if its number is allowed.
 fn part_milliseconds(unit: TimeUnit, is_first: bool, text: &[u8]) -> Option<u64>
     ensures { result ≡ durations.fits (durations.part_milliseconds unit is_first text.now) }
 {
@@ -132,7 +132,7 @@ fn sum(part: Option<u64>, smaller: Option<u64>) -> Option<u64>
 }
 
 /// `parts = part, { [ "_" ], part } .`
-/// The milliseconds of the parts that the text is, in some of these units and in their order.
+/// The milliseconds of the parts in the text, in some of these units and in their order.
 fn parts(units: &[TimeUnit], is_first: bool, text: &[u8]) -> Option<u64>
     ensures { result ≡ durations.fits (durations.parts units.now is_first text.now) }
 {
@@ -165,7 +165,7 @@ fn is_duration(word: &[u8]) -> bool
 }
 
 /// `duration = ( "T#" | "TIME#" ), parts .`
-/// The milliseconds of the duration that the word is.
+/// The milliseconds of the word as a duration.
 #[tactic(auto, unfolding(crate::specs::Durations::duration))]
 pub fn duration(word: &[u8]) -> Option<u64>
     ensures { result ≡ durations.duration word.now }
@@ -173,5 +173,5 @@ pub fn duration(word: &[u8]) -> Option<u64>
     if !is_duration(word) {
         return None;
     }
-    milliseconds(behind_hash(word))
+    milliseconds(after_hash(word))
 }

@@ -6,10 +6,10 @@ ghost use Rattle.st_lex.specs.declared.fault.LexError.TheVariants.{Memory};
 use std::alloc::{AllocError, AllocFailed};
 use thiserror::Error;
 
-/// What is wrong at a place of a text. It shows as its number.
+/// A fault at a place of a text. It is shown as its number.
 #[derive(Clone, Copy, Debug, PartialEq, Eq, Error)]
 pub enum LexFault {
-    /// A byte that may not stand there. In a comment the place is the comment's opening.
+    /// A byte that is not allowed there. In a comment the place is the comment's opening.
     #[error("L1")]
     Byte,
     /// A malformed or too large literal.
@@ -32,7 +32,7 @@ pub enum LexError {
     /// The text is longer than 1,048,576 bytes.
     #[error("L5 at 0")]
     TooLong,
-    /// Memory ran out.
+    /// An allocation failed.
     #[error("L6")]
     Memory,
 }

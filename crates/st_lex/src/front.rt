@@ -1,4 +1,4 @@
-//! What stands in front of a text.
+//! The front of a text.
 
 ghost use Rattle.std.specs.Prelude.{◌≡◌, ◌<◌, ◌^◌, length, IfOk};
 ghost use Rattle.st_lex.specs.Fronts as fronts;
@@ -11,14 +11,14 @@ use crate::token::TokenKind;
 use crate::word::{word_front, word_length};
 use std::alloc::{AllocError, Global};
 
-/// What comes first, and how many bytes it takes.
+/// The front of a text, and how many bytes it takes.
 #[derive(Drop)]
 pub enum Front {
     End,
     /// A space or a comment.
     Blank(usize),
     Token(TokenKind, usize),
-    /// A fault, and after how many bytes its place is.
+    /// A fault, and how many bytes come before its place.
     Fault(LexFault, usize),
 }
 
@@ -42,7 +42,7 @@ fn front_in(alloc: Global, text: &[u8]) -> Result<Front, AllocError>
     Ok(mark_front(text))
 }
 
-/// What stands in front, which lies in the text.
+/// The front of a text, which is within the text.
 #[tactic(auto, using(crate::proofs::Within::ok_within))]
 pub fn read_front(alloc: Global, text: &[u8]) -> Result<Front, AllocError>
     ensures value { IfOk result (λ front. front ≡ fronts.front_of text.now) }

@@ -66,7 +66,7 @@ pub enum Keyword {
     Single,
     Interval,
     Priority,
-    // Reserved, and in no text of the grammar.
+    // Reserved, but not used by the grammar.
     Real,
     Lreal,
     String,
@@ -184,14 +184,14 @@ pub fn elementary(word: &[u8]) -> Option<Kind>
     lookup(&TYPES, word)
 }
 
-#[tactic(auto, unfolding(crate::specs::ReservedWords::truth))]
-fn truth(word: &[u8]) -> Option<bool>
-    ensures { result ≡ words.truth word.now }
+#[tactic(auto, unfolding(crate::specs::ReservedWords::bool_word))]
+fn bool_word(word: &[u8]) -> Option<bool>
+    ensures { result ≡ words.bool_word word.now }
 {
     lookup(&TRUTHS, word)
 }
 
-/// The token that a reserved word is; none where the word is not reserved.
+/// The token that a reserved word is; none if the word is not reserved.
 pub fn reserved(word: &[u8]) -> Option<TokenKind>
     ensures { result ≡ words.reserved word.now }
 {
@@ -201,7 +201,7 @@ pub fn reserved(word: &[u8]) -> Option<TokenKind>
     if let Some(kind) = elementary(word) {
         return Some(TokenKind::Elementary(kind));
     }
-    match truth(word) {
+    match bool_word(word) {
         Some(truth) => Some(TokenKind::Truth(truth)),
         None => None,
     }

@@ -2,7 +2,7 @@
 
 ghost use Rattle.std.specs.Prelude.{◌≡◌, ◌≤◌, ◌<◌, length, List, IfOk, IfErr};
 ghost use Rattle.st_lex.specs.declared.token.Token.{Token};
-ghost use Rattle.st_lex.specs.Texts.{IsSpelledBy, LexErrorApplies, GivesTokens};
+ghost use Rattle.st_lex.specs.Texts.{Lexes, LexErrorApplies, GivesTokens};
 
 use crate::fault::LexError;
 use crate::front::{Front, read_front};
@@ -12,15 +12,15 @@ use std::alloc::Global;
 
 /// The tokens of a text, in order.
 ///
-/// L5 comes where the text is longer than 1,048,576 bytes, else the first of the faults L1 to L4 by place, or L6 where
-/// memory runs out.
+/// L5 if the text is longer than 1,048,576 bytes, else the first of the faults L1 to L4 by place, or L6 if an
+/// allocation fails.
 pub fn lex(alloc: Global, text: &[u8]) -> Result<Vec<Token>, LexError>
-    // What is read is spelled so.
-    ensures found { IfOk result (λ tokens. IsSpelledBy text.now tokens.items) }
+    // The tokens that are read spell the text.
+    ensures found { IfOk result (λ tokens. Lexes text.now tokens.items) }
     // A refusal applies, at its place.
     ensures refused { IfErr result (λ e. LexErrorApplies text.now e) }
-    // What is spelled so is read, unless memory runs out.
-    ensures only { (tokens : List Token) → IsSpelledBy text.now tokens → GivesTokens result tokens }
+    // Tokens that spell the text are read, unless an allocation fails.
+    ensures only { (tokens : List Token) → Lexes text.now tokens → GivesTokens result tokens }
 {
     if text.len() > MAX_SOURCE_BYTES {
         return Err(LexError::TooLong);

@@ -1,9 +1,9 @@
 //! Tokens of a text in Structured Text, from its bytes.
 //!
-//! Tokens stand in order, and each is what its slice spells. A text has tokens or a first fault, never both.
+//! Tokens are in order, and each is spelled by its slice. A text has tokens or a first fault, never both.
 //!
-//! Above what a word may be stands its production: `a, b` is a and then b, `a | b` one of the two, `[ a ]` a or
-//! nothing, `{ a }` any number of a. What is quoted stands there so, in letters of either case.
+//! A production is above the code for each kind of word: `a, b` is a and then b, `a | b` one of the two, `[ a ]` a or
+//! nothing, `{ a }` any number of a. Quoted text stands for itself, in letters of either case.
 #![tactic(auto)]
 
 mod address;

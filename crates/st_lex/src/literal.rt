@@ -11,16 +11,16 @@ use crate::token::TokenKind;
 
 const TRUTHS: [(&[u8], bool); 2] = [(b"BOOL#0", false), (b"BOOL#1", true)];
 
-/// `truth = "BOOL#0" | "BOOL#1" .`
-#[tactic(auto, unfolding(crate::specs::Literals::truth))]
-fn truth(word: &[u8]) -> Option<bool>
-    ensures { result ≡ literals.truth word.now }
+/// `bool_literal = "BOOL#0" | "BOOL#1" .`
+#[tactic(auto, unfolding(crate::specs::Literals::bool_literal))]
+fn bool_literal(word: &[u8]) -> Option<bool>
+    ensures { result ≡ literals.bool_literal word.now }
 {
     lookup(&TRUTHS, word)
 }
 
-/// `literal = whole_number | truth | duration | address .`
-/// The literal or address that the word is.
+/// `literal = whole_number | bool_literal | duration | address .`
+/// The word as a literal or an address.
 #[tactic(auto, unfolding(crate::specs::Literals::literal))]
 pub fn literal(word: &[u8]) -> Option<TokenKind>
     ensures { result ≡ literals.literal word.now }
@@ -28,7 +28,7 @@ pub fn literal(word: &[u8]) -> Option<TokenKind>
     if let Some(number) = whole_number(word) {
         return Some(TokenKind::Number(number));
     }
-    if let Some(truth) = truth(word) {
+    if let Some(truth) = bool_literal(word) {
         return Some(TokenKind::Truth(truth));
     }
     if let Some(milliseconds) = duration(word) {

@@ -8,7 +8,7 @@ use crate::front::Front;
 use crate::keyword::Keyword;
 use crate::token::TokenKind;
 
-/// A mark. `&` is no mark but another spelling of AND.
+/// A mark. `&` isn't a mark but another spelling of AND.
 #[derive(Clone, Copy, Debug, PartialEq, Eq)]
 pub enum Mark {
     /// `:=`
@@ -108,7 +108,7 @@ fn read_mark(found: Option<(Mark, usize)>) -> Front
     }
 }
 
-/// What a text begins with that begins with no space, comment or word.
+/// The front of a text that doesn't begin with a space, a comment or a word.
 pub fn mark_front(text: &[u8]) -> Front
     ensures { result ≡ marks.mark_front text.now }
 {

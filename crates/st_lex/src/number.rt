@@ -80,7 +80,7 @@ fn numeral(base: u64, word: &[u8]) -> Option<u64>
     value(base, word)
 }
 
-/// How many bytes stand before the first `#`.
+/// How many bytes come before the first `#`.
 fn to_hash(word: &[u8]) -> usize
     ensures value { result ≡ length (numbers.before_hash word.now) }
     ensures bound { result ≤ length word.now }
@@ -94,8 +94,8 @@ pub fn before_hash(word: &[u8]) -> &[u8]
     &word[..to_hash(word)]
 }
 
-pub fn behind_hash(word: &[u8]) -> &[u8]
-    ensures { result.now ≡ numbers.behind_hash word.now }
+pub fn after_hash(word: &[u8]) -> &[u8]
+    ensures { result.now ≡ numbers.after_hash word.now }
 {
     let end = to_hash(word);
     if end < word.len() {
@@ -113,7 +113,7 @@ fn based(word: &[u8]) -> Option<u64>
     ensures { result ≡ numbers.based word.now }
 {
     match lookup(&BASES, before_hash(word)) {
-        Some(base) => numeral(base, behind_hash(word)),
+        Some(base) => numeral(base, after_hash(word)),
         None => None,
     }
 }
@@ -129,7 +129,7 @@ fn magnitude(word: &[u8]) -> Option<u64>
     }
 }
 
-/// Its values are whole numbers or bit strings.
+/// Whether its values are whole numbers or bit strings.
 fn is_whole(kind: Kind) -> bool
     ensures { result ≡ numbers.is_whole (row_of kind).sort }
 {
@@ -159,7 +159,7 @@ fn with_type(kind: Option<Kind>, magnitude: Option<u64>) -> Option<WholeNumber>
 fn typed(word: &[u8]) -> Option<WholeNumber>
     ensures { result ≡ numbers.typed word.now }
 {
-    with_type(elementary(before_hash(word)), magnitude(behind_hash(word)))
+    with_type(elementary(before_hash(word)), magnitude(after_hash(word)))
 }
 
 fn untyped(is_decimal: bool, magnitude: u64) -> WholeNumber
@@ -173,7 +173,7 @@ fn untyped(is_decimal: bool, magnitude: u64) -> WholeNumber
 }
 
 /// `whole_number = numeral(10) | based | typed .`
-/// The decimal, based or typed literal that the word is.
+/// The word as a decimal, based or typed literal.
 #[tactic(auto, unfolding(crate::specs::Numbers::whole_number))]
 pub fn whole_number(word: &[u8]) -> Option<WholeNumber>
     ensures { result ≡ numbers.whole_number word.now }

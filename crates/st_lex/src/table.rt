@@ -11,7 +11,7 @@ pub fn same_word(this: &[u8], that: &[u8]) -> bool
     this.eq_ignore_ascii_case(that)
 }
 
-/// What stands beside the word in a table; none where the table has no such word.
+/// The entry for the word in a table; none if the table has no such word.
 pub fn lookup<T: Copy>(mut table: &[(&[u8], T)], word: &[u8]) -> Option<T>
     ensures { result ≡ tables.lookup (map (λ row. (row.0.now, row.1)) table.entry.now) word.now }
 {

@@ -14,7 +14,7 @@ pub enum TimeUnit {
 }
 
 impl TimeUnit {
-    /// How many milliseconds one is.
+    /// The length of one in milliseconds.
     pub fn length(self) -> u64
         ensures { result ≡ (unit_row self).milliseconds }
     {
@@ -27,7 +27,7 @@ impl TimeUnit {
         }
     }
 
-    /// Below how many of it a part must be that is not the first. A day's is never looked at.
+    /// The limit for the number of a part that isn't the first. That of a day is never used.
     pub fn limit(self) -> u64
         ensures { result ≡ (unit_row self).limit }
     {

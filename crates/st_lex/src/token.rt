@@ -14,9 +14,9 @@ pub struct WholeNumber {
     pub is_decimal: bool,
 }
 
-/// What a token is. Spellings of one thing are one kind.
+/// The kind of a token. Spellings of one thing are one kind.
 pub enum TokenKind {
-    /// A name that is no reserved word, in upper case.
+    /// A name that isn't a reserved word, in upper case.
     Name(Name),
     /// The name of an elementary type.
     Elementary(Kind),
@@ -29,8 +29,8 @@ pub enum TokenKind {
     /// A duration in milliseconds, at most 9,223,372,036,854,775,807.
     Duration(u64),
     Address(Address),
-    /// A value of an enumerated type, as in `Mode#Fault`: the type's name and its own, each no reserved word, in upper
-    /// case.
+    /// A value of an enumerated type, as in `Mode#Fault`: the type's name and its own, neither of them a reserved word,
+    /// in upper case.
     Enumerated(Name, Name),
 }
 
@@ -50,7 +50,7 @@ impl Drop for TokenKind {
     }
 }
 
-/// A token, and where it stands in the text.
+/// A token, and its place in the text.
 pub struct Token {
     pub kind: TokenKind,
     /// The offset of its first byte.

@@ -11,7 +11,7 @@ use crate::fault::LexFault;
 use crate::front::Front;
 use crate::keyword::reserved;
 use crate::literal::literal;
-use crate::number::{before_hash, behind_hash};
+use crate::number::{after_hash, before_hash};
 use crate::token::TokenKind;
 use st_types::limits::MAX_NAME_LENGTH;
 use st_types::{Name, is_spaced};
@@ -25,7 +25,7 @@ fn run_length(text: &[u8]) -> usize
 }
 
 /// `word = [ "%" ], character, { character } .`
-/// How many bytes the word in front has, 0 where there is none.
+/// How many bytes the word in front has, 0 if there is none.
 pub fn word_length(text: &[u8]) -> usize
     ensures value { result ≡ words.word_length text.now }
     ensures bound { result ≤ length text.now }
@@ -75,7 +75,7 @@ fn named(alloc: Global, word: &[u8]) -> Result<TokenKind, AllocError>
     }
 }
 
-/// An identifier that is no reserved word.
+/// Whether it is an identifier that isn't a reserved word.
 fn is_name(word: &[u8]) -> bool
     ensures { result ≡ words.is_name word.now }
 {
@@ -94,7 +94,7 @@ fn begins_duration(word: &[u8]) -> bool
 fn enumerated(alloc: Global, word: &[u8]) -> Result<Option<TokenKind>, AllocError>
     ensures { IfOk result (λ kind. kind ≡ words.enumerated word.now) }
 {
-    let (type_name, name) = (before_hash(word), behind_hash(word));
+    let (type_name, name) = (before_hash(word), after_hash(word));
     if !is_name(type_name) || !is_name(name) || begins_duration(word) {
         return Ok(None);
     }
@@ -120,7 +120,7 @@ fn literal_front(alloc: Global, word: &[u8]) -> Result<Front, AllocError>
     }
 }
 
-/// What a word is.
+/// The front that a word is.
 #[tactic(auto, unfolding(crate::specs::Words::word_front))]
 pub fn word_front(alloc: Global, word: &[u8]) -> Result<Front, AllocError>
     ensures { IfOk result (λ front. front ≡ words.word_front word.now) }

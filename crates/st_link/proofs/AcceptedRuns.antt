@@ -1,4 +1,4 @@
--- What the law of whole runs asks is so of each instance in a text that has a plan.
+-- The premises of the law of whole runs hold for each instance in a text that has a plan.
 use Rattle.std.proofs.Common.{◌≡◌, ℕ, suc, ◌==◌, Bool, true, false, List, [], ◌∷◌, length, Option, Some, None, refl}
 use Rattle.std.proofs.Common.{ap, ◌∙◌, arith}
 use Rattle.std.specs.Prelude.{is_some}
@@ -19,9 +19,9 @@ use Rattle.st_rules.specs.ConfigurationRules.{are_known}
 use Rattle.st_rules.specs.Rules.{IsWellTyped}
 use Rattle.st_link.specs.UnitSoundness.{IsMoment}
 use Rattle.layout.specs.LayoutVariables.{owner_in, configurations_in, only_configuration}
-use Rattle.layout.proofs.ListLemmas.{both}
 use Rattle.st_link.specs.Homes.{IsAmong, here, further_on}
 use Rattle.st_link.specs.WellTypedRuns.{HaveFunctionsNoExternals, HasRuns}
+use Rattle.std.proofs.lemmas.Bool.{and_parts}
 
 same_configurations : (source : Source) → statics.configurations_in source ≡ configurations_in source
 same_configurations [] = refl
@@ -48,8 +48,8 @@ one_configuration source =
 
 all_among : {A : Type 0} (test : A → Bool) {a : A} (xs : List A) → IsAmong a xs → list_all test xs ≡ true → test a ≡ true
 all_among test [] k h = elim k [ ]
-all_among test (x ∷ xs) here h = (both (test x) (list_all test xs) h).0
-all_among test (x ∷ xs) (further_on k) h = all_among test xs k (both (test x) (list_all test xs) h).1
+all_among test (x ∷ xs) here h = (and_parts (test x) (list_all test xs) h).0
+all_among test (x ∷ xs) (further_on k) h = all_among test xs k (and_parts (test x) (list_all test xs) h).1
 
 module _ (source : Source) (c : Configuration) (r : Resource) (i : Instance) (now : ℕ) where
   abbrev text : Declared
@@ -59,12 +59,12 @@ module _ (source : Source) (c : Configuration) (r : Resource) (i : Instance) (no
       → only_configuration (configurations_in source) ≡ Some c → are_known text c ≡ true → IsAmong r c.resources
       → IsAmong i r.instances → IsMoment now → HasRuns source (owner_in r.name.name i) now
   instance_has_runs right functions only known in_text in_resource moment =
-      let parts = both (list_all (has_known_externals text c.globals) text.units)
+      let parts = and_parts (list_all (has_known_externals text c.globals) text.units)
       (list_all (is_known_resource text c.globals) c.resources) known in
-      let instances = both (list_all (is_known_instance text r.tasks) r.instances)
+      let instances = and_parts (list_all (is_known_instance text r.tasks) r.instances)
       (list_all (λ t. is_known_single text c.globals t.single) r.tasks)
       (all_among (is_known_resource text c.globals) c.resources in_text parts.1) in
-      let program = both (is_known_task r.tasks i.task) (is_program_unit (unit_named text.units i.program.name))
+      let program = and_parts (is_known_task r.tasks i.task) (is_program_unit (unit_named text.units i.program.name))
       (all_among (is_known_instance text r.tasks) r.instances in_resource instances.0) in
       by_unit parts.0 (unit_named text.units i.program.name) refl program.1
     where

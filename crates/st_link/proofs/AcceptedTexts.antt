@@ -1,4 +1,4 @@
--- A text that breaks no rule has tables that are those of the definitions.
+-- A text that breaks no rule has tables that agree with the definitions.
 use Rattle.std.proofs.Common.{◌≡◌, refl, sym, ap, ap₂, subst, ◌∙◌, ◌≤◌, List, [], ◌∷◌, ◌++◌, map, length, true}
 use Rattle.std.proofs.Common.{◌&&◌, if◌then◌else◌, Some, None}
 use Rattle.std.specs.Prelude.{option_map, not}
@@ -45,36 +45,36 @@ use Rattle.st_link.specs.LinkVariables.{variables_by_sort, variables_declared, v
 use Rattle.st_link.specs.LinkVariables.{variables_of_globals}
 use Rattle.st_link.specs.LinkVariables.{variables_of_names}
 use Rattle.st_link.specs.Orderly.{IsOrderlySource, globals_in}
-use Rattle.st_link.proofs.FirstSlotLemmas.{both_hold, both_hold_back}
 use Rattle.st_link.proofs.OwnerLemmas.{owners_different}
 use Rattle.st_link.proofs.SiteLemmas.{sites_seen}
+use Rattle.std.proofs.lemmas.Bool.{and_parts, and_from}
 
--- no two parts of a type have one name
+-- no two parts of a type have the same name
 pub type_sound : (text : Declared) → are_types_and_units_different text ≡ true → (t : VariableType)
     → is_sound (shape_of_type text t) ≡ true
 type_sound text differ t =
     let d : NamedSite = record { name = []; site = record { declared = t; initial = None; retentions = [] } } in
-    (both_hold (is_sound (shape_of_type text t)) true (variables_once text differ (d ∷ []) refl)).0
+    (and_parts (is_sound (shape_of_type text t)) true (variables_once text differ (d ∷ []) refl)).0
 
 whole_by : (text : Declared) → are_types_and_units_different text ≡ true → (v : LinkVariable)
     → is_within_depth MAX_TYPE_DEPTH text v.declared ≡ true → is_whole text v ≡ true
 whole_by text differ v deep =
-    both_hold_back (is_within_depth MAX_TYPE_DEPTH text v.declared) (is_sound (shape_of_type text v.declared)) deep
+    and_from (is_within_depth MAX_TYPE_DEPTH text v.declared) (is_sound (shape_of_type text v.declared)) deep
     (type_sound text differ v.declared)
 
 append_whole : (text : Declared) (vs ws : List LinkVariable) → are_whole text vs ≡ true → are_whole text ws ≡ true
     → are_whole text (vs ++ ws) ≡ true
 append_whole text [] ws a b = b
 append_whole text (v ∷ vs) ws a b =
-    let c = both_hold (is_whole text v) (are_whole text vs) a in
-    both_hold_back (is_whole text v) (are_whole text (vs ++ ws)) c.0 (append_whole text vs ws c.1 b)
+    let c = and_parts (is_whole text v) (are_whole text vs) a in
+    and_from (is_whole text v) (are_whole text (vs ++ ws)) c.0 (append_whole text vs ws c.1 b)
 
 named_whole : (text : Declared) → are_types_and_units_different text ≡ true → (t : VariableType)
     → is_within_depth MAX_TYPE_DEPTH text t ≡ true → (xs : List Identifier)
     → are_whole text (map (named_so t) xs) ≡ true
 named_whole text differ t deep [] = refl
 named_whole text differ t deep (x ∷ xs) =
-    both_hold_back (is_whole text (named_so t x)) (are_whole text (map (named_so t) xs))
+    and_from (is_whole text (named_so t x)) (are_whole text (map (named_so t) xs))
     (whole_by text differ (named_so t x) deep) (named_whole text differ t deep xs)
 
 names_whole : (text : Declared) → are_types_and_units_different text ≡ true → (t : VariableType)
@@ -82,7 +82,7 @@ names_whole : (text : Declared) → are_types_and_units_different text ≡ true 
     → are_whole text (variables_of_names t names) ≡ true
 names_whole text differ t deep (located x a) =
     let v = named_so t x in
-    both_hold_back (is_within_depth MAX_TYPE_DEPTH text t && is_sound (shape_of_type text t)) true
+    and_from (is_within_depth MAX_TYPE_DEPTH text t && is_sound (shape_of_type text t)) true
     (whole_by text differ v deep) refl
 names_whole text differ t deep (listed xs) = named_whole text differ t deep xs
 
@@ -91,10 +91,10 @@ sites_whole : (text : Declared) → are_types_and_units_different text ≡ true 
     → (ds : List NamedSite) → list_all (is_orderly text externals) ds ≡ true → are_whole text (map of_site ds) ≡ true
 sites_whole text differ externals [] h = refl
 sites_whole text differ externals (d ∷ ds) h =
-    let a = both_hold (is_orderly text externals d) (list_all (is_orderly text externals) ds) h in
-    let b = both_hold (not (contains_name externals d.name))
+    let a = and_parts (is_orderly text externals d) (list_all (is_orderly text externals) ds) h in
+    let b = and_parts (not (contains_name externals d.name))
     (is_within_depth MAX_TYPE_DEPTH text d.site.declared) a.0 in
-    both_hold_back (is_whole text (of_site d)) (are_whole text (map of_site ds)) (whole_by text differ (of_site d) b.1)
+    and_from (is_whole text (of_site d)) (are_whole text (map of_site ds)) (whole_by text differ (of_site d) b.1)
     (sites_whole text differ externals ds a.1)
 
 blocks_whole : (text : Declared) → are_types_and_units_different text ≡ true → (u : OrganisationUnit)
@@ -103,7 +103,7 @@ blocks_whole text differ u h =
     ap (are_whole text) (sym (sites_seen u.blocks))
     ∙ sites_whole text differ (externals_in u.blocks) (sites_of_blocks u.blocks) h
 
--- the configuration stands in the text
+-- the configuration is in the text
 only_one : (cs : List Configuration) (c : Configuration) → only_configuration cs ≡ Some c → Among c cs
 only_one [] c h = absurd (cc)
 only_one (d ∷ []) c h = let same : d ≡ c = cc in subst (λ e. Among c (e ∷ [])) (sym same) here
@@ -185,7 +185,7 @@ module _ (source : Source) (h : IsWellTyped source) where
             → are_whole whole (variables_of_blocks (resolved text u).blocks) ≡ true
             → are_whole whole (variables_by_sort s (resolved text u)) ≡ true
         by_sort (sorts.Function r) sort own =
-            both_hold_back (is_whole whole (result_of u.name.name r))
+            and_from (is_whole whole (result_of u.name.name r))
             (are_whole whole (variables_of_blocks (resolved text u).blocks))
             (whole_by whole differ (result_of u.name.name r) (result_deep u r unit sort)) own
         by_sort sorts.FunctionBlock sort own = own
@@ -196,9 +196,9 @@ module _ (source : Source) (h : IsWellTyped source) where
         → list_all (is_whole_unit whole) (map (resolved text) us) ≡ true
     all_units [] among g = refl
     all_units (u ∷ us) among g =
-        let a = both_hold (has_orderly_variables whole (resolved text u))
+        let a = and_parts (has_orderly_variables whole (resolved text u))
         (list_all (has_orderly_variables whole) (map (resolved text) us)) g in
-        both_hold_back (is_whole_unit whole (resolved text u)) (list_all (is_whole_unit whole) (map (resolved text) us))
+        and_from (is_whole_unit whole (resolved text u)) (list_all (is_whole_unit whole) (map (resolved text) us))
         (one_unit u (unit_in source u (among u here)) a.0)
         (all_units us (λ v k. among v (later k)) a.1)
 
@@ -207,7 +207,7 @@ module _ (source : Source) (h : IsWellTyped source) where
       → ((sh : Shape) → length (leaves_of sh) ≡ size sh) → length (slots_of_text source) ≤ MAX_PATHS
       → IsOrderlySource (resolved_source source)
   accepted_orderly c only names units count room =
-      let n = both_hold (are_types_and_units_different (declared_of source))
+      let n = and_parts (are_types_and_units_different (declared_of source))
       (is_configuration_different (configuration_of source)) names in
       let taken = text_taken source in
       let differ : are_types_and_units_different whole ≡ true =

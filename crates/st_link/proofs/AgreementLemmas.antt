@@ -1,4 +1,4 @@
--- The values of a layout's slots agree with what a unit declares.
+-- The values of a layout's slots agree with a unit's declarations.
 use Rattle.std.proofs.Common.{◌≡◌, ℕ, zero, suc, ◌+◌, Bool, true, false, ◌&&◌, ◌||◌, if◌then◌else◌, List, [], ◌∷◌, ◌++◌}
 use Rattle.std.proofs.Common.{length, slice_get, Option, Some, None, option_and_then, sym, ap, ◌∙◌}
 use Rattle.std.proofs.Common.{ℤ}
@@ -14,32 +14,34 @@ use Rattle.st_types.specs.declared.data_type.VariableType.{VariableType}
 use Rattle.st_meaning.specs.Evaluation.{known, element_at}
 use Rattle.st_meaning.specs.NameTypes.{Declared, definition_of, kind_among}
 use Rattle.st_meaning.specs.Scopes.{Name, Scope, member_at, seen}
-use Rattle.st_meaning.specs.Slots.{Slot, IsLayout, variables_in, inputs_in}
+use Rattle.st_meaning.specs.Slots.{Slot, IsLayout, variables_with, inputs_in}
 use Rattle.st_meaning.specs.Stores.{Store, get, has_part}
 use Rattle.st_meaning.proofs.SlotLemmas.{seen_slot}
 use Rattle.st_rules.specs.Environments.{Environment, section_of}
 use Rattle.st_rules.specs.TargetRules.{is_fixed}
+use Rattle.st_rules.specs.TypeRules.{elements_of_array}
 use Rattle.st_link.specs.Soundness.{HasKind, IsPlace, root, part, element, Agrees}
 use Rattle.layout.specs.Shapes.{Shape, plain, array, parts, in_bounds, leads_on, part_named}
 use Rattle.layout.specs.Types.{NamedSite, Site, site_named, of_kind}
-use Rattle.layout.specs.Types.{defined_composition, composition_of, lower_of, count_of, element_of, parts_of}
+use Rattle.layout.specs.Types.{defined_composition, composition_of, lower_of, element_of, parts_of}
 use Rattle.layout.specs.Types.{composed_shape, shape_within, parts_within, is_within_depth}
 use Rattle.layout.specs.LayoutVariables.{Owned}
 use Rattle.layout.specs.TextLayouts.{further, variable_shape, slots_of}
-use Rattle.layout.specs.Standing.{path_to, are_declared_once, has_slot_within, slot, Stands}
-use Rattle.layout.proofs.ListLemmas.{both, some_is}
+use Rattle.layout.specs.VariableSlots.{path_to, are_declared_once, has_slot_within, slot, LiesAt}
 use Rattle.layout.proofs.VariableLemmas.{variables_layout, variable_stands}
-use Rattle.st_link.specs.Homes.{shape_behind, IsHome, HasHomes, are_names_different, AreValuesOf}
+use Rattle.st_link.specs.Homes.{shape_at_steps, IsLayoutPart, HaveSlots, are_names_different, AreValuesOf}
 use Rattle.st_link.proofs.ShapeLemmas.{leaf_has, leads_behind, behind_step}
 use Rattle.st_link.proofs.SeenLemmas.{value_at, same_length, variable_there, parts_by_slots}
 use Rattle.st_link.proofs.SoundMembers.{IsPart, IsArray, member_part, element_part}
+use Rattle.st_types.proofs.OptionLemmas.{some_is}
+use Rattle.std.proofs.lemmas.Bool.{and_parts}
 
 -- one of a list that passes
 listed : (within : VariableType → Bool) (ds : List NamedSite) (x : Name) (s : Site)
     → list_all (λ d. within d.site.declared) ds ≡ true → site_named ds x ≡ Some s → within s.declared ≡ true
 listed within [] x s all h = absurd (cc)
 listed within (d ∷ ds) x s all h =
-    let b = both (within d.site.declared) (list_all (λ d. within d.site.declared) ds) all in
+    let b = and_parts (within d.site.declared) (list_all (λ d. within d.site.declared) ds) all in
     by_test (bytes_eq x d.name) h b.0 (listed within ds x s b.1)
   where
     by_test : (b : Bool) → (if b then Some d.site else site_named ds x) ≡ Some s → within d.site.declared ≡ true
@@ -58,11 +60,11 @@ shape_named inner (d ∷ ds) x s h = by_test (bytes_eq x d.name) h (shape_named 
     by_test true e ih = let q : d.site ≡ s = some_is e in ap (λ u. Some (inner u.declared)) q
     by_test false e ih = ih e
 
--- what stands behind a step, of a type that is at most so many deep
+-- the part after a step, of a type that is at most `n` deep
 pub record IsBehind (text : Declared) (sub : Shape) (x : Step) (u : VariableType) : Type 0 where
   pub depth : ℕ
   pub within : is_within_depth depth text u ≡ true
-  pub shape : shape_behind sub (x ∷ []) ≡ Some (shape_within depth text u)
+  pub shape : shape_at_steps sub (x ∷ []) ≡ Some (shape_within depth text u)
 
 pub behind_member : (text : Declared) (t : VariableType) (y : Name) (u : VariableType) → IsPart text t y u → (n : ℕ)
     → is_within_depth n text t ≡ true → IsBehind text (shape_within n text t) (Member y) u
@@ -78,8 +80,8 @@ behind_member text t y u i (suc n) h =
     record {
       depth = n;
       within = ap (is_within_depth n text) (sym d) ∙ listed (is_within_depth n text) i.sites y i.own a i.named;
-      shape = ap (λ sh. shape_behind sh (Member y ∷ [])) s
-          ∙ ap (option_and_then (λ sh. shape_behind sh [])) (shape_named (shape_within n text) i.sites y i.own i.named)
+      shape = ap (λ sh. shape_at_steps sh (Member y ∷ [])) s
+          ∙ ap (option_and_then (λ sh. shape_at_steps sh [])) (shape_named (shape_within n text) i.sites y i.own i.named)
           ∙ ap (λ v. Some (shape_within n text v)) d;
     }
 
@@ -92,18 +94,18 @@ behind_element text t z u i (suc n) h g =
     let a : is_within_depth n text (element_of i.array) ≡ true =
     ap (parts_within (is_within_depth n text)) (sym i.composition) ∙ h in
     let s : composed_shape (shape_within n text) (composition_of text t)
-    ≡ array (lower_of i.array) (count_of i.array) (shape_within n text (element_of i.array)) =
+    ≡ array (lower_of i.array) (elements_of_array i.array) (shape_within n text (element_of i.array)) =
     ap (composed_shape (shape_within n text)) i.composition in
-    let l : (in_bounds (lower_of i.array) (count_of i.array) z
+    let l : (in_bounds (lower_of i.array) (elements_of_array i.array) z
     && leads_on (shape_within n text (element_of i.array)) []) ≡ true =
     ap (λ sh. leads_on sh (Element z ∷ [])) (sym s) ∙ g in
-    let b = (both (in_bounds (lower_of i.array) (count_of i.array) z)
+    let b = (and_parts (in_bounds (lower_of i.array) (elements_of_array i.array) z)
     (leads_on (shape_within n text (element_of i.array)) []) l).0 in
     let d = i.element in
     record {
       depth = n;
       within = ap (is_within_depth n text) (sym d) ∙ a;
-      shape = ap (λ sh. shape_behind sh (Element z ∷ [])) s
+      shape = ap (λ sh. shape_at_steps sh (Element z ∷ [])) s
           ∙ ap (λ c. if c then Some (shape_within n text (element_of i.array)) else None) b
           ∙ ap (λ v. Some (shape_within n text v)) d;
     }
@@ -119,12 +121,12 @@ behind_kind text t k e (suc n) h =
 module _ (env : Environment) (variables : List Owned) (w : Scope) (vs : List Datum)
     (names : are_names_different env.text ≡ true) (once : are_declared_once env.text variables ≡ true)
     (values : AreValuesOf (slots_of env.text variables) vs)
-    (image : w.image ≡ inputs_in (slots_of env.text variables) vs) (homes : HasHomes env variables w) where
+    (image : w.image ≡ inputs_in (slots_of env.text variables) vs) (homes : HaveSlots env variables w) where
   abbrev layout : List Slot
   layout = slots_of env.text variables
 
   abbrev store : Store
-  store = variables_in (slots_of env.text variables) vs
+  store = variables_with (slots_of env.text variables) vs
 
   distinct : IsLayout layout
   distinct = variables_layout env.text variables once
@@ -132,14 +134,14 @@ module _ (env : Environment) (variables : List Owned) (w : Scope) (vs : List Dat
   len : length layout ≡ length vs
   len = same_length layout vs values
 
-  stands : {f : Bool} {p : Path} {t : VariableType} (h : IsHome env.text variables f p t)
-      → Stands layout h.variable.is_input (path_to h.owner h.name) (variable_shape env.text h.variable) h.first
+  stands : {f : Bool} {p : Path} {t : VariableType} (h : IsLayoutPart env.text variables f p t)
+      → LiesAt layout h.variable.is_input (path_to h.owner h.name) (variable_shape env.text h.variable) h.first
   stands h = variable_stands env.text variables once h.owner h.name h.first h.variable h.there
 
   -- one step further in
-  next : {f : Bool} {p : Path} {t : VariableType} (h : IsHome env.text variables f p t) (x : Step) (q : Path)
+  next : {f : Bool} {p : Path} {t : VariableType} (h : IsLayoutPart env.text variables f p t) (x : Step) (q : Path)
       (u : VariableType) → q ≡ further (path_to h.owner h.name) (h.steps ++ x ∷ [])
-      → IsBehind env.text (shape_within h.depth env.text t) x u → IsHome env.text variables f q u
+      → IsBehind env.text (shape_within h.depth env.text t) x u → IsLayoutPart env.text variables f q u
   next {f} {p} {t} h x q u e b = record {
     owner = h.owner;
     name = h.name;
@@ -155,7 +157,7 @@ module _ (env : Environment) (variables : List Owned) (w : Scope) (vs : List Dat
         (shape_within b.depth env.text u) h.steps x h.shape b.shape;
   }
 
-  leads_there : {f : Bool} {p : Path} {t : VariableType} (h : IsHome env.text variables f p t) (z : ℤ)
+  leads_there : {f : Bool} {p : Path} {t : VariableType} (h : IsLayoutPart env.text variables f p t) (z : ℤ)
       → (has_part w.image (element_at p z) || has_part store (element_at p z)) ≡ true
       → leads_on (shape_within h.depth env.text t) (Element z ∷ []) ≡ true
   leads_there {f} {p} {t} h z g =
@@ -169,7 +171,7 @@ module _ (env : Environment) (variables : List Owned) (w : Scope) (vs : List Dat
       ∙ sym ((stands h).only (h.steps ++ Element z ∷ [])) ∙ ap (has_slot_within layout) (sym e) ∙ a
 
   home_of : {x : Name} {p : Path} {t : VariableType} → IsPlace env w store x p t
-      → IsHome env.text variables (is_fixed (section_of env x)) p t
+      → IsLayoutPart env.text variables (is_fixed (section_of env x)) p t
   home_of (root {t} x e) = homes x t e
   home_of (part {x} {p} {t} {u} y place e) =
       let h = home_of place in
@@ -189,7 +191,7 @@ module _ (env : Environment) (variables : List Owned) (w : Scope) (vs : List Dat
     kind : slot.kind ≡ k
     free : fixed ≡ false → slot.is_input ≡ false
 
-  slot_of_home : {f : Bool} {p : Path} {t : VariableType} (h : IsHome env.text variables f p t) (k : Kind)
+  slot_of_home : {f : Bool} {p : Path} {t : VariableType} (h : IsLayoutPart env.text variables f p t) (k : Kind)
       → kind_among env.text.types t ≡ Some k → HasSlotOf p f k
   slot_of_home {f} {p} {t} h k e =
       let i = leaf_has (variable_shape env.text h.variable) h.steps k
@@ -206,7 +208,7 @@ module _ (env : Environment) (variables : List Owned) (w : Scope) (vs : List Dat
   known_value : (o : Option Datum) (v : Datum) → o ≡ Some v → holds v.kind v.number ≡ true → known o ≡ Some v
   known_value o v e h = ap known e ∙ ap (λ b. if b then Some v else None) h
 
-  seen_home : {f : Bool} {p : Path} {t : VariableType} (h : IsHome env.text variables f p t) (k : Kind)
+  seen_home : {f : Bool} {p : Path} {t : VariableType} (h : IsLayoutPart env.text variables f p t) (k : Kind)
       → kind_among env.text.types t ≡ Some k → HasKind (known (seen w.image store p)) k
   seen_home {f} {p} {t} h k e =
       let l = slot_of_home h k e in
@@ -221,7 +223,7 @@ module _ (env : Environment) (variables : List Owned) (w : Scope) (vs : List Dat
         is_of = record { kind = o.kind ∙ l.kind; held = o.held };
       }
 
-  pub stored_home : {f : Bool} {p : Path} {t : VariableType} (h : IsHome env.text variables f p t) (k : Kind) → f ≡ false
+  pub stored_home : {f : Bool} {p : Path} {t : VariableType} (h : IsLayoutPart env.text variables f p t) (k : Kind) → f ≡ false
       → kind_among env.text.types t ≡ Some k → HasKind (get store p) k
   stored_home {f} {p} {t} h k free e =
       let l = slot_of_home h k e in

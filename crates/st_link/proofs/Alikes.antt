@@ -2,35 +2,35 @@
 use Rattle.std.proofs.Common.{◌≡◌, refl, subst, ℕ, List, [], ◌∷◌, ◌++◌}
 use Rattle.std.proofs.Common.{Result, Ok, Err}
 use Rattle.st_types.specs.declared.fault.Fault.{Fault}
-use Rattle.st_meaning.specs.Failures.{Failure, fails, valueless, ill_typed, StandIns, failing}
+use Rattle.st_meaning.specs.Failures.{Failure, fails, valueless, ill_typed, StuckFaults, failing}
 use Rattle.st_meaning.specs.Ticks.{Run, follow, attempt}
-use Rattle.st_link.specs.Soundness.{Alike}
+use Rattle.st_link.specs.Soundness.{EndsAlikeIn}
 
--- one part behind another
+-- one part after another
 pub alike_then : {A B : Type 0} (P : A → Type 0) (Q : B → Type 0) (x y : Result (A × ℕ) Fault) (f g : A → Run B)
-    → Alike P x y → ((a : A) (b : ℕ) → P a → Alike Q (f a b) (g a b)) → Alike Q (follow x f) (follow y g)
-alike_then P Q (Ok r) (Ok q) f g h k = subst (λ z. Alike Q (f r.0 r.1) (g z.0 z.1)) h.0 (k r.0 r.1 h.1)
+    → EndsAlikeIn P x y → ((a : A) (b : ℕ) → P a → EndsAlikeIn Q (f a b) (g a b)) → EndsAlikeIn Q (follow x f) (follow y g)
+alike_then P Q (Ok r) (Ok q) f g h k = subst (λ z. EndsAlikeIn Q (f r.0 r.1) (g z.0 z.1)) h.0 (k r.0 r.1 h.1)
 alike_then P Q (Err e) (Err e') f g h k = h
 alike_then P Q (Ok r) (Err e) f g h k = absurd h
 alike_then P Q (Err e) (Ok q) f g h k = absurd h
 
 -- the same with another property
-pub alike_as : {A : Type 0} (P Q : A → Type 0) (x y : Result (A × ℕ) Fault) → ((a : A) → P a → Q a) → Alike P x y
-    → Alike Q x y
+pub alike_as : {A : Type 0} (P Q : A → Type 0) (x y : Result (A × ℕ) Fault) → ((a : A) → P a → Q a) → EndsAlikeIn P x y
+    → EndsAlikeIn Q x y
 alike_as P Q (Ok r) (Ok q) f h = (h.0, f r.0 h.1)
 alike_as P Q (Err e) (Err e') f h = h
 alike_as P Q (Ok r) (Err e) f h = absurd h
 alike_as P Q (Err e) (Ok q) f h = absurd h
 
--- What gives something gives a thing with the property, and what fails does so by a fault of the run.
+-- A success has a value with the property, and a failure is a fault of the run.
 abbrev pub Succeeds : {A : Type 0} → (A → Type 0) → Result A Failure → Type 0
 Succeeds P (Ok a) = P a
 Succeeds P (Err (fails f)) = Unit {0}
 Succeeds P (Err valueless) = ⊥
 Succeeds P (Err ill_typed) = ⊥
 
-pub attempted : {A : Type 0} (P : A → Type 0) (i j : StandIns) (r : Result A Failure) (b : ℕ) → Succeeds P r
-    → Alike P (attempt i r b) (attempt j r b)
+pub attempted : {A : Type 0} (P : A → Type 0) (i j : StuckFaults) (r : Result A Failure) (b : ℕ) → Succeeds P r
+    → EndsAlikeIn P (attempt i r b) (attempt j r b)
 attempted P i j (Ok a) b h = (refl, h)
 attempted P i j (Err (fails f)) b h = refl
 attempted P i j (Err valueless) b h = absurd h
@@ -58,12 +58,3 @@ Gives P (Err f) = Unit {0}
 pub failed : {A : Type 0} (P : A → Type 0) (r : Result A Fault) → Gives P r → Succeeds P (failing r)
 failed P (Ok a) h = h
 failed P (Err f) h = tt
-
--- lists of faults that are empty
-pub front_empty : {X : Type 0} (xs ys : List X) → xs ++ ys ≡ [] → xs ≡ []
-front_empty [] ys h = refl
-front_empty (x ∷ xs) ys h = absurd (cc)
-
-pub back_empty : {X : Type 0} (xs ys : List X) → xs ++ ys ≡ [] → ys ≡ []
-back_empty [] ys h = h
-back_empty (x ∷ xs) ys h = absurd (cc)

@@ -1,11 +1,11 @@
--- What stands in a list.
+-- The members of a list.
 use Rattle.std.proofs.Common.{◌≡◌, refl, ◌⊎◌, inl, inr, Bool, true, false, if◌then◌else◌, List, []}
 use Rattle.std.proofs.Common.{◌∷◌, ◌++◌}
 use Rattle.std.specs.Prelude.{map, filter}
 use Rattle.std.specs.List.{flat_map}
 use Rattle.st_types.specs.declared.identifier.Identifier.{Identifier}
 use Rattle.st_rules.specs.Places.{places_where}
-use Rattle.st_link.proofs.Alikes.{front_empty, back_empty}
+use Rattle.st_types.proofs.ListLemmas.{append_first, append_second}
 
 pub data Among {A : Type 0} : A → List A → Type 0 where
   here : {a : A} {rest : List A} → Among a (a ∷ rest)
@@ -33,10 +33,10 @@ pub in_flat : {A B : Type 0} (f : A → List B) {a : A} {b : B} {xs : List A} �
 in_flat f (here {rest = rest}) h = in_front (flat_map f rest) h
 in_flat f (later {b = x} k) h = in_back (f x) (in_flat f k h)
 
--- where a list that is made of others is empty, each is
+-- if a list that is made of others is empty, each of them is
 pub none_of : {A B : Type 0} (f : A → List B) {a : A} {xs : List A} → Among a xs → flat_map f xs ≡ [] → f a ≡ []
-none_of f (here {a = a} {rest = rest}) h = front_empty (f a) (flat_map f rest) h
-none_of f (later {b = x} {rest = rest} k) h = none_of f k (back_empty (f x) (flat_map f rest) h)
+none_of f (here {a = a} {rest = rest}) h = append_first (f a) (flat_map f rest) h
+none_of f (later {b = x} {rest = rest} k) h = none_of f k (append_second (f x) (flat_map f rest) h)
 
 first_not : (wanted : Identifier → Bool) (x : Identifier) (rest : List Identifier) (b : Bool)
     → map (λ (y : Identifier). y.place) (if b then x ∷ rest else rest) ≡ []
@@ -44,7 +44,7 @@ first_not : (wanted : Identifier → Bool) (x : Identifier) (rest : List Identif
 first_not wanted x rest true h = absurd (cc)
 first_not wanted x rest false h = (refl, h)
 
--- where no name of a list passes, none of its names does
+-- if no name of a list passes, none of its members does
 pub none_passes : (wanted : Identifier → Bool) {a : Identifier} {xs : List Identifier} → Among a xs
     → places_where wanted xs ≡ [] → wanted a ≡ false
 none_passes wanted (here {a = a} {rest = rest}) h = (first_not wanted a (filter wanted rest) (wanted a) h).0

@@ -1,4 +1,4 @@
--- Where no name is declared twice, the name of a type is not that of a block.
+-- If no name is declared twice, the name of a type is not that of a block.
 use Rattle.std.proofs.Common.{◌≡◌, refl, sym, ap₂, subst, Bool, true, false, ◌||◌, if◌then◌else◌, List, [], ◌∷◌, ◌++◌, Option}
 use Rattle.std.proofs.Common.{Some, None}
 use Rattle.std.specs.Prelude.{map, filter, is_some, bytes_eq}
@@ -17,9 +17,11 @@ use Rattle.st_rules.specs.Places.{places_where, repeats}
 use Rattle.st_rules.specs.NameScopes.{names_of_element, names_of_text, variables_of_text, scopes_of_element}
 use Rattle.st_rules.specs.TwiceDeclared.{is_standard, is_taken, twice_declared}
 use Rattle.st_rules.specs.Environments.{is_own_block, is_block}
-use Rattle.st_link.proofs.Alikes.{front_empty, back_empty}
 use Rattle.st_link.proofs.Among.{Among, here, later, in_back, in_map, in_flat, none_passes}
 use Rattle.st_link.proofs.FoundNames.{unit_found, unit_in, type_found, type_in_source}
+use Rattle.st_types.proofs.ListLemmas.{append_first, append_second}
+use Rattle.st_types.proofs.TestLemmas.{or_first}
+use Rattle.std.proofs.lemmas.Bool.{or_from}
 
 -- names in two parts of a list without repeats
 differ : (b : Bool) → b ≡ false → b ≡ true → ⊥
@@ -31,14 +33,14 @@ pub names_apart : (xs ys : List Identifier) {a b : Identifier} → repeats (xs +
 names_apart [] ys h one two same = elim one [ ]
 names_apart (x ∷ xs) ys {b = b} h here two same =
     differ (bytes_eq x.name b.name) (none_passes (is_named x.name) (in_back xs two)
-    (front_empty (places_where (is_named x.name) (xs ++ ys)) (repeats (xs ++ ys)) h)) same
+    (append_first (places_where (is_named x.name) (xs ++ ys)) (repeats (xs ++ ys)) h)) same
 names_apart (x ∷ xs) ys h (later one) two same = names_apart xs ys
-    (back_empty (places_where (is_named x.name) (xs ++ ys)) (repeats (xs ++ ys)) h) one two same
+    (append_second (places_where (is_named x.name) (xs ++ ys)) (repeats (xs ++ ys)) h) one two same
 
 pub repeats_behind : (xs ys : List Identifier) → repeats (xs ++ ys) ≡ [] → repeats ys ≡ []
 repeats_behind [] ys h = h
 repeats_behind (x ∷ xs) ys h =
-    repeats_behind xs ys (back_empty (places_where (is_named x.name) (xs ++ ys)) (repeats (xs ++ ys)) h)
+    repeats_behind xs ys (append_second (places_where (is_named x.name) (xs ++ ys)) (repeats (xs ++ ys)) h)
 
 places_before : (wanted : Identifier → Bool) (xs ys : List Identifier) → places_where wanted (xs ++ ys) ≡ []
     → places_where wanted xs ≡ []
@@ -56,8 +58,8 @@ pub repeats_before : (xs ys : List Identifier) → repeats (xs ++ ys) ≡ [] →
 repeats_before [] ys h = refl
 repeats_before (x ∷ xs) ys h =
     let first = places_before (is_named x.name) xs ys
-    (front_empty (places_where (is_named x.name) (xs ++ ys)) (repeats (xs ++ ys)) h) in
-    let rest = repeats_before xs ys (back_empty (places_where (is_named x.name) (xs ++ ys)) (repeats (xs ++ ys)) h) in
+    (append_first (places_where (is_named x.name) (xs ++ ys)) (repeats (xs ++ ys)) h) in
+    let rest = repeats_before xs ys (append_second (places_where (is_named x.name) (xs ++ ys)) (repeats (xs ++ ys)) h) in
     ap₂ (λ ps qs. ps ++ qs) first rest
 
 pub turned : (x y : Name) → bytes_eq x y ≡ true → bytes_eq y x ≡ true
@@ -66,7 +68,7 @@ turned x y h = (bytes_eq-Decides y x).1 (sym ((bytes_eq-Decides x y).0 h))
 abbrev name_of_type : TypeDeclaration → Identifier
 name_of_type t = t.name
 
-types_apart : (source : Source) {ts : List TypeDeclaration} {t : TypeDeclaration} {u : OrganisationUnit}
+pub types_apart : (source : Source) {ts : List TypeDeclaration} {t : TypeDeclaration} {u : OrganisationUnit}
     → repeats (names_of_text source) ≡ [] → Among (sources.types ts) source → Among t ts
     → Among (sources.unit u) source
     → bytes_eq t.name.name u.name.name ≡ true → ⊥
@@ -80,7 +82,7 @@ types_apart (sources.unit u ∷ rest) {t = t} h (later block) type here same =
 types_apart (e ∷ rest) h (later block) type (later unit) same =
     types_apart rest (repeats_behind (names_of_element e) (names_of_text rest) h) block type unit same
 
--- what the rule on names gives
+-- consequences of the rule on names
 pub record NamesRight (source : Source) : Type 0 where
   pub all : twice_declared source ≡ []
   pub once : repeats (names_of_text source) ≡ []
@@ -95,22 +97,14 @@ names_right source h =
     let scopes = flat_map repeats (flat_map scopes_of_element source) in
     let standard = places_where (λ x. is_standard x.name) n in
     let taken = places_where (is_taken n) (variables_of_text source) in
-    let front = front_empty ((first ++ scopes) ++ standard) taken h in
+    let front = append_first ((first ++ scopes) ++ standard) taken h in
     record {
       all = h;
-      once = front_empty first scopes (front_empty (first ++ scopes) standard front);
-      scopes = back_empty first scopes (front_empty (first ++ scopes) standard front);
-      free = back_empty (first ++ scopes) standard front;
-      untaken = back_empty ((first ++ scopes) ++ standard) taken h;
+      once = append_first first scopes (append_first (first ++ scopes) standard front);
+      scopes = append_second first scopes (append_first (first ++ scopes) standard front);
+      free = append_second (first ++ scopes) standard front;
+      untaken = append_second ((first ++ scopes) ++ standard) taken h;
     }
-
-neither : (a b : Bool) → (a || b) ≡ false → a ≡ false
-neither true b h = h
-neither false b h = refl
-
-both_false : (a b : Bool) → a ≡ false → b ≡ false → (a || b) ≡ false
-both_false true b h k = absurd (cc)
-both_false false b h k = k
 
 no_block_by : (source : Source) → NamesRight source → (x : Name) (t : TypeDeclaration) (block : List TypeDeclaration)
     → Among (sources.types block) source → Among t block → is_named x t.name ≡ true
@@ -131,9 +125,9 @@ type_is_no_block source right x d is =
     let t = type.declaration in
     let same = (bytes_eq-Decides x t.name.name).0 type.named in
     let name = in_flat names_of_element block.there (in_map name_of_type block.among) in
-    let free = neither (is_some (block_of t.name.name)) (is_some (standard_of t.name.name))
+    let free = or_first (is_some (block_of t.name.name)) (is_some (standard_of t.name.name))
     (none_passes (λ y. is_standard y.name) name right.free) in
-    both_false (is_some (block_of x)) (is_own_block (unit_named (declared_in source).units x))
+    or_from (is_some (block_of x)) (is_own_block (unit_named (declared_in source).units x))
     (subst (λ (y : Name). is_some (block_of y) ≡ false) (sym same) free)
     (no_block_by source right x t block.block block.there block.among type.named
     (unit_named (declared_in source).units x) refl)

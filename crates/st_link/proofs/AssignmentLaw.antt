@@ -15,8 +15,8 @@ use Rattle.st_types.specs.Paths.{Path, same_path}
 use Rattle.st_types.specs.declared.data_type.VariableType.{VariableType}
 use Rattle.st_types.specs.Expressions.{Expr, Variable, variable, Selectors}
 use Rattle.st_types.specs.Statements.{assign}
-use Rattle.st_meaning.specs.Failures.{Failure, StandIns, ill_typed}
-use Rattle.st_meaning.specs.Stores.{Store, get, may_replace, replaced, behind_first, assigned}
+use Rattle.st_meaning.specs.Failures.{Failure, StuckFaults, ill_typed}
+use Rattle.st_meaning.specs.Stores.{Store, get, may_replace, replaced, with_entry, assigned}
 use Rattle.st_meaning.specs.Ticks.{follow, give, attempt}
 use Rattle.st_meaning.specs.Scopes.{Units, Scope, path_in}
 use Rattle.st_meaning.specs.Evaluation.{value, selected}
@@ -36,7 +36,7 @@ use Rattle.st_rules.specs.declared.typings.Typing.TheVariants.{Composite as comp
 use Rattle.st_rules.specs.Faults.{breaking, unless}
 use Rattle.st_rules.specs.Environments.{Environment, type_of_place, section_of}
 use Rattle.st_rules.specs.Demands.{exactly}
-use Rattle.st_rules.specs.Typings.{kind_of, is_untyped_typing, is_nothing, typing_of, typing_of_type, settled, meets}
+use Rattle.st_rules.specs.Typings.{kind_of, is_untyped_typing, is_nothing, typing_of, typing_of_type, settled, allows}
 use Rattle.st_rules.specs.Nodes.{nodes_of, nodes_of_place}
 use Rattle.st_rules.specs.ExpressionRules.{wrong_variable, wrong_node, wrong_expression}
 use Rattle.st_rules.specs.Statements.{Context, placed}
@@ -46,13 +46,16 @@ use Rattle.st_rules.specs.CallRules.{wrong_invocation}
 use Rattle.st_rules.specs.LabelRules.{wrong_case}
 use Rattle.st_rules.specs.BodyRules.{wrong_exit, wrong_statement}
 use Rattle.st_rules.proofs.TypingLaws.{kind_of_declared, untyped_declared}
-use Rattle.st_link.specs.Soundness.{IsOf, HasKind, Alike, standing, IsPlace, root}
+use Rattle.st_link.specs.Soundness.{IsOf, HasKind, EndsAlikeIn, with_units, IsPlace, root}
 use Rattle.st_link.specs.Soundness.{Keeps, LeavesAgreeing, AssignmentsAreSound}
-use Rattle.st_link.proofs.Alikes.{alike_then, alike_as, Succeeds, succeeds_as, attempted, front_empty, back_empty}
+use Rattle.st_link.proofs.Alikes.{alike_then, alike_as, Succeeds, succeeds_as, attempted}
 use Rattle.st_link.proofs.Keeping.{assigned_keeps, agrees_kept}
 use Rattle.st_link.proofs.OperatorLemmas.{same_kinds}
 use Rattle.st_link.proofs.KnownLemmas.{IsThere, variable_is_there, type_there, typing_known}
 use Rattle.st_link.proofs.ValueLaw.{Premises, settled_known, value_alike, place_alike, inside, asked_right}
+use Rattle.st_types.proofs.TestLemmas.{false_from_not}
+use Rattle.st_types.proofs.ListLemmas.{append_first, append_second}
+use Rattle.std.proofs.lemmas.List.{append-nil}
 
 -- a value of the variable's type is assigned
 replaced_succeeds : (e : Path × Datum) (v : Datum) (s : Store) (b : Bool) → b ≡ true
@@ -61,7 +64,7 @@ replaced_succeeds e v s true h = tt
 replaced_succeeds e v s false h = absurd (cc)
 
 behind_succeeds : (e : Path × Datum) (r : Result Store Failure) → Succeeds {A = Store} (λ _. Unit {0}) r
-    → Succeeds {A = Store} (λ _. Unit {0}) (behind_first e r)
+    → Succeeds {A = Store} (λ _. Unit {0}) (with_entry e r)
 behind_succeeds e (Ok t) h = tt
 behind_succeeds e (Err f) h = h
 
@@ -72,7 +75,7 @@ may_of_one_kind k old new p q =
 assigned_first : (s : Store) (e : Path × Datum) (p : Path) (v : Datum) (k : Kind) (b : Bool)
     → HasKind (if b then Some e.1 else get s p) k → IsOf k v
     → ((h : HasKind (get s p) k) → Succeeds {A = Store} (λ _. Unit {0}) (assigned s p v))
-    → Succeeds {A = Store} (λ _. Unit {0}) (if b then replaced e v s else behind_first e (assigned s p v))
+    → Succeeds {A = Store} (λ _. Unit {0}) (if b then replaced e v s else with_entry e (assigned s p v))
 assigned_first s e p v k true h of rest =
     let is : e.1 ≡ h.datum = cc in
     let old : IsOf k e.1 = subst (λ d. IsOf k d) (sym is) h.is_of in
@@ -90,29 +93,29 @@ pub assigned_succeeds : (s : Store) (p : Path) (v : Datum) (k : Kind) → HasKin
 assigned_succeeds s p v k h of = succeeds_as {A = Store} (λ _. Unit {0}) (Keeps s) (assigned s p v)
     (assigned_there s p v k h of) (λ t is. assigned_keeps s p v t is)
 
--- what a target asks
-pub composite_refused : (t : Typing) → meets (asked None no_sort) t ≡ true → is_nothing t ≡ false → ⊥
+-- the demand of a target
+pub composite_refused : (t : Typing) → allows (asked None no_sort) t ≡ true → is_nothing t ≡ false → ⊥
 composite_refused untyped h i = cc
 composite_refused (elementary k) h i = cc
 composite_refused composite h i = cc
 composite_refused nothing h i = cc
 
-pub exact_kind : (k : Kind) (t : Typing) → meets (exactly k) t ≡ true → is_nothing t ≡ false → t ≡ elementary k
+pub exact_kind : (k : Kind) (t : Typing) → allows (exactly k) t ≡ true → is_nothing t ≡ false → t ≡ elementary k
 exact_kind k untyped h i = absurd (cc)
 exact_kind k (elementary l) h i = ap (λ (j : Kind). elementary j) (same_kind_is l k (and_parts (same_kind l k) _ h).0)
 exact_kind k composite h i = absurd (cc)
 exact_kind k nothing h i = absurd (cc)
 
 -- an assignment to a place of an elementary type, from its parts
-assigning_alike : (env : Environment) (w : Scope) (s : Store) (u v : Units) (i j : StandIns) → Premises env w s u v
+assigning_alike : (env : Environment) (w : Scope) (s : Store) (u v : Units) (i j : StuckFaults) → Premises env w s u v
     → (x : Identifier) (xs : Selectors) (e : Expr) (there : IsThere env x xs) → is_fixed (section_of env x.name) ≡ false
     → flat_map (wrong_node env) (nodes_of_place env (variable x xs)) ≡ [] → (t : Typing)
     → typing_of_type env.text (Some there.behind.type_is) ≡ t → is_nothing t ≡ false → is_untyped_typing t ≡ false
     → wrong_expression env (demand_of_typing t) e ≡ [] → (b : ℕ)
-    → Alike {A = End} (λ r. Keeps s (store_of r))
-    (assigning (standing u i w) (resolved_variable env.text env.unit (variable x xs))
+    → EndsAlikeIn {A = End} (λ r. Keeps s (store_of r))
+    (assigning (with_units u i w) (resolved_variable env.text env.unit (variable x xs))
     (resolved_expr env.text env.unit (kind_of t) e) s b)
-    (assigning (standing v j w) (resolved_variable env.text env.unit (variable x xs))
+    (assigning (with_units v j w) (resolved_variable env.text env.unit (variable x xs))
     (resolved_expr env.text env.unit (kind_of t) e) s b)
 assigning_alike env w s u v i j p x xs e there fixed parts untyped is k n h b = absurd (cc)
 assigning_alike env w s u v i j p x xs e there fixed parts nothing is k n h b = absurd (cc)
@@ -131,15 +134,15 @@ assigning_alike env w s u v i j p x xs e there fixed parts (elementary k) is kno
     let at = path_in w.frame w.body x.name in
     let ys = resolved_selectors env.text env.unit xs in
     alike_then {A = Datum} {B = End} (IsOf k) (λ r. Keeps s (store_of r))
-    (value (standing u i w) s (resolved_expr env.text env.unit (Some k) e) b)
-    (value (standing v j w) s (resolved_expr env.text env.unit (Some k) e) b)
-    (λ n c. follow (selected (standing u i w) s at ys c)
+    (value (with_units u i w) s (resolved_expr env.text env.unit (Some k) e) b)
+    (value (with_units v j w) s (resolved_expr env.text env.unit (Some k) e) b)
+    (λ n c. follow (selected (with_units u i w) s at ys c)
     (λ q d. follow (attempt i (assigned s q n) d) (λ r. give (goes_on r))))
-    (λ n c. follow (selected (standing v j w) s at ys c)
+    (λ n c. follow (selected (with_units v j w) s at ys c)
     (λ q d. follow (attempt j (assigned s q n) d) (λ r. give (goes_on r))))
     (value_alike env w s u v i j p (Some k) e (inside env d e h) k kind b)
     (λ n c of. alike_then {A = Path} {B = End} (λ q. IsPlace env w s x.name q t) (λ r. Keeps s (store_of r))
-    (selected (standing u i w) s at ys c) (selected (standing v j w) s at ys c)
+    (selected (with_units u i w) s at ys c) (selected (with_units v j w) s at ys c)
     (λ q d. follow (attempt i (assigned s q n) d) (λ r. give (goes_on r)))
     (λ q d. follow (attempt j (assigned s q n) d) (λ r. give (goes_on r)))
     (place_alike env w s u v i j p x.name at there.declared (root x.name there.named) xs t there.behind.leads parts c)
@@ -149,19 +152,11 @@ assigning_alike env w s u v i j p x xs e there fixed parts (elementary k) is kno
     (assigned_succeeds s q n k (p.agrees.stored k place fixed among) of))
     (λ r f kept. (refl, kept))))
 
-pub not_true : (b : Bool) → not b ≡ true → b ≡ false
-not_true true h = absurd (cc)
-not_true false h = refl
-
 pub assignable_there : (o : Option VariableType) (t : VariableType) (b : Bool) (at : ℕ) → o ≡ Some t
     → breaking NotAssignable (if is_some o then unless b at else []) ≡ [] → b ≡ true
 assignable_there (Some u) t true at is h = refl
 assignable_there (Some u) t false at is h = absurd (cc)
 assignable_there None t b at is h = absurd (cc)
-
-append_nothing : {X : Type 0} (xs : List X) → xs ++ [] ≡ xs
-append_nothing [] = refl
-append_nothing (x ∷ xs) = ap (λ ys. x ∷ ys) (append_nothing xs)
 
 -- the parts of an assignment in which nothing is wrong
 abbrev in_nodes : Environment → Variable → Expr → List Broken
@@ -173,15 +168,15 @@ target_and_nodes env c v e h =
     let x = assign v e in
     let a = in_nodes env v e ++ wrong_targets env c x in
     let d = a ++ wrong_invocation env x ++ wrong_case env x in
-    front_empty a (wrong_invocation env x)
-    (front_empty (a ++ wrong_invocation env x) (wrong_case env x)
-    (front_empty d (wrong_for env c x)
-    (front_empty (d ++ wrong_for env c x) (wrong_exit c.in_loop x) h)))
+    append_first a (wrong_invocation env x)
+    (append_first (a ++ wrong_invocation env x) (wrong_case env x)
+    (append_first d (wrong_for env c x)
+    (append_first (d ++ wrong_for env c x) (wrong_exit c.in_loop x) h)))
 
 pub target_right : (env : Environment) (c : Context) (v : Variable) (e : Expr)
     → wrong_statement env (placed c (assign v e)) ≡ [] → wrong_target env c v ≡ []
-target_right env c v e h = sym (append_nothing (wrong_target env c v))
-    ∙ back_empty (in_nodes env v e) (wrong_targets env c (assign v e)) (target_and_nodes env c v e h)
+target_right env c v e h = sym (append-nil (wrong_target env c v))
+    ∙ append_second (in_nodes env v e) (wrong_targets env c (assign v e)) (target_and_nodes env c v e h)
 
 pub nodes_right : (env : Environment) (c : Context) (v : Variable) (e : Expr)
     → wrong_statement env (placed c (assign v e)) ≡ []
@@ -192,55 +187,55 @@ nodes_right env c v e h =
     let one = nodes_of env d e in
     let two = nodes_of_place env v in
     let all : in_nodes env v e ≡ [] =
-    front_empty (in_nodes env v e) (wrong_targets env c (assign v e)) (target_and_nodes env c v e h) in
+    append_first (in_nodes env v e) (wrong_targets env c (assign v e)) (target_and_nodes env c v e h) in
     let plain : (one ++ []) ++ (two ++ []) ≡ one ++ two =
-    ap (λ xs. xs ++ (two ++ [])) (append_nothing one) ∙ ap (λ ys. one ++ ys) (append_nothing two) in
+    ap (λ xs. xs ++ (two ++ [])) (append-nil one) ∙ ap (λ ys. one ++ ys) (append-nil two) in
     let both : flat_map (wrong_node env) one ++ flat_map (wrong_node env) two ≡ [] =
     sym (flat_map-append (wrong_node env) one two)
     ∙ subst (λ xs. flat_map (wrong_node env) xs ≡ []) plain all in (
-      front_empty (flat_map (wrong_node env) one) (flat_map (wrong_node env) two) both,
-      back_empty (flat_map (wrong_node env) one) (flat_map (wrong_node env) two) both,
+      append_first (flat_map (wrong_node env) one) (flat_map (wrong_node env) two) both,
+      append_second (flat_map (wrong_node env) one) (flat_map (wrong_node env) two) both,
     )
 
-assign_alike : (env : Environment) (w : Scope) (s : Store) (u v : Units) (i j : StandIns) → Premises env w s u v
+assign_alike : (env : Environment) (w : Scope) (s : Store) (u v : Units) (i j : StuckFaults) → Premises env w s u v
     → (c : Context) (x : Identifier) (xs : Selectors) (e : Expr)
     → wrong_target env c (variable x xs) ≡ []
     → wrong_expression env (demand_of_type env (type_of_place env (variable x xs))) e ≡ []
     → flat_map (wrong_node env) (nodes_of_place env (variable x xs)) ≡ [] → (b : ℕ)
-    → Alike {A = End} (λ r. Keeps s (store_of r))
-    (assigning (standing u i w) (resolved_variable env.text env.unit (variable x xs))
+    → EndsAlikeIn {A = End} (λ r. Keeps s (store_of r))
+    (assigning (with_units u i w) (resolved_variable env.text env.unit (variable x xs))
     (resolved_expr env.text env.unit (kind_of_variable env.text env.unit (variable x xs)) e) s b)
-    (assigning (standing v j w) (resolved_variable env.text env.unit (variable x xs))
+    (assigning (with_units v j w) (resolved_variable env.text env.unit (variable x xs))
     (resolved_expr env.text env.unit (kind_of_variable env.text env.unit (variable x xs)) e) s b)
 assign_alike env w s u v i j p c x xs e target h parts b =
     let v' = variable x xs in
-    let there = variable_is_there env p.known x xs (front_empty (wrong_variable env v')
+    let there = variable_is_there env p.known x xs (append_first (wrong_variable env v')
     (breaking NotAssignable (if is_some (type_of_place env v') then unless (is_assignable env c v') x.place else []))
     target) in
     let is = type_there env x xs there in
     let assignable = assignable_there (type_of_place env v') there.behind.type_is (is_assignable env c v') x.place is
-    (back_empty (wrong_variable env v')
+    (append_second (wrong_variable env v')
     (breaking NotAssignable (if is_some (type_of_place env v') then unless (is_assignable env c v') x.place else []))
     target) in
     let free = (and_parts (not (is_fixed (section_of env x.name))) _
     (and_parts (not (is_fixed (section_of env x.name)) && _) _ assignable).0).0 in
     let kind : kind_of_variable env.text env.unit v' ≡ kind_of (typing_of_type env.text (Some there.behind.type_is)) =
     kind_of_declared env.text (type_of_place env v') ∙ ap (λ o. kind_of (typing_of_type env.text o)) is in
-    subst (λ (k : Option Kind). Alike {A = End} (λ r. Keeps s (store_of r))
-    (assigning (standing u i w) (resolved_variable env.text env.unit v') (resolved_expr env.text env.unit k e) s b)
-    (assigning (standing v j w) (resolved_variable env.text env.unit v') (resolved_expr env.text env.unit k e) s b))
+    subst (λ (k : Option Kind). EndsAlikeIn {A = End} (λ r. Keeps s (store_of r))
+    (assigning (with_units u i w) (resolved_variable env.text env.unit v') (resolved_expr env.text env.unit k e) s b)
+    (assigning (with_units v j w) (resolved_variable env.text env.unit v') (resolved_expr env.text env.unit k e) s b))
     (sym kind)
-    (assigning_alike env w s u v i j p x xs e there (not_true (is_fixed (section_of env x.name)) free) parts
+    (assigning_alike env w s u v i j p x xs e there (false_from_not (is_fixed (section_of env x.name)) free) parts
     (typing_of_type env.text (Some there.behind.type_is)) refl there.behind.known
     (sym (untyped_declared env.text (Some there.behind.type_is)))
     (subst (λ o. wrong_expression env (demand_of_type env o) e ≡ []) is h) b)
 
 -- an assignment as a statement
-pub assignment_alike : (env : Environment) (w : Scope) (s : Store) (u v : Units) (i j : StandIns) → Premises env w s u v
+pub assignment_alike : (env : Environment) (w : Scope) (s : Store) (u v : Units) (i j : StuckFaults) → Premises env w s u v
     → (c : Context) (x : Variable) (e : Expr) → wrong_statement env (placed c (assign x e)) ≡ [] → (b : ℕ)
-    → Alike {A = End} (λ r. Keeps s (store_of r))
-    (exec (standing u i w) (resolved_stmt env.text env.unit (assign x e)) s b)
-    (exec (standing v j w) (resolved_stmt env.text env.unit (assign x e)) s b)
+    → EndsAlikeIn {A = End} (λ r. Keeps s (store_of r))
+    (exec (with_units u i w) (resolved_stmt env.text env.unit (assign x e)) s b)
+    (exec (with_units v j w) (resolved_stmt env.text env.unit (assign x e)) s b)
 assignment_alike env w s u v i j p c (variable x xs) e h zero = refl
 assignment_alike env w s u v i j p c (variable x xs) e h (suc b) =
     let parts = nodes_right env c (variable x xs) e h in
@@ -249,7 +244,7 @@ assignment_alike env w s u v i j p c (variable x xs) e h (suc b) =
 pub assignments_are_sound : AssignmentsAreSound
 assignments_are_sound env w s u v i j c x e b agrees units known h =
     alike_as {A = End} (λ r. Keeps s (store_of r)) (LeavesAgreeing env w)
-    (exec (standing u i w) (resolved_stmt env.text env.unit (assign x e)) s b)
-    (exec (standing v j w) (resolved_stmt env.text env.unit (assign x e)) s b)
+    (exec (with_units u i w) (resolved_stmt env.text env.unit (assign x e)) s b)
+    (exec (with_units v j w) (resolved_stmt env.text env.unit (assign x e)) s b)
     (λ r kept. agrees_kept agrees kept)
     (assignment_alike env w s u v i j (record { agrees = agrees; units = units; known = known }) c x e h b)

@@ -5,7 +5,7 @@ use Rattle.std.specs.List.{flat_map}
 use Rattle.st_types.specs.declared.identifier.Identifier.{Identifier}
 use Rattle.st_types.specs.declared.data_type.VariableType.{VariableType}
 use Rattle.st_types.specs.Statements.{Argument, invoke}
-use Rattle.st_meaning.specs.Failures.{StandIns}
+use Rattle.st_meaning.specs.Failures.{StuckFaults}
 use Rattle.st_meaning.specs.Scopes.{Units, Scope}
 use Rattle.st_rules.specs.declared.rule.Rule.TheVariants.{WrongType, WrongArguments}
 use Rattle.st_rules.specs.declared.rule.Broken.{Broken}
@@ -25,7 +25,7 @@ statements_are_sound env w s u v i j c xs b agrees units known calls h =
     (exec_all_alike env w u v i j (Agrees env w) (λ t a. a) (λ t r a k. agrees_kept a k) units known
     (λ d x arguments t a g. record { ends = λ n. calls d x arguments t n a g }) c xs h s agrees).ends b
 
--- what is no instance may not be called
+-- a variable that isn't an instance may not be called
 abbrev instance_faults : Environment → Identifier → List Argument → VariableType → Bool → Bool → List Broken
 instance_faults env x arguments t called nothing =
     if called
@@ -46,7 +46,7 @@ no_call env known x arguments (Some t) is h e =
     not_called env x arguments t (is_instance env (Some t)) (is_nothing (typing_of_type env.text (Some t))) h
     (known.types t (of_variable x.name is)) e
 
-nothing_called : (env : Environment) (w : Scope) (u v : Units) (i j : StandIns) → AreKnown env → HasNoInstances env
+nothing_called : (env : Environment) (w : Scope) (u v : Units) (i j : StuckFaults) → AreKnown env → HasNoInstances env
     → CallsAgree env w u v i j
 nothing_called env w u v i j known none c x arguments s b agrees h =
     absurd (no_call env known x arguments (type_of_name env x.name) refl (none x.name)

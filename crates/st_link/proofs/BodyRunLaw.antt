@@ -1,4 +1,4 @@
--- The body of a unit, where it runs on variables that stand, ends alike and keeps them.
+-- The body of a unit, on variables with values, ends alike and keeps them.
 use Rattle.std.proofs.Common.{◌≡◌, refl, sym, subst, ℕ, true, ◌||◌, List, []}
 use Rattle.std.proofs.Common.{◌∷◌, Option, Some, None}
 use Rattle.std.specs.Prelude.{is_some}
@@ -11,7 +11,7 @@ use Rattle.st_types.specs.declared.unit.UnitSort.TheVariants.{Function as functi
 use Rattle.st_types.specs.declared.unit.UnitSort.TheVariants.{Program as program}
 use Rattle.st_types.specs.Statements.{Argument, invoke, Stmts, stmts_of}
 use Rattle.st_types.specs.Units.{OrganisationUnit}
-use Rattle.st_meaning.specs.Failures.{StandIns}
+use Rattle.st_meaning.specs.Failures.{StuckFaults}
 use Rattle.st_meaning.specs.Stores.{Store}
 use Rattle.st_meaning.specs.StandardBlocks.{StandardBlock, BlockMember, block_of, members_of}
 use Rattle.st_meaning.specs.Scopes.{Name, of_block, Block, Library, Units, path_in, member_at, block_named}
@@ -22,9 +22,9 @@ use Rattle.st_rules.specs.Environments.{type_of_name, is_block_sort, is_own_bloc
 use Rattle.st_rules.specs.Statements.{Context, placed, outside}
 use Rattle.st_rules.specs.BodyRules.{wrong_statement}
 use Rattle.st_rules.specs.Rules.{environment}
-use Rattle.st_link.specs.Soundness.{standing, Agrees, Keeps}
+use Rattle.st_link.specs.Soundness.{with_units, Agrees, Keeps}
 use Rattle.st_link.specs.UnitSoundness.{IsBodyOf, IsBlockOf, BodyRun, Reaches, itself, inside, scope_of_run, AreStored}
-use Rattle.st_link.specs.UnitSoundness.{InstanceStands, Stands, IsLibraryOf, AllUnitsAgree}
+use Rattle.st_link.specs.UnitSoundness.{InstanceIsTyped, PlacesAreTyped, IsLibraryOf, AllUnitsAgree}
 use Rattle.st_link.proofs.Keeping.{keeps_itself, keeps_on, agrees_kept}
 use Rattle.st_link.proofs.RunsAlike.{RunsAlike, both_as}
 use Rattle.st_link.proofs.LoopLaw.{Leaves}
@@ -33,13 +33,13 @@ use Rattle.st_link.proofs.StatementLaw.{exec_all_alike}
 use Rattle.st_link.proofs.CallLaw.{invoking_alike}
 use Rattle.st_link.proofs.TextParts.{RightText, invoked}
 
--- variables that stand do so still
+-- variables with values keep them
 pub stored_kept : {s t : Store} (at : Path) (ms : List BlockMember) → Keeps s t → AreStored s at ms → AreStored t at ms
 stored_kept at [] keeps h = tt
 stored_kept at (m ∷ ms) keeps h = (keeps.kinds (member_at at m.0) m.1 h.0, stored_kept at ms keeps h.1)
 
-instance_kept : {text : Declared} {s t : Store} {at : Path} {b : Identifier} → Keeps s t → InstanceStands text s at b
-    → InstanceStands text t at b
+instance_kept : {text : Declared} {s t : Store} {at : Path} {b : Identifier} → Keeps s t → InstanceIsTyped text s at b
+    → InstanceIsTyped text t at b
 instance_kept {at = at} keeps h = record {
   inputs = λ y t k e f. keeps.kinds (member_at at y) k (h.inputs y t k e f);
   outputs = λ y t k e f. keeps.kinds (member_at at y) k (h.outputs y t k e f);
@@ -47,7 +47,7 @@ instance_kept {at = at} keeps h = record {
 }
 
 pub stands_kept : {text : Declared} {library : Library} {image : Store} {now : ℕ} {r : BodyRun} {s t : Store}
-    → Keeps s t → Stands text library image now r s → Stands text library image now r t
+    → Keeps s t → PlacesAreTyped text library image now r s → PlacesAreTyped text library image now r t
 stands_kept keeps h = record {
   places = λ q reach. agrees_kept (h.places q reach) keeps;
   instances = λ q reach x b e is. instance_kept keeps (h.instances q reach x b e is);
@@ -61,8 +61,8 @@ reaches_on h (inside x b u c i named is) = inside x b u c (reaches_on h i) named
 stands_inside : {text : Declared} {library : Library} {image : Store} {now : ℕ} {r : BodyRun} {s : Store} (x : Name)
     (b : Identifier) (u : OrganisationUnit) (c : Block)
     → variable_type r.unit x ≡ Some (types.Simple (Named b))
-    → IsBlockOf text library b.name u c → Stands text library image now r s
-    → Stands text library image now (record { unit = u; frame = of_block (path_in r.frame r.body x); body = c.body }) s
+    → IsBlockOf text library b.name u c → PlacesAreTyped text library image now r s
+    → PlacesAreTyped text library image now (record { unit = u; frame = of_block (path_in r.frame r.body x); body = c.body }) s
 stands_inside x b u c named is h = record {
   places = λ q reach. h.places q (reaches_on (inside x b u c itself named is) reach);
   instances = λ q reach. h.instances q (reaches_on (inside x b u c itself named is) reach);
@@ -88,10 +88,10 @@ pub own_block : (text : Declared) (b : Name) → block_of b ≡ None → is_bloc
 own_block text b none is = own_block_by text b (unit_named text.units b) refl
     (subst (λ (o : Option StandardBlock). (is_some o || is_own_block (unit_named text.units b)) ≡ true) none is)
 
-module _ (text : Declared) (library : Library) (image : Store) (now : ℕ) (i j : StandIns) (right : RightText text)
+module _ (text : Declared) (library : Library) (image : Store) (now : ℕ) (i j : StuckFaults) (right : RightText text)
     (of_text : IsLibraryOf text library) (u v : Units) (units : AllUnitsAgree text library image now u v) where
   -- a call of the block of an instance
-  block_alike : (r : BodyRun) (s : Store) → Stands text library image now r s → (x : Name) (b : Identifier)
+  block_alike : (r : BodyRun) (s : Store) → PlacesAreTyped text library image now r s → (x : Name) (b : Identifier)
       → variable_type r.unit x ≡ Some (types.Simple (Named b)) → is_block text b.name ≡ true
       → (o : Option StandardBlock) → block_of b.name ≡ o
       → RunsAlike (Keeps s) (u.blocks b.name (path_in r.frame r.body x) s) (v.blocks b.name (path_in r.frame r.body x) s)
@@ -109,24 +109,24 @@ module _ (text : Declared) (library : Library) (image : Store) (now : ℕ) (i j 
             (stands_inside x b d.unit c.value named block stands);
       }
 
-  ran_alike : (r : BodyRun) (s : Store) → Stands text library image now r s → IsBodyOf text r.unit r.body → (x : Name)
+  ran_alike : (r : BodyRun) (s : Store) → PlacesAreTyped text library image now r s → IsBodyOf text r.unit r.body → (x : Name)
       (b : Identifier) → variable_type r.unit x ≡ Some (types.Simple (Named b)) → is_block text b.name ≡ true
       → (t : Store) → Keeps s t
       → RunsAlike (Keeps s)
-      (ran_block (standing u i (scope_of_run image now r)) (path_in r.frame r.body x) (block_named r.body.instances x) t)
-      (ran_block (standing v j (scope_of_run image now r)) (path_in r.frame r.body x) (block_named r.body.instances x) t)
+      (ran_block (with_units u i (scope_of_run image now r)) (path_in r.frame r.body x) (block_named r.body.instances x) t)
+      (ran_block (with_units v j (scope_of_run image now r)) (path_in r.frame r.body x) (block_named r.body.instances x) t)
   ran_alike r s stands body x b named is t keeps =
       subst (λ (o : Option Name). RunsAlike (Keeps s)
-      (ran_block (standing u i (scope_of_run image now r)) (path_in r.frame r.body x) o t)
-      (ran_block (standing v j (scope_of_run image now r)) (path_in r.frame r.body x) o t))
+      (ran_block (with_units u i (scope_of_run image now r)) (path_in r.frame r.body x) o t)
+      (ran_block (with_units v j (scope_of_run image now r)) (path_in r.frame r.body x) o t))
       (sym (body.instances x b named is))
       (both_as {P = Keeps t} {Q = Keeps s} (λ z more. keeps_on keeps more)
       (block_alike r t (stands_kept keeps stands) x b named is (block_of b.name) refl))
 
   pub body_alike : (r : BodyRun) (y : Name) → unit_named text.units y ≡ Some r.unit → IsBodyOf text r.unit r.body
-      → (s : Store) → Stands text library image now r s
-      → RunsAlike (Leaves (Keeps s)) (exec_all (standing u i (scope_of_run image now r)) r.body.statements s)
-      (exec_all (standing v j (scope_of_run image now r)) r.body.statements s)
+      → (s : Store) → PlacesAreTyped text library image now r s
+      → RunsAlike (Leaves (Keeps s)) (exec_all (with_units u i (scope_of_run image now r)) r.body.statements s)
+      (exec_all (with_units v j (scope_of_run image now r)) r.body.statements s)
   body_alike r y declared body s stands =
       let env = environment text r.unit in
       let w = scope_of_run image now r in
@@ -136,8 +136,8 @@ module _ (text : Declared) (library : Library) (image : Store) (now : ℕ) (i j 
       let kept : (t z : Store) → Keeps s t → Keeps t z → Keeps s z = λ t z h k. keeps_on h k in
       let calls : (c : Context) (x : Identifier) (arguments : List Argument) (t : Store) → Keeps s t
       → wrong_statement env (placed c (invoke x arguments)) ≡ []
-      → RunsAlike (Leaves (Keeps s)) (exec (standing u i w) (resolved_stmt text r.unit (invoke x arguments)) t)
-      (exec (standing v j w) (resolved_stmt text r.unit (invoke x arguments)) t) =
+      → RunsAlike (Leaves (Keeps s)) (exec (with_units u i w) (resolved_stmt text r.unit (invoke x arguments)) t)
+      (exec (with_units v j w) (resolved_stmt text r.unit (invoke x arguments)) t) =
       λ c x arguments t keeps h.
       let so = statement_right env c (invoke x arguments) h in
       let called = invoked env known x arguments (type_of_name env x.name) refl so.invocation in
@@ -146,7 +146,7 @@ module _ (text : Declared) (library : Library) (image : Store) (now : ℕ) (i j 
       (λ z more. (stands_kept more stands).instances r itself x.name called.block called.named called.is)
       c arguments so called.fit called.copies
       (ran_alike r s stands body x.name called.block called.named called.is) t keeps in
-      subst (λ (xs : Stmts). RunsAlike (Leaves (Keeps s)) (exec_all (standing u i w) xs s) (exec_all (standing v j w) xs s))
+      subst (λ (xs : Stmts). RunsAlike (Leaves (Keeps s)) (exec_all (with_units u i w) xs s) (exec_all (with_units v j w) xs s))
       (sym body.statements)
       (exec_all_alike env w u v i j (Keeps s) agrees kept (units.functions r.unit) known calls outside
       (stmts_of r.unit.body) (right.bodies y r.unit declared) s (keeps_itself s))

@@ -44,22 +44,23 @@ use Rattle.st_rules.specs.TwiceDeclared.{twice_declared}
 use Rattle.st_rules.specs.TypeRules.{has_wrong_bounds, wrong_bounds, elements_of_array, retained_addresses_of}
 use Rattle.layout.specs.Types.{of_kind, of_elements, defined_composition, instance_of}
 use Rattle.layout.specs.Types.{instance_parts, BlockType, composition_of}
-use Rattle.layout.proofs.ListLemmas.{some_is, neither}
 use Rattle.st_link.specs.Soundness.{IsTypeIn, of_variable, of_part}
-use Rattle.st_link.proofs.Alikes.{front_empty, back_empty}
 use Rattle.st_link.proofs.Among.{Among, here, in_front, in_flat, in_map, none_of}
 use Rattle.st_link.proofs.CallLaw.{places_none}
 use Rattle.st_link.proofs.FoundNames.{unit_found, unit_in, type_found, type_in_source, field_found, FoundVariable}
 use Rattle.st_link.proofs.FoundNames.{variable_found, section_found}
 use Rattle.st_link.proofs.KnownTypes.{TypesRight, unnamed_among, variable_among}
 use Rattle.st_link.specs.Served.{AreBounded}
+use Rattle.std.proofs.lemmas.Bool.{or_parts}
+use Rattle.st_types.proofs.OptionLemmas.{some_is}
+use Rattle.st_types.proofs.ListLemmas.{append_first, append_second}
 
 -- bounds that are not reversed
-some_elements : (z : ℤ) → nat_lt 0 (natural z) ≡ false → int_lt z (pos 1) ≡ true
+pub some_elements : (z : ℤ) → nat_lt 0 (natural z) ≡ false → int_lt z (pos 1) ≡ true
 some_elements (pos n) h = grind (arith, ints, nat_tests)
 some_elements (negsuc n) h = grind (arith, ints)
 
-has_elements : (u l : ℤ) → int_lt u l ≡ false → nat_lt 0 (natural ((u -ℤ l) +ℤ pos 1)) ≡ true
+pub has_elements : (u l : ℤ) → int_lt u l ≡ false → nat_lt 0 (natural ((u -ℤ l) +ℤ pos 1)) ≡ true
 has_elements u l h = by_test (nat_lt 0 (natural ((u -ℤ l) +ℤ pos 1))) refl
   where
     by_test : (b : Bool) → nat_lt 0 (natural ((u -ℤ l) +ℤ pos 1)) ≡ b → b ≡ true
@@ -67,7 +68,7 @@ has_elements u l h = by_test (nat_lt 0 (natural ((u -ℤ l) +ℤ pos 1))) refl
     by_test false e =
         let few = some_elements ((u -ℤ l) +ℤ pos 1) e in absurd (grind (arith, ints))
 
-no_case : (b : Bool) (at : ℕ) → in_case b at ≡ [] → b ≡ false
+pub no_case : (b : Bool) (at : ℕ) → in_case b at ≡ [] → b ≡ false
 no_case true at h = absurd (cc)
 no_case false at h = refl
 
@@ -78,15 +79,15 @@ bounds_right source h =
     let b = wrong_types source in
     let c = wrong_starts source in
     let d = wrong_bodies source in
-    let declarations = front_empty a b (front_empty (a ++ b) c (front_empty ((a ++ b) ++ c) d h)) in
+    let declarations = append_first a b (append_first (a ++ b) c (append_first ((a ++ b) ++ c) d h)) in
     let twice = breaking DeclaredTwice (twice_declared source) in
     let deep = breaking TooDeep (too_deep source) in
     let bounds = breaking WrongBounds (flat_map wrong_bounds (arrays_in source)) in
     let long = breaking WrongBounds (flat_map (too_long (declared_in source)) (starts_in source)) in
     let addresses = breaking RetainedAddress (flat_map retained_addresses_of source) in
-    let front = front_empty ((twice ++ deep) ++ bounds) long
-    (front_empty (((twice ++ deep) ++ bounds) ++ long) addresses declarations) in
-    places_none WrongBounds (flat_map wrong_bounds (arrays_in source)) (back_empty (twice ++ deep) bounds front)
+    let front = append_first ((twice ++ deep) ++ bounds) long
+    (append_first (((twice ++ deep) ++ bounds) ++ long) addresses declarations) in
+    places_none WrongBounds (flat_map wrong_bounds (arrays_in source)) (append_second (twice ++ deep) bounds front)
 
 module _ (source : Source) (right : TypesRight source) where
   abbrev text : Declared
@@ -232,4 +233,4 @@ arrays_bounded source h right u unit s typed a is =
     let among = elements_listed source right s listed a is in
     let wrong = no_case (has_wrong_bounds a) a.lower.place (none_of wrong_bounds among (bounds_right source h)) in
     has_elements (number_of a.upper) (number_of a.lower)
-    (neither (int_lt (number_of a.upper) (number_of a.lower)) (nat_lt MAX_ELEMENTS (elements_of_array a)) wrong).0
+    (or_parts (int_lt (number_of a.upper) (number_of a.lower)) (nat_lt MAX_ELEMENTS (elements_of_array a)) wrong).0

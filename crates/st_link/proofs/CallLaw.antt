@@ -1,4 +1,4 @@
--- Calls of instances in which nothing is wrong end alike, where a run of the instance's block does.
+-- Calls of instances in which nothing is wrong end alike, if a run of the instance's block does.
 use Rattle.std.proofs.Common.{◌≡◌, refl, sym, ap, subst, ◌∙◌, ℕ, Bool, true, false, ◌&&◌, not, if◌then◌else◌}
 use Rattle.std.proofs.Common.{List, [], ◌∷◌, ◌++◌, Option, Some, None}
 use Rattle.std.specs.Prelude.{map, option_and_then, is_some}
@@ -14,7 +14,7 @@ use Rattle.st_types.specs.declared.data_type.VariableType.{VariableType}
 use Rattle.st_types.specs.declared.data_type.VariableType.TheVariants as types
 use Rattle.st_types.specs.Expressions.{Expr, variable, Selectors}
 use Rattle.st_types.specs.Statements.{Argument, given, copied, invoke}
-use Rattle.st_meaning.specs.Failures.{StandIns, ill_typed, or_failure}
+use Rattle.st_meaning.specs.Failures.{StuckFaults, ill_typed, or_failure}
 use Rattle.st_meaning.specs.Stores.{Store, get, assigned}
 use Rattle.st_meaning.specs.Ticks.{◌>>=◌, give}
 use Rattle.st_meaning.specs.StandardBlocks.{inputs_of, outputs_of}
@@ -35,7 +35,7 @@ use Rattle.st_rules.specs.declared.typings.Typing.TheVariants.{Composite as comp
 use Rattle.st_rules.specs.Faults.{breaking, unless}
 use Rattle.st_rules.specs.Environments.{Environment, type_of_name, section_of, type_of_place, input_of}
 use Rattle.st_rules.specs.Environments.{output_of}
-use Rattle.st_rules.specs.Typings.{kind_of, is_untyped_typing, is_nothing, typing_of, typing_of_type, settled, meets}
+use Rattle.st_rules.specs.Typings.{kind_of, is_untyped_typing, is_nothing, typing_of, typing_of_type, settled, allows}
 use Rattle.st_rules.specs.Typings.{typing_of_variable}
 use Rattle.st_rules.specs.Nodes.{nodes_of_place}
 use Rattle.st_rules.specs.ExpressionRules.{wrong_variable, wrong_node, wrong_expression}
@@ -45,17 +45,18 @@ use Rattle.st_rules.specs.Roots.{nodes_of_root}
 use Rattle.st_rules.specs.TargetRules.{is_fixed, is_assignable, wrong_target}
 use Rattle.st_rules.specs.CallRules.{wrong_arguments, wrong_copy}
 use Rattle.st_rules.proofs.TypingLaws.{kind_of_declared, untyped_declared}
-use Rattle.st_link.specs.Soundness.{IsOf, standing, IsPlace, root, Agrees, Keeps, UnitsAgree, IsKnown}
+use Rattle.st_link.specs.Soundness.{IsOf, with_units, IsPlace, root, Agrees, Keeps, UnitsAgree, IsKnown}
 use Rattle.st_link.specs.Soundness.{AreKnown}
-use Rattle.st_link.specs.UnitSoundness.{InstanceStands}
-use Rattle.st_link.proofs.Alikes.{front_empty, back_empty}
+use Rattle.st_link.specs.UnitSoundness.{InstanceIsTyped}
 use Rattle.st_link.proofs.KnownLemmas.{IsThere, variable_is_there, type_there, typing_known}
 use Rattle.st_link.proofs.ValueLaw.{settled_known, place_alike, inside, asked_right}
-use Rattle.st_link.proofs.AssignmentLaw.{composite_refused, exact_kind, not_true, assignable_there, assigned_succeeds}
+use Rattle.st_link.proofs.AssignmentLaw.{composite_refused, exact_kind, assignable_there, assigned_succeeds}
 use Rattle.st_link.proofs.RunsAlike.{RunsAlike, both_then, both_as, both_give, both_attempt, both_tick}
 use Rattle.st_link.proofs.LoopLaw.{Leaves}
 use Rattle.st_link.proofs.StatementParts.{StatementRight, RootsRight, first_root, unless_right}
 use Rattle.st_link.proofs.StatementLaw.{there_succeeds, exact_alike}
+use Rattle.st_types.proofs.TestLemmas.{false_from_not}
+use Rattle.st_types.proofs.ListLemmas.{append_first, append_second}
 
 -- places of a rule that is not broken
 pub places_none : (rule : Rule) (ps : List ℕ) → breaking rule ps ≡ [] → ps ≡ []
@@ -81,29 +82,29 @@ target_is env known c x xs h =
     let v = variable x xs in
     let faults = breaking NotAssignable
     (if is_some (type_of_place env v) then unless (is_assignable env c v) x.place else []) in
-    let there = variable_is_there env known x xs (front_empty (wrong_variable env v) faults h) in
+    let there = variable_is_there env known x xs (append_first (wrong_variable env v) faults h) in
     let assignable = assignable_there (type_of_place env v) there.behind.type_is (is_assignable env c v) x.place
-    (type_there env x xs there) (back_empty (wrong_variable env v) faults h) in
+    (type_there env x xs there) (append_second (wrong_variable env v) faults h) in
     let outer = (and_parts (not (is_fixed (section_of env x.name)) && _) _ assignable).0 in
     let free = (and_parts (not (is_fixed (section_of env x.name))) _ outer).0 in
-    record { there = there; free = not_true (is_fixed (section_of env x.name)) free }
+    record { there = there; free = false_from_not (is_fixed (section_of env x.name)) free }
 
--- a type that what has it must be, and the elementary type that both are
+-- a type that its place demands, and the elementary type that both are
 pub demanded_kind : (t u : Typing) → is_nothing t ≡ false → is_untyped_typing t ≡ false → is_nothing u ≡ false
-    → meets (demand_of_typing t) u ≡ true → (k : Kind) × (t ≡ elementary k) × (u ≡ elementary k)
+    → allows (demand_of_typing t) u ≡ true → (k : Kind) × (t ≡ elementary k) × (u ≡ elementary k)
 demanded_kind untyped u h i j m = absurd (cc)
 demanded_kind nothing u h i j m = absurd (cc)
 demanded_kind composite u h i j m = absurd (composite_refused u m j)
 demanded_kind (elementary k) u h i j m = (k, refl, exact_kind k u m j)
 
-module _ (env : Environment) (w : Scope) (u v : Units) (i j : StandIns) (I : Store → Type 0)
+module _ (env : Environment) (w : Scope) (u v : Units) (i j : StuckFaults) (I : Store → Type 0)
     (agrees : (s : Store) → I s → Agrees env w s) (kept : (s t : Store) → I s → Keeps s t → I t)
     (units : UnitsAgree env u v) (known : AreKnown env) where
   abbrev one : Scope
-  one = standing u i w
+  one = with_units u i w
 
   abbrev two : Scope
-  two = standing v j w
+  two = with_units v j w
 
   abbrev tree : Option Kind → Expr → Expr
   tree k e = resolved_expr env.text env.unit k e
@@ -140,7 +141,7 @@ module _ (env : Environment) (w : Scope) (u v : Units) (i j : StandIns) (I : Sto
       → block_variable env.text inputs_of is_input (types.Simple (Named b)) y ≡ Some t → IsKnown env.text t)
       (outputs_known : (y : Name) (t : VariableType)
       → block_variable env.text outputs_of is_output (types.Simple (Named b)) y ≡ Some t → IsKnown env.text t)
-      (stands : (s : Store) → I s → InstanceStands env.text s (path_in w.frame w.body x.name) b) where
+      (stands : (s : Store) → I s → InstanceIsTyped env.text s (path_in w.frame w.body x.name) b) where
     abbrev site : Path
     site = path_in w.frame w.body x.name
 
@@ -220,7 +221,7 @@ module _ (env : Environment) (w : Scope) (u v : Units) (i j : StandIns) (I : Sto
     -- outputs that are copied
     first_copied : (c : Context) (y z : Identifier) (zs : Selectors) (rest : List Argument) (t : VariableType)
         → output_of env x.name y.name ≡ Some t → IsTarget env z zs
-        → meets (demand_of_type env (output_of env x.name y.name)) (typing_of_variable env (variable z zs)) ≡ true
+        → allows (demand_of_type env (output_of env x.name y.name)) (typing_of_variable env (variable z zs)) ≡ true
         → flat_map (wrong_node env) (nodes_of_place env (variable z zs)) ≡ [] → (s : Store) → I s
         → ((r : Store) → I r
         → RunsAlike I (copied_outputs one site (arguments_in rest) r) (copied_outputs two site (arguments_in rest) r))
@@ -231,9 +232,9 @@ module _ (env : Environment) (w : Scope) (u v : Units) (i j : StandIns) (I : Sto
         let output = sym (output_is y.name) ∙ is in
         let kinds = demanded_kind (typing_of_type env.text (Some t)) (typing_of_type env.text (Some r))
         (outputs_known y.name t output) (sym (untyped_declared env.text (Some t))) target.there.behind.known
-        (subst (λ (o : Option VariableType). meets (demand_of_type env (Some t)) (typing_of_type env.text o) ≡ true)
+        (subst (λ (o : Option VariableType). allows (demand_of_type env (Some t)) (typing_of_type env.text o) ≡ true)
         (type_there env z zs target.there)
-        (subst (λ (o : Option VariableType). meets (demand_of_type env o) (typing_of_variable env (variable z zs))
+        (subst (λ (o : Option VariableType). allows (demand_of_type env o) (typing_of_variable env (variable z zs))
         ≡ true) is right)) in
         let k = kinds.0 in
         let source : kind_among env.text.types t ≡ Some k =
@@ -277,12 +278,12 @@ module _ (env : Environment) (w : Scope) (u v : Units) (i j : StandIns) (I : Sto
         let other_nodes = flat_map (nodes_of_place env) (targets_of_arguments rest) in
         let split : flat_map (wrong_node env) nodes ++ flat_map (wrong_node env) other_nodes ≡ [] =
         sym (flat_map-append (wrong_node env) nodes other_nodes) ∙ parts in
-        first_copied c y z zs rest output.0 output.1 (target_is env known c z zs (front_empty target other_targets targets))
-        (unless_right WrongType _ z.place (front_empty copy other_copies copies))
-        (front_empty (flat_map (wrong_node env) nodes) (flat_map (wrong_node env) other_nodes) split) s has
-        (λ r is. copied_alike c (y.name ∷ before) rest right.1 (back_empty copy other_copies copies)
-        (back_empty target other_targets targets)
-        (back_empty (flat_map (wrong_node env) nodes) (flat_map (wrong_node env) other_nodes) split) r is)
+        first_copied c y z zs rest output.0 output.1 (target_is env known c z zs (append_first target other_targets targets))
+        (unless_right WrongType _ z.place (append_first copy other_copies copies))
+        (append_first (flat_map (wrong_node env) nodes) (flat_map (wrong_node env) other_nodes) split) s has
+        (λ r is. copied_alike c (y.name ∷ before) rest right.1 (append_second copy other_copies copies)
+        (append_second target other_targets targets)
+        (append_second (flat_map (wrong_node env) nodes) (flat_map (wrong_node env) other_nodes) split) r is)
 
     pub invoking_alike : (c : Context) (arguments : List Argument) → StatementRight env c (invoke x arguments)
         → wrong_arguments env x.name [] arguments ≡ [] → flat_map (wrong_copy env x.name) arguments ≡ []
@@ -297,10 +298,10 @@ module _ (env : Environment) (w : Scope) (u v : Units) (i j : StandIns) (I : Sto
         sym (flat_map-append (wrong_node env) roots parts) ∙ right.nodes in
         both_tick (both_then
         (given_alike [] arguments fit
-        (front_empty (flat_map (wrong_node env) roots) (flat_map (wrong_node env) parts) split) s has)
+        (append_first (flat_map (wrong_node env) roots) (flat_map (wrong_node env) parts) split) s has)
         (λ vs given. both_then (inputs_alike vs given s has)
         (λ t is. both_then (ran t is)
         (λ r was. both_then
         (copied_alike c [] arguments fit copies right.targets
-        (back_empty (flat_map (wrong_node env) roots) (flat_map (wrong_node env) parts) split) r was)
+        (append_second (flat_map (wrong_node env) roots) (flat_map (wrong_node env) parts) split) r was)
         (λ z done. both_give (Leaves I) (goes_on z) done)))))

@@ -1,4 +1,4 @@
--- A type at which no chain of so many parts begins is at most so many deep.
+-- A type at which no chain of `n` parts begins is at most `n` deep.
 use Rattle.std.proofs.Common.{◌≡◌, ℕ, zero, suc, Bool, true, false, ◌&&◌, if◌then◌else◌, List, [], ◌∷◌, ◌++◌, map}
 use Rattle.std.proofs.Common.{Option, Some, None, refl, sym, ap, ◌∙◌}
 use Rattle.std.specs.Prelude.{is_none, is_some}
@@ -25,17 +25,9 @@ use Rattle.layout.specs.Types.{Site, NamedSite, with_site, site_of_declaration, 
 use Rattle.layout.specs.Types.{sites_of_blocks, site_of_field, site_of_member, block_type_of}
 use Rattle.layout.specs.Types.{own_block_type, block_type_named, of_kind, instance_parts}
 use Rattle.layout.specs.Types.{defined_composition, composition_of, parts_within, is_within_depth}
-use Rattle.layout.proofs.ListLemmas.{both_are, neither, any_append}
-
-all_append : {A : Type 0} (f : A → Bool) (xs ys : List A) → list_all f xs ≡ true → list_all f ys ≡ true
-    → list_all f (xs ++ ys) ≡ true
-all_append f [] ys h g = g
-all_append f (x ∷ xs) ys h g = by_test (f x) h (λ k. all_append f xs ys k g)
-  where
-    by_test : (b : Bool) → (b && list_all f xs) ≡ true → (list_all f xs ≡ true → list_all f (xs ++ ys) ≡ true)
-        → (b && list_all f (xs ++ ys)) ≡ true
-    by_test true k ih = ih k
-    by_test false k ih = absurd (cc)
+use Rattle.std.proofs.lemmas.Bool.{or_parts, and_from}
+use Rattle.st_types.proofs.ListLemmas.{all_append}
+use Rattle.std.proofs.lemmas.List.Folds.{list_any-append}
 
 module _ (text : Declared) (m : ℕ)
     (ih : (t : VariableType) → has_chain text (suc m) (part_of_type t) ≡ false → is_within_depth m text t ≡ true) where
@@ -49,23 +41,23 @@ module _ (text : Declared) (m : ℕ)
       → list_all within (map site_of_field fields) ≡ true
   fields_within [] h = refl
   fields_within (f ∷ fs) h =
-      let n = neither (has_chain text (suc m) (part_of_type f.declared))
+      let n = or_parts (has_chain text (suc m) (part_of_type f.declared))
       (chains (map (λ f. part_of_type f.declared) fs)) h in
-      both_are (is_within_depth m text f.declared) (list_all within (map site_of_field fs)) (ih f.declared n.0)
+      and_from (is_within_depth m text f.declared) (list_all within (map site_of_field fs)) (ih f.declared n.0)
       (fields_within fs n.1)
 
   names_within : (s : Site) → is_within_depth m text s.declared ≡ true → (xs : List Identifier)
       → list_all within (map (with_site s) xs) ≡ true
   names_within s h [] = refl
   names_within s h (x ∷ xs) =
-      both_are (is_within_depth m text s.declared) (list_all within (map (with_site s) xs)) h (names_within s h xs)
+      and_from (is_within_depth m text s.declared) (list_all within (map (with_site s) xs)) h (names_within s h xs)
 
   declarations_within : (keep : Option Retention) (ds : List Declaration)
       → chains (map (λ d. part_of_type d.declared) ds) ≡ false
       → list_all within (sites_of_declarations keep ds) ≡ true
   declarations_within keep [] h = refl
   declarations_within keep (d ∷ ds) h =
-      let n = neither (has_chain text (suc m) (part_of_type d.declared))
+      let n = or_parts (has_chain text (suc m) (part_of_type d.declared))
       (chains (map (λ d. part_of_type d.declared) ds)) h in
       all_append within (map (with_site (site_of_declaration keep d)) d.names) (sites_of_declarations keep ds)
       (names_within (site_of_declaration keep d) (ih d.declared n.0) d.names) (declarations_within keep ds n.1)
@@ -74,8 +66,8 @@ module _ (text : Declared) (m : ℕ)
       → list_all within (sites_of_blocks bs) ≡ true
   blocks_within [] h = refl
   blocks_within (b ∷ bs) h =
-      let n = neither (chains (parts_of_block b)) (chains (flat_map parts_of_block bs))
-      (sym (any_append (has_chain text (suc m)) (parts_of_block b) (flat_map parts_of_block bs)) ∙ h) in
+      let n = or_parts (chains (parts_of_block b)) (chains (flat_map parts_of_block bs))
+      (sym (list_any-append (has_chain text (suc m)) (parts_of_block b) (flat_map parts_of_block bs)) ∙ h) in
       by_section (is_external b.section) n.0 (blocks_within bs n.1)
     where
       by_section : (external : Bool)
@@ -92,21 +84,21 @@ module _ (text : Declared) (m : ℕ)
   unfolding is_within_depth
   members_within k e [] = refl
   members_within k e (x ∷ xs) =
-      both_are (within (site_of_member x)) (list_all within (map site_of_member xs))
+      and_from (within (site_of_member x)) (list_all within (map site_of_member xs))
       (ap (λ n. is_within_depth n text (site_of_member x).site.declared) e) (members_within k e xs)
 
-  -- a unit that is no function block has no members
+  -- a unit that isn't a function block has no members
   unit_within : (u : OrganisationUnit) → chains (parts_of_unit text u) ≡ false → (s : UnitSort)
       → parts_within (is_within_depth m text) (instance_parts (block_type_of s u)) ≡ true
   unit_within u h (Function t) = refl
   unit_within u h Program = refl
   unit_within u h FunctionBlock =
-      let a = neither (chains (flat_map parts_of_block u.blocks ++ part_of_result u.sort))
+      let a = or_parts (chains (flat_map parts_of_block u.blocks ++ part_of_result u.sort))
       (chains (map named (filter (is_function text) (calls_of u))))
-      (sym (any_append (has_chain text (suc m)) (flat_map parts_of_block u.blocks ++ part_of_result u.sort)
+      (sym (list_any-append (has_chain text (suc m)) (flat_map parts_of_block u.blocks ++ part_of_result u.sort)
       (map named (filter (is_function text) (calls_of u)))) ∙ h) in
-      let b = neither (chains (flat_map parts_of_block u.blocks)) (chains (part_of_result u.sort))
-      (sym (any_append (has_chain text (suc m)) (flat_map parts_of_block u.blocks) (part_of_result u.sort)) ∙ a.0) in
+      let b = or_parts (chains (flat_map parts_of_block u.blocks)) (chains (part_of_result u.sort))
+      (sym (list_any-append (has_chain text (suc m)) (flat_map parts_of_block u.blocks) (part_of_result u.sort)) ∙ a.0) in
       blocks_within u.blocks b.0
 
   own_within : (x : Identifier) (o : Option OrganisationUnit)
@@ -133,7 +125,7 @@ module _ (text : Declared) (m : ℕ)
     block_within x b e None q h =
         let g : chains (if is_some (Some b) then elementary ∷ [] else []) ≡ false =
         ap (λ k. chains (if is_some k then elementary ∷ [] else [])) (sym e) ∙ h in
-        let n = neither (has_chain text (suc m) elementary) false g in
+        let n = or_parts (has_chain text (suc m) elementary) false g in
         let k = more_than_one m refl n.0 in
         members_within k.0 k.1 (members_of b)
 
@@ -164,7 +156,7 @@ module _ (text : Declared) (m : ℕ)
         ]) ≡ false
         → parts_within (is_within_depth m text) (defined_composition text (types.Simple (Named x)) d) ≡ true
     by_definition x (Some (declarations.array a)) h =
-        ih (types.Simple a.element) (neither (has_chain text (suc m) (part_of_type (types.Simple a.element))) false h).0
+        ih (types.Simple a.element) (or_parts (has_chain text (suc m) (part_of_type (types.Simple a.element))) false h).0
     by_definition x (Some (declarations.structure fields)) h = fields_within fields h
     by_definition x (Some (declarations.enumeration names)) h = refl
     by_definition x None h = by_name x (is_none (type_named text.types x.name)) h
@@ -181,7 +173,7 @@ module _ (text : Declared) (m : ℕ)
         → parts_within (is_within_depth m text) (composition_of text t) ≡ true
     by_type (types.Simple (Elementary k at)) h = refl
     by_type (types.Array a) h =
-        ih (types.Simple a.element) (neither (has_chain text (suc m) (part_of_type (types.Simple a.element))) false h).0
+        ih (types.Simple a.element) (or_parts (has_chain text (suc m) (part_of_type (types.Simple a.element))) false h).0
     by_type (types.Simple (Named x)) h = by_kind x (kind_among text.types (types.Simple (Named x))) h
 
 pub without_chain : (text : Declared)

@@ -1,4 +1,4 @@
--- Where no name of a unit's variables is declared twice, each variable has the type that it is declared with.
+-- If no name of a unit's variables is declared twice, each variable has the type that it is declared with.
 use Rattle.std.proofs.Common.{◌≡◌, refl, ap, subst, ◌∙◌, Bool, true, false, ◌||◌, if◌then◌else◌, List, [], ◌∷◌, ◌++◌}
 use Rattle.std.proofs.Common.{Some, None, append_assoc}
 use Rattle.std.specs.Prelude.{bytes_eq}

@@ -12,7 +12,7 @@ use Rattle.layout.specs.Types.{NamedSite, with_site, site_of_declaration, sites_
 use Rattle.layout.specs.Types.{sites_of_blocks}
 use Rattle.st_link.proofs.Among.{Among, here, later, in_either}
 
--- what stands in a list of all that pass
+-- the members of a list all of which pass
 pub all_from : {A : Type 0} (p : A → Bool) (xs : List A) → ((a : A) → Among a xs → p a ≡ true)
     → list_all p xs ≡ true
 all_from p [] h = refl

@@ -1,4 +1,4 @@
--- A variable of a unit has the type and the section that it is declared with, where no name is declared twice.
+-- A variable of a unit has the type and the section that it is declared with, if no name is declared twice.
 use Rattle.std.proofs.Common.{◌≡◌, refl, sym, ap, subst, ◌∙◌, Bool, true, false, ◌||◌, if◌then◌else◌, List, [], ◌∷◌, ◌++◌}
 use Rattle.std.proofs.Common.{Option, Some, None}
 use Rattle.std.specs.List.{flat_map, list_any}
@@ -19,13 +19,11 @@ use Rattle.st_link.proofs.Among.{Among, here, later, in_flat, none_of, none_pass
 use Rattle.st_link.proofs.ApartNames.{NamesRight, repeats_behind}
 use Rattle.st_link.proofs.DeclaredOnce.{itself_named, none_declared, type_once}
 use Rattle.st_link.proofs.InstanceSections.{absent}
+use Rattle.st_types.proofs.TestLemmas.{or_second}
+use Rattle.std.proofs.lemmas.Bool.{or_right}
 
 abbrev names_in : Declaration → List Identifier
 names_in d = d.names
-
-or_true : (a b : Bool) → b ≡ true → (a || b) ≡ true
-or_true true b h = refl
-or_true false b h = h
 
 any_declared : (ds : List Declaration) {d : Declaration} {x : Identifier} → Among d ds → Among x d.names
     → list_any (λ c. list_any (is_named x.name) c.names) ds ≡ true
@@ -33,7 +31,7 @@ any_declared [] declaration name = elim declaration [ ]
 any_declared (d ∷ ds) {x = x} here name =
     ap (λ b. b || list_any (λ c. list_any (is_named x.name) c.names) ds) (itself_named d.names name)
 any_declared (c ∷ ds) {x = x} (later declaration) name =
-    or_true (list_any (is_named x.name) c.names) _ (any_declared ds declaration name)
+    or_right (list_any (is_named x.name) c.names) _ (any_declared ds declaration name)
 
 section_once : (bs : List VariableBlock) {b : VariableBlock} {d : Declaration} {x : Identifier}
     → repeats (flat_map variables_of_block bs) ≡ [] → Among b bs → Among d b.declarations → Among x d.names
@@ -48,7 +46,7 @@ section_once (c ∷ bs) {x = x} once (later block) declaration name =
     ∙ section_once bs (repeats_behind (variables_of_block c) (flat_map variables_of_block bs) once) block declaration
     name
 
--- a name that none of a list has
+-- a name that doesn't occur in a list
 none_has : (test : Identifier → Bool) {a : Identifier} {xs : List Identifier} → Among a xs → list_any test xs ≡ false
     → test a ≡ false
 none_has test (here {a = a} {rest = rest}) h = first_false (test a) (list_any test rest) h
@@ -62,10 +60,6 @@ none_has test (later {b = x} {rest = rest} k) h = none_has test k (second_false 
     second_false true b k = absurd (cc)
     second_false false b k = k
 
-behind_false : (a b : Bool) → (a || b) ≡ false → b ≡ false
-behind_false true b h = absurd (cc)
-behind_false false b h = h
-
 module _ (source : Source) (names : NamesRight source) (u : OrganisationUnit) (unit : Among (sources.unit u) source)
     (b : VariableBlock) (block : Among b u.blocks) (d : Declaration) (declaration : Among d b.declarations)
     (x : Identifier) (name : Among x d.names) where
@@ -74,7 +68,7 @@ module _ (source : Source) (names : NamesRight source) (u : OrganisationUnit) (u
       let own = in_flat variables_of_block block (in_flat names_in declaration name) in
       let free = none_passes (is_taken (names_of_text source)) (in_flat variables_of_element unit own) names.untaken in
       none_has (is_named x.name) (in_flat names_of_element unit here)
-      (behind_false (is_standard x.name) (list_any (is_named x.name) (names_of_text source)) free)
+      (or_second (is_standard x.name) (list_any (is_named x.name) (names_of_text source)) free)
 
   once : repeats (flat_map variables_of_block u.blocks) ≡ []
   once = none_of repeats (in_flat scopes_of_element unit here) names.scopes

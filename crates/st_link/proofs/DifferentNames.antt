@@ -1,4 +1,4 @@
--- Where no name is declared twice, names differ in the scopes that a layout asks for.
+-- If no name is declared twice, names differ in the scopes that a layout needs.
 use Rattle.std.proofs.Common.{◌≡◌, Bool, true, false, not, ◌&&◌, ◌||◌, if◌then◌else◌, List, [], ◌∷◌, ◌++◌, map}
 use Rattle.std.proofs.Common.{Option}
 use Rattle.std.proofs.Common.{Some, refl, sym, ap, ap₂, ◌∙◌}
@@ -35,26 +35,18 @@ use Rattle.layout.specs.TextLayouts.{slots_of_text}
 use Rattle.layout.specs.Names.{are_different, names_of_sites, has_different_fields, variable_names}
 use Rattle.layout.specs.Names.{has_different_variables, are_types_and_units_different, has_different_instances}
 use Rattle.layout.specs.Names.{is_configuration_different}
-use Rattle.layout.proofs.ListLemmas.{both, both_are, turned, turned_back, neither, any_append, name_turned}
+use Rattle.layout.proofs.ListLemmas.{name_turned}
 use Rattle.layout.proofs.NameLemmas.{configuration_once}
-use Rattle.layout.proofs.ResolvedLemmas.{map_map, slots_taken}
-use Rattle.layout.proofs.StoreLemmas.{map_append}
+use Rattle.layout.proofs.ResolvedLemmas.{slots_taken}
 use Rattle.layout.proofs.VariableLemmas.{variables_layout}
 use Rattle.st_link.specs.Homes.{are_names_different}
 use Rattle.st_link.proofs.SoundMembers.{names_append}
-
--- lists that are empty
-empty_parts : {A : Type 0} (xs ys : List A) → xs ++ ys ≡ [] → (xs ≡ []) × (ys ≡ [])
-empty_parts [] ys h = (refl, h)
-empty_parts (x ∷ xs) ys h = absurd (cc)
-
-flat_parts : {A B : Type 0} (f : A → List B) (xs ys : List A) → flat_map f (xs ++ ys) ≡ []
-    → (flat_map f xs ≡ []) × (flat_map f ys ≡ [])
-flat_parts f [] ys h = (refl, h)
-flat_parts f (x ∷ xs) ys h =
-    let e = empty_parts (f x) (flat_map f (xs ++ ys)) h in
-    let i = flat_parts f xs ys e.1 in
-    (ap₂ (λ cs ds. cs ++ ds) e.0 i.0, i.1)
+use Rattle.st_types.proofs.ListLemmas.{append_parts, flat_parts, all_append, map_map}
+use Rattle.std.proofs.lemmas.Bool.{not_from_false, or_parts, and_parts, and_from}
+use Rattle.layout.proofs.NameLaws.{not_repeated, later_differ, instances_differ}
+use Rattle.std.proofs.lemmas.List.{map-append}
+use Rattle.st_types.proofs.TestLemmas.{false_from_not}
+use Rattle.std.proofs.lemmas.List.Folds.{list_any-append}
 
 places_parts : (p : Identifier → Bool) (xs ys : List Identifier) → places_where p (xs ++ ys) ≡ []
     → (places_where p xs ≡ []) × (places_where p ys ≡ [])
@@ -68,7 +60,7 @@ places_parts p (x ∷ xs) ys h = by_test (p x) h (places_parts p xs ys)
     by_test true g ih = absurd (cc)
     by_test false g ih = ih g
 
-none_passes : (p : Identifier → Bool) (x : Identifier) (xs : List Identifier) → places_where p (x ∷ xs) ≡ []
+pub none_passes : (p : Identifier → Bool) (x : Identifier) (xs : List Identifier) → places_where p (x ∷ xs) ≡ []
     → (p x ≡ false) × (places_where p xs ≡ [])
 none_passes p x xs h = by_test (p x) h
   where
@@ -77,49 +69,37 @@ none_passes p x xs h = by_test (p x) h
     by_test true g = absurd (cc)
     by_test false g = (refl, g)
 
--- names that don't stand again
-not_again : (x : Name) (xs : List Identifier) → places_where (is_named x) xs ≡ []
+-- names that don't occur again
+pub not_again : (x : Name) (xs : List Identifier) → places_where (is_named x) xs ≡ []
     → contains_name (names_of xs) x ≡ false
 not_again x [] h = refl
 not_again x (y ∷ ys) h =
     let n = none_passes (is_named x) y ys h in
     ap₂ (λ a b. a || b) n.0 (not_again x ys n.1)
 
-repeats_differ : (xs : List Identifier) → repeats xs ≡ [] → are_different (names_of xs) ≡ true
-repeats_differ [] h = refl
-repeats_differ (x ∷ xs) h =
-    let e = empty_parts (places_where (is_named x.name) xs) (repeats xs) h in
-    both_are (not (contains_name (names_of xs) x.name)) (are_different (names_of xs))
-    (turned_back (contains_name (names_of xs) x.name) (not_again x.name xs e.0)) (repeats_differ xs e.1)
-
 names_apart : (xs ys : List Identifier) → names_of (xs ++ ys) ≡ names_of xs ++ names_of ys
-names_apart xs ys = map_append (λ x. x.name) xs ys
-
--- fewer names differ too
-later_differ : (xs ys : List Name) → are_different (xs ++ ys) ≡ true → are_different ys ≡ true
-later_differ [] ys h = h
-later_differ (x ∷ xs) ys h = later_differ xs ys (both (not (contains_name (xs ++ ys) x)) (are_different (xs ++ ys)) h).1
+names_apart xs ys = map-append (λ x. x.name) xs ys
 
 fewer_differ : (xs ys zs : List Name) → are_different (xs ++ ys) ≡ true → are_different zs ≡ true
     → ((x : Name) → contains_name ys x ≡ false → contains_name zs x ≡ false) → are_different (xs ++ zs) ≡ true
 fewer_differ [] ys zs h d fewer = d
 fewer_differ (x ∷ xs) ys zs h d fewer =
-    let b = both (not (contains_name (xs ++ ys) x)) (are_different (xs ++ ys)) h in
-    let n = neither (contains_name xs x) (contains_name ys x)
-    (sym (any_append (λ y. bytes_eq x y) xs ys) ∙ turned (contains_name (xs ++ ys) x) b.0) in
-    both_are (not (contains_name (xs ++ zs) x)) (are_different (xs ++ zs))
-    (turned_back (contains_name (xs ++ zs) x)
-    (any_append (λ y. bytes_eq x y) xs zs ∙ ap₂ (λ a b. a || b) n.0 (fewer x n.1)))
+    let b = and_parts (not (contains_name (xs ++ ys) x)) (are_different (xs ++ ys)) h in
+    let n = or_parts (contains_name xs x) (contains_name ys x)
+    (sym (list_any-append (λ y. bytes_eq x y) xs ys) ∙ false_from_not (contains_name (xs ++ ys) x) b.0) in
+    and_from (not (contains_name (xs ++ zs) x)) (are_different (xs ++ zs))
+    (not_from_false (contains_name (xs ++ zs) x)
+    (list_any-append (λ y. bytes_eq x y) xs zs ∙ ap₂ (λ a b. a || b) n.0 (fewer x n.1)))
     (fewer_differ xs ys zs b.1 d fewer)
 
 apart : (x : Name) (xs ys : List Name) → contains_name (xs ++ ys) x ≡ false
     → (contains_name xs x ≡ false) × (contains_name ys x ≡ false)
 apart x xs ys h =
-    neither (contains_name xs x) (contains_name ys x) (sym (any_append (λ y. bytes_eq x y) xs ys) ∙ h)
+    or_parts (contains_name xs x) (contains_name ys x) (sym (list_any-append (λ y. bytes_eq x y) xs ys) ∙ h)
 
 together : (x : Name) (xs ys : List Name) → contains_name xs x ≡ false → contains_name ys x ≡ false
     → contains_name (xs ++ ys) x ≡ false
-together x xs ys h g = any_append (λ y. bytes_eq x y) xs ys ∙ ap₂ (λ a b. a || b) h g
+together x xs ys h g = list_any-append (λ y. bytes_eq x y) xs ys ∙ ap₂ (λ a b. a || b) h g
 
 -- types
 abbrev type_names : List TypeDeclaration → List Name
@@ -137,10 +117,10 @@ fewer_types [] x h = refl
 fewer_types (sources.types ts ∷ rest) x h =
     let n = apart x (type_names ts) (names_of (names_of_text rest))
     (ap (λ ns. contains_name ns x) (sym (type_names_are ts rest)) ∙ h) in
-    ap (λ ns. contains_name ns x) (map_append (λ t. t.name.name) ts (types_in rest))
+    ap (λ ns. contains_name ns x) (map-append (λ t. t.name.name) ts (types_in rest))
     ∙ together x (type_names ts) (type_names (types_in rest)) n.0 (fewer_types rest x n.1)
 fewer_types (sources.unit u ∷ rest) x h =
-    fewer_types rest x (neither (bytes_eq x u.name.name) (contains_name (names_of (names_of_text rest)) x) h).1
+    fewer_types rest x (or_parts (bytes_eq x u.name.name) (contains_name (names_of (names_of_text rest)) x) h).1
 fewer_types (sources.configuration c ∷ rest) x h = fewer_types rest x h
 
 types_differ : (source : Source) → are_different (names_of (names_of_text source)) ≡ true
@@ -149,11 +129,11 @@ types_differ [] h = refl
 types_differ (sources.types ts ∷ rest) h =
     let d : are_different (type_names ts ++ names_of (names_of_text rest)) ≡ true =
     ap are_different (sym (type_names_are ts rest)) ∙ h in
-    ap are_different (map_append (λ t. t.name.name) ts (types_in rest))
+    ap are_different (map-append (λ t. t.name.name) ts (types_in rest))
     ∙ fewer_differ (type_names ts) (names_of (names_of_text rest)) (type_names (types_in rest)) d
     (types_differ rest (later_differ (type_names ts) (names_of (names_of_text rest)) d)) (fewer_types rest)
 types_differ (sources.unit u ∷ rest) h =
-    types_differ rest (both (not (contains_name (names_of (names_of_text rest)) u.name.name))
+    types_differ rest (and_parts (not (contains_name (names_of (names_of_text rest)) u.name.name))
     (are_different (names_of (names_of_text rest))) h).1
 types_differ (sources.configuration c ∷ rest) h = types_differ rest h
 
@@ -167,16 +147,16 @@ fields_differ : (ts : List TypeDeclaration) → flat_map repeats (flat_map (λ t
 fields_differ [] h = refl
 fields_differ (t ∷ ts) h =
     let e = flat_parts repeats (scopes_of_type t.definition) (flat_map (λ t. scopes_of_type t.definition) ts) h in
-    both_are (has_different_fields t.definition) (list_all (λ t. has_different_fields t.definition) ts)
+    and_from (has_different_fields t.definition) (list_all (λ t. has_different_fields t.definition) ts)
     (by_definition t.definition e.0) (fields_differ ts e.1)
   where
     by_definition : (d : TypeDefinition) → flat_map repeats (scopes_of_type d) ≡ [] → has_different_fields d ≡ true
     by_definition (declarations.array a) g = refl
     by_definition (declarations.enumeration names) g = refl
     by_definition (declarations.structure fields) g =
-        let e = empty_parts (repeats (map (λ f. f.name) fields))
+        let e = append_parts (repeats (map (λ f. f.name) fields))
         (flat_map repeats (flat_map (λ f. scopes_in_optional f.initial) fields)) g in
-        ap are_different (field_names fields) ∙ repeats_differ (map (λ f. f.name) fields) e.0
+        ap are_different (field_names fields) ∙ not_repeated (map (λ f. f.name) fields) e.0
 
 -- variables of a unit
 site_names : (s : Site) (xs : List Identifier) → names_of_sites (map (with_site s) xs) ≡ names_of xs
@@ -240,14 +220,14 @@ variables_differ (b ∷ bs) h =
         ∙ fewer_differ (names_of (variables_of_block b)) (names_of (flat_map variables_of_block bs))
         (names_of_sites (sites_of_blocks bs)) d ih (fewer_variables bs)
 
--- a unit's name is none of its variables
+-- a unit's name isn't one of its variables
 none_bears : (names : List Identifier) (n : Name)
     → ((x : Name) → list_any (is_named x) names ≡ false → bytes_eq x n ≡ false) → (ys : List Identifier)
     → places_where (is_taken names) ys ≡ [] → contains_name (names_of ys) n ≡ false
 none_bears names n unit [] h = refl
 none_bears names n unit (y ∷ ys) h =
     let p = none_passes (is_taken names) y ys h in
-    let t = neither (is_standard y.name) (list_any (is_named y.name) names) p.0 in
+    let t = or_parts (is_standard y.name) (list_any (is_named y.name) names) p.0 in
     ap₂ (λ a b. a || b) (name_turned y.name n false (unit y.name t.1)) (none_bears names n unit ys p.1)
 
 units_differ : (names : List Identifier) (source : Source)
@@ -258,41 +238,34 @@ units_differ : (names : List Identifier) (source : Source)
 units_differ names [] among taken h = refl
 units_differ names (sources.types ts ∷ rest) among taken h =
     let e = flat_parts repeats (scopes_of_element (sources.types ts)) (flat_map scopes_of_element rest) h in
-    units_differ names rest (λ x g. (neither (list_any (is_named x) (map (λ t. t.name) ts))
+    units_differ names rest (λ x g. (or_parts (list_any (is_named x) (map (λ t. t.name) ts))
     (list_any (is_named x) (names_of_text rest))
-    (sym (any_append (is_named x) (map (λ t. t.name) ts) (names_of_text rest)) ∙ among x g)).1) taken e.1
+    (sym (list_any-append (is_named x) (map (λ t. t.name) ts) (names_of_text rest)) ∙ among x g)).1) taken e.1
 units_differ names (sources.configuration c ∷ rest) among taken h =
     let e = flat_parts repeats (scopes_of_element (sources.configuration c)) (flat_map scopes_of_element rest) h in
     units_differ names rest among taken e.1
 units_differ names (sources.unit u ∷ rest) among taken h =
     let e = flat_parts repeats (scopes_of_element (sources.unit u)) (flat_map scopes_of_element rest) h in
-    let r = empty_parts (repeats (variables_of u)) (flat_map repeats (flat_map scopes_in_variables u.blocks)) e.0 in
+    let r = append_parts (repeats (variables_of u)) (flat_map repeats (flat_map scopes_in_variables u.blocks)) e.0 in
     let t = places_parts (is_taken names) (variables_of u) (variables_of_text rest) taken in
-    let d = variables_differ u.blocks (repeats_differ (variables_of u) r.0) in
+    let d = variables_differ u.blocks (not_repeated (variables_of u) r.0) in
     let own : (x : Name) → list_any (is_named x) names ≡ false → bytes_eq x u.name.name ≡ false =
-    λ x g. (neither (is_named x u.name) (list_any (is_named x) (names_of_text rest)) (among x g)).0 in
+    λ x g. (or_parts (is_named x u.name) (list_any (is_named x) (names_of_text rest)) (among x g)).0 in
     let n = fewer_variables u.blocks u.name.name (none_bears names u.name.name own (variables_of u) t.0) in
-    both_are (has_different_variables u) (list_all has_different_variables (units_in rest))
+    and_from (has_different_variables u) (list_all has_different_variables (units_in rest))
     (by_sort u.sort d n)
     (units_differ names rest
-    (λ x g. (neither (is_named x u.name) (list_any (is_named x) (names_of_text rest)) (among x g)).1) t.1 e.1)
+    (λ x g. (or_parts (is_named x u.name) (list_any (is_named x) (names_of_text rest)) (among x g)).1) t.1 e.1)
   where
     by_sort : (s : UnitSort) → are_different (names_of_sites (sites_of_blocks u.blocks)) ≡ true
         → contains_name (names_of_sites (sites_of_blocks u.blocks)) u.name.name ≡ false
         → are_different (variable_names s u) ≡ true
     by_sort (Function t) d n =
-        both_are (not (contains_name (names_of_sites (sites_of_blocks u.blocks)) u.name.name))
+        and_from (not (contains_name (names_of_sites (sites_of_blocks u.blocks)) u.name.name))
         (are_different (names_of_sites (sites_of_blocks u.blocks)))
-        (turned_back (contains_name (names_of_sites (sites_of_blocks u.blocks)) u.name.name) n) d
+        (not_from_false (contains_name (names_of_sites (sites_of_blocks u.blocks)) u.name.name) n) d
     by_sort FunctionBlock d n = d
     by_sort Program d n = d
-
-all_append : {A : Type 0} (f : A → Bool) (xs ys : List A) → list_all f xs ≡ true → list_all f ys ≡ true
-    → list_all f (xs ++ ys) ≡ true
-all_append f [] ys h g = g
-all_append f (x ∷ xs) ys h g =
-    let b = both (f x) (list_all f xs) h in
-    both_are (f x) (list_all f (xs ++ ys)) b.0 (all_append f xs ys b.1 g)
 
 all_fields : (source : Source) → flat_map repeats (flat_map scopes_of_element source) ≡ []
     → list_all (λ t. has_different_fields t.definition) (types_in source) ≡ true
@@ -318,7 +291,7 @@ global_declarations : (keep : Option Retention) (ds : List GlobalDeclaration)
     → names_among (variables_of_declarations keep ds) ≡ names_of (flat_map (λ d. listed_names d.names) ds)
 global_declarations keep [] = refl
 global_declarations keep (d ∷ ds) =
-    map_append (λ v. v.name) (variables_of_names (site_of_global keep d) d.names) (variables_of_declarations keep ds)
+    map-append (λ v. v.name) (variables_of_names (site_of_global keep d) d.names) (variables_of_declarations keep ds)
     ∙ ap₂ (λ xs ys. xs ++ ys) (listed_are (site_of_global keep d) d.names) (global_declarations keep ds)
     ∙ sym (names_apart (listed_names d.names) (flat_map (λ d. listed_names d.names) ds))
 
@@ -326,37 +299,24 @@ global_names : (bs : List GlobalBlock)
     → names_among (variables_of_globals bs) ≡ names_of (flat_map globals_of_block bs)
 global_names [] = refl
 global_names (b ∷ bs) =
-    map_append (λ v. v.name) (variables_of_declarations (retention_of_globals b.qualifier) b.declarations)
+    map-append (λ v. v.name) (variables_of_declarations (retention_of_globals b.qualifier) b.declarations)
     (variables_of_globals bs)
     ∙ ap₂ (λ xs ys. xs ++ ys) (global_declarations (retention_of_globals b.qualifier) b.declarations) (global_names bs)
     ∙ sym (names_apart (globals_of_block b) (flat_map globals_of_block bs))
-
-instances_differ : (rs : List Resource) → flat_map repeats (map names_in rs) ≡ []
-    → list_all has_different_instances rs ≡ true
-instances_differ [] h = refl
-instances_differ (r ∷ rs) h =
-    let e = empty_parts (repeats (names_in r)) (flat_map repeats (map names_in rs)) h in
-    let d : are_different (names_of (map (λ t. t.name) r.tasks) ++ names_of (map (λ i. i.name) r.instances)) ≡ true =
-    ap are_different (sym (names_apart (map (λ t. t.name) r.tasks) (map (λ i. i.name) r.instances)))
-    ∙ repeats_differ (names_in r) e.0 in
-    both_are (has_different_instances r) (list_all has_different_instances rs)
-    (ap are_different (sym (map_map (λ x. x.name) (λ i. i.name) r.instances))
-    ∙ later_differ (names_of (map (λ t. t.name) r.tasks)) (names_of (map (λ i. i.name) r.instances)) d)
-    (instances_differ rs e.1)
 
 configuration_differs : (c : Configuration) → flat_map repeats (scopes_of_element (sources.configuration c)) ≡ []
     → is_configuration_different (Some c) ≡ true
 configuration_differs c h =
     let e = flat_parts repeats (globals_of c ∷ flat_map scopes_in_globals c.globals)
     (map (λ r. r.name) c.resources ∷ map names_in c.resources) h in
-    let g = empty_parts (repeats (globals_of c)) (flat_map repeats (flat_map scopes_in_globals c.globals)) e.0 in
-    let r = empty_parts (repeats (map (λ r. r.name) c.resources)) (flat_map repeats (map names_in c.resources)) e.1 in
-    both_are (are_different (names_among (variables_of_globals c.globals)))
+    let g = append_parts (repeats (globals_of c)) (flat_map repeats (flat_map scopes_in_globals c.globals)) e.0 in
+    let r = append_parts (repeats (map (λ r. r.name) c.resources)) (flat_map repeats (map names_in c.resources)) e.1 in
+    and_from (are_different (names_among (variables_of_globals c.globals)))
     (are_different (map (λ r. r.name.name) c.resources) && list_all has_different_instances c.resources)
-    (ap are_different (global_names c.globals) ∙ repeats_differ (globals_of c) g.0)
-    (both_are (are_different (map (λ r. r.name.name) c.resources)) (list_all has_different_instances c.resources)
+    (ap are_different (global_names c.globals) ∙ not_repeated (globals_of c) g.0)
+    (and_from (are_different (map (λ r. r.name.name) c.resources)) (list_all has_different_instances c.resources)
     (ap are_different (sym (map_map (λ x. x.name) (λ r. r.name) c.resources))
-    ∙ repeats_differ (map (λ r. r.name) c.resources) r.0)
+    ∙ not_repeated (map (λ r. r.name) c.resources) r.0)
     (instances_differ c.resources r.1))
 
 configurations_differ : (source : Source) → flat_map repeats (flat_map scopes_of_element source) ≡ []
@@ -370,14 +330,14 @@ configurations_differ (sources.unit u ∷ rest) h =
     (flat_parts repeats (scopes_of_element (sources.unit u)) (flat_map scopes_of_element rest) h).1
 configurations_differ (sources.configuration c ∷ rest) h =
     let e = flat_parts repeats (scopes_of_element (sources.configuration c)) (flat_map scopes_of_element rest) h in
-    both_are (is_configuration_different (Some c))
+    and_from (is_configuration_different (Some c))
     (list_all (λ c. is_configuration_different (Some c)) (configurations_in rest)) (configuration_differs c e.0)
     (configurations_differ rest e.1)
 
 only_differs : (cs : List Configuration) → list_all (λ c. is_configuration_different (Some c)) cs ≡ true
     → is_configuration_different (only_configuration cs) ≡ true
 only_differs [] h = refl
-only_differs (c ∷ []) h = (both (is_configuration_different (Some c)) true h).0
+only_differs (c ∷ []) h = (and_parts (is_configuration_different (Some c)) true h).0
 only_differs (c ∷ d ∷ cs) h = refl
 
 -- a text that declares no name twice
@@ -388,20 +348,20 @@ record AreScopesEmpty (source : Source) : Type 0 where
 
 scopes_empty : (source : Source) → twice_declared source ≡ [] → AreScopesEmpty source
 scopes_empty source h =
-    let a = empty_parts (flat_map repeats (scopes_of source)
+    let a = append_parts (flat_map repeats (scopes_of source)
     ++ places_where (λ x. is_standard x.name) (names_of_text source))
     (places_where (is_taken (names_of_text source)) (variables_of_text source)) h in
-    let b = empty_parts (flat_map repeats (scopes_of source))
+    let b = append_parts (flat_map repeats (scopes_of source))
     (places_where (λ x. is_standard x.name) (names_of_text source)) a.0 in
-    let c = empty_parts (repeats (names_of_text source)) (flat_map repeats (flat_map scopes_of_element source)) b.0 in
+    let c = append_parts (repeats (names_of_text source)) (flat_map repeats (flat_map scopes_of_element source)) b.0 in
     record { text = c.0; elements = c.1; variables = a.1 }
 
 pub names_differ : (source : Source) → twice_declared source ≡ [] → are_names_different (declared_in source) ≡ true
 names_differ source h =
     let e = scopes_empty source h in
-    both_are (are_different (type_names (types_in source))) (are_types_and_units_different (declared_in source))
-    (types_differ source (repeats_differ (names_of_text source) e.text))
-    (both_are (list_all (λ t. has_different_fields t.definition) (types_in source))
+    and_from (are_different (type_names (types_in source))) (are_types_and_units_different (declared_in source))
+    (types_differ source (not_repeated (names_of_text source) e.text))
+    (and_from (list_all (λ t. has_different_fields t.definition) (types_in source))
     (list_all has_different_variables (units_in source)) (all_fields source e.elements)
     (units_differ (names_of_text source) source (λ x g. g) e.variables e.elements))
 
@@ -410,11 +370,11 @@ pub scopes_differ : (source : Source) → twice_declared source ≡ []
 scopes_differ source h =
     only_differs (configurations_in source) (configurations_differ source (scopes_empty source h).elements)
 
--- so each path of its layout stands once
+-- so each path of its layout occurs once
 pub text_layout : (source : Source) → twice_declared source ≡ [] → IsLayout (slots_of_text source)
 text_layout source h =
     let c = only_configuration (configurations_in source) in
-    let d = (both (are_different (type_names (types_in source))) (are_types_and_units_different (declared_in source))
+    let d = (and_parts (are_different (type_names (types_in source))) (are_types_and_units_different (declared_in source))
     (names_differ source h)).1 in
     let s = slots_taken source in
     rw s (variables_layout (declared_in source) (variables_of_configuration (declared_in source) c)

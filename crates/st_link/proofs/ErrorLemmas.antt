@@ -1,10 +1,10 @@
--- What an error that goes on tells.
+-- The information in an error that is passed on.
 use Rattle.std.proofs.Common.{◌≡◌, refl, sym, subst, Option, Some, None, Result, Ok, Err}
 use Rattle.std.specs.Prelude.{IfErr, option_and_then}
 use Rattle.st_link.specs.declared.link_error.LinkError.{LinkError}
 use Rattle.st_link.specs.declared.link_error.LinkError.TheVariants.{NotThere}
 
--- where a part is not there, and so the whole is not
+-- if a part is missing, so is the whole
 pub none_then : {T : Type 0} (r : Result T LinkError) (e : LinkError) (P Q : Type 0) → (e ≡ NotThere → P) → (P → Q)
     → r ≡ Err e → IfErr r (λ y. y ≡ NotThere → Q)
 none_then r e P Q h f is = subst (λ s. IfErr s (λ y. y ≡ NotThere → Q)) (sym is) (λ n. f (h n))

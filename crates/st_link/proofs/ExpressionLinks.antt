@@ -17,7 +17,7 @@ use Rattle.st_types.specs.Expressions.{Expr, literal, read, parenthesis, Exprs, 
 use Rattle.st_types.specs.Expressions.{member, subscript, Selectors, no_selectors, selector_then}
 use Rattle.st_types.specs.Units.{OrganisationUnit}
 use Rattle.st_meaning.specs.Enumerations.{Member, enumerations_of, members_named, only_one, number_of_member}
-use Rattle.st_meaning.specs.NameTypes.{selected_type, type_behind, kind_among, unit_named, input_kinds}
+use Rattle.st_meaning.specs.NameTypes.{selected_type, type_after_selectors, kind_among, unit_named, input_kinds}
 use Rattle.st_meaning.specs.NameTypes.{result_kind}
 use Rattle.st_meaning.specs.Resolution.{own_kinds, taken_kind, taking_literal, common_kind, expected_kinds}
 use Rattle.st_meaning.specs.Resolution.{inputs_of_unit, inputs_of_function, resolved_expr, resolved_exprs}
@@ -37,12 +37,10 @@ use Rattle.st_rules.specs.Nodes.{nodes_of, nodes_of_all, nodes_of_selectors, off
 use Rattle.st_rules.specs.ExpressionRules.{count_of, wrong_alone, wrong_call, wrong_part, wrong_node, wrong_within}
 use Rattle.st_rules.specs.ExpressionRules.{wrong_expression}
 use Rattle.st_rules.proofs.TypingLaws.{all_kinds_told}
-use Rattle.layout.specs.Shapes.{Whole, Shape, Parts, plain, array, parts, size, sizes}
+use Rattle.st_rules.specs.TypeRules.{elements_of_array}
+use Rattle.layout.specs.Shapes.{PartsOwner, Shape, Parts, plain, array, parts, size, sizes}
 use Rattle.layout.specs.Types.{shape_within, is_within_depth, lower_of}
-use Rattle.layout.specs.Types as layouts
-use Rattle.layout.proofs.ListLemmas.{some_is}
 use Rattle.st_link.specs.Soundness.{IsTypeIn, of_variable, of_part}
-use Rattle.st_link.proofs.Alikes.{front_empty, back_empty}
 use Rattle.st_link.proofs.KnownLemmas.{variable_is_there, type_there, typing_known, below_binary, own_part}
 use Rattle.st_link.proofs.ValueLaw.{settled_known, inside, kind_asked, operands_alike, offers}
 use Rattle.st_link.proofs.ValueLaw.{operands_right, kind_there, standard_expected, inputs_expected, standard_asked}
@@ -52,13 +50,14 @@ use Rattle.st_link.proofs.SoundMembers.{member_part, element_part}
 use Rattle.slot_trees.specs.SlotTrees.{SlotExpr, constant, load, compute, call, unary, binary, no_exprs as none}
 use Rattle.slot_trees.specs.SlotTrees.{expr_then as one_then, place, no_subscripts}
 use Rattle.slot_trees.specs.Tables.{Symbol, Table, symbol_of, named_in, Part, part_at, moved}
-use Rattle.slot_trees.specs.Linking.{Selected, behind_offset, behind_subscript, place_of_shape, place_if_plain}
+use Rattle.slot_trees.specs.Linking.{Selected, with_offset, with_subscript, place_of_shape, place_if_plain}
 use Rattle.slot_trees.specs.Linking.{linked_call, linked, linked_all, linked_variable, linked_selectors}
 use Rattle.slot_trees.specs.Linking.{target_of, linked_target}
-use Rattle.slot_trees.proofs.OptionLemmas.{then_some}
 use Rattle.st_link.specs.Served.{IsLinked, HasSymbol, Serves, IsOrderly}
 use Rattle.st_link.proofs.LinkedParts.{linked_and, linked_map}
 use Rattle.st_link.proofs.TypeShapes.{room_of_both, has_part, has_elements, plain_shape}
+use Rattle.st_types.proofs.OptionLemmas.{some_is, then_some}
+use Rattle.st_types.proofs.ListLemmas.{append_first, append_second}
 
 -- selectors lead to an elementary part of the shape, which so has room
 pub record LeadsTo (t : Table) (sh : Shape) (xs : Selectors) (k : Kind) : Type 0 where
@@ -76,13 +75,13 @@ module _ (t : Table) (k : Kind) where
     room = refl;
   }
 
-  member_leads : (w : Whole) (ps : Parts) (x : Identifier) (e : Part) (xs : Selectors) → part_at ps x.name ≡ Some e
+  member_leads : (w : PartsOwner) (ps : Parts) (x : Identifier) (e : Part) (xs : Selectors) → part_at ps x.name ≡ Some e
       → (nat_lt 0 (size e.shape) ≡ true → nat_lt 0 (sizes ps) ≡ true) → LeadsTo t e.shape xs k
       → LeadsTo t (parts w ps) (selector_then (member x) xs) k
   member_leads w ps x e xs h room l = record {
-    selected = behind_offset e.offset l.selected;
-    is = ap (option_and_then (λ d. option_map (behind_offset d.offset) (linked_selectors t d.shape xs))) h
-        ∙ ap (option_map (behind_offset e.offset)) l.is;
+    selected = with_offset e.offset l.selected;
+    is = ap (option_and_then (λ d. option_map (with_offset d.offset) (linked_selectors t d.shape xs))) h
+        ∙ ap (option_map (with_offset e.offset)) l.is;
     shape = l.shape;
     room = room l.room;
   }
@@ -91,14 +90,14 @@ module _ (t : Table) (k : Kind) where
       → linked t e ≡ Some i → nat_lt 0 count ≡ true → LeadsTo t sh xs k
       → LeadsTo t (array lower count sh) (selector_then (subscript e) xs) k
   element_leads lower count sh e i xs h some l = record {
-    selected = behind_subscript i lower count (size sh) l.selected;
+    selected = with_subscript i lower count (size sh) l.selected;
     is =
         ap (λ b. if b
-        then option_and_then (λ j. option_map (behind_subscript j lower count (size sh)) (linked_selectors t sh xs))
+        then option_and_then (λ j. option_map (with_subscript j lower count (size sh)) (linked_selectors t sh xs))
         (linked t e) else None) (room_of_both count (size sh) some l.room)
         ∙ ap (option_and_then
-        (λ j. option_map (behind_subscript j lower count (size sh)) (linked_selectors t sh xs))) h
-        ∙ ap (option_map (behind_subscript i lower count (size sh))) l.is;
+        (λ j. option_map (with_subscript j lower count (size sh)) (linked_selectors t sh xs))) h
+        ∙ ap (option_map (with_subscript i lower count (size sh))) l.is;
     shape = l.shape;
     room = room_of_both count (size sh) some l.room;
   }
@@ -227,7 +226,7 @@ module _ (env : Environment) (t : Table) (orderly : IsOrderly env) (serves : Ser
   call_linked at f es (Some std) is all n h = standard_linked std f es all (count_right _ at n) h
   call_linked at f es None is all n h = unit_linked at f es (unit_named env.text.units f) is all n h
 
-  -- a variable that is there
+  -- a variable that exists
   read_linked : (x : Identifier) (xs : Selectors) (s : VariableType) (k : Kind) (y : HasSymbol env t.symbols x.name s)
       → LeadsTo t (shape_within y.depth env.text s) (behind xs) k
       → IsLinked (linked t (read (variable x (behind xs))))
@@ -254,21 +253,21 @@ module _ (env : Environment) (t : Table) (orderly : IsOrderly env) (serves : Ser
         read_linked x (selector_then y ys) there.declared l z
         (selectors_linked (selector_then y ys) z.depth there.declared (of_variable x.name there.named) z.within r
         there.behind.leads l kind
-        (back_empty (wrong_part env k (read (variable x (selector_then y ys))))
+        (append_second (wrong_part env k (read (variable x (selector_then y ys))))
         (flat_map (wrong_node env) (nodes_of_selectors env (selector_then y ys))) h))
     expr_linked k (named.call f es) h l is =
         call_linked f.place f.name es (standard_of f.name) refl (exprs_linked es) (own_part env k (named.call f es) h)
-        (back_empty (wrong_part env k (named.call f es))
+        (append_second (wrong_part env k (named.call f es))
         (flat_map (wrong_node env) (nodes_of_all env (demands_of env (callee_of env f.name) es) es)) h)
     expr_linked k (parenthesis at e) h l is = expr_linked k e h l is
     expr_linked k (named.unary op at e) h l is =
         linked_map (unary op) (linked t (resolved_expr env.text env.unit k e))
-        (expr_linked k e (back_empty (wrong_part env k (named.unary op at e)) (wrong_within env k e) h) l is)
+        (expr_linked k e (append_second (wrong_part env k (named.unary op at e)) (wrong_within env k e) h) l is)
     expr_linked k (named.binary op x y) h l is =
         let o = offered k op (typing_of env x) (typing_of env y) in
         let below = below_binary env k op x y h in
-        let left = front_empty (wrong_within env o x) (wrong_within env o y) below in
-        let right = back_empty (wrong_within env o x) (wrong_within env o y) below in
+        let left = append_first (wrong_within env o x) (wrong_within env o y) below in
+        let right = append_second (wrong_within env o x) (wrong_within env o y) below in
         let alike = operands_alike (sorts_of_binary op) (settled o (typing_of env x)) (settled o (typing_of env y))
         (operands_right env k op x y h)
         (settled_known o (typing_of env x) (typing_known env orderly.known o x left))
@@ -293,8 +292,8 @@ module _ (env : Environment) (t : Table) (orderly : IsOrderly env) (serves : Ser
         let d = asked k ss in
         let split : wrong_expression env d e ++ flat_map (wrong_node env) (nodes_of_all env ds es) ≡ [] =
         sym (flat_map-append (wrong_node env) (nodes_of env d e) (nodes_of_all env ds es)) ∙ h in
-        let here = front_empty (wrong_expression env d e) (flat_map (wrong_node env) (nodes_of_all env ds es)) split in
-        let rest = back_empty (wrong_expression env d e) (flat_map (wrong_node env) (nodes_of_all env ds es)) split in
+        let here = append_first (wrong_expression env d e) (flat_map (wrong_node env) (nodes_of_all env ds es)) split in
+        let rest = append_second (wrong_expression env d e) (flat_map (wrong_node env) (nodes_of_all env ds es)) split in
         let kind = kind_asked env orderly.known k ss e here in
         let ls = map expected_of ds in
         linked_and (λ x. option_map (one_then x) (linked_all t (resolved_exprs env.text env.unit ls es)))
@@ -304,7 +303,7 @@ module _ (env : Environment) (t : Table) (orderly : IsOrderly env) (serves : Ser
         (exprs_linked es ds (one_less (count_of es) (length ds) n) a rest))
 
     pub selectors_linked : (xs : Selectors) (n : ℕ) (s : VariableType) → IsTypeIn env s
-        → is_within_depth n env.text s ≡ true → (r : VariableType) → type_behind env.text xs s ≡ Some r → (k : Kind)
+        → is_within_depth n env.text s ≡ true → (r : VariableType) → type_after_selectors env.text xs s ≡ Some r → (k : Kind)
         → kind_among env.text.types r ≡ Some k → flat_map (wrong_node env) (nodes_of_selectors env xs) ≡ []
         → LeadsTo t (shape_within n env.text s) (resolved_selectors env.text env.unit xs) k
     selectors_linked no_selectors n s typed within r is k kind h =
@@ -312,7 +311,7 @@ module _ (env : Environment) (t : Table) (orderly : IsOrderly env) (serves : Ser
         (sym (plain_shape env.text n s k within (ap (kind_among env.text.types) (some_is is) ∙ kind)))
         (nothing_leads t k)
     selectors_linked (selector_then (member y) xs) n s typed within r is k kind h =
-        let one = then_some (type_behind env.text xs) (selected_type env.text s (member y)) r is in
+        let one = then_some (type_after_selectors env.text xs) (selected_type env.text s (member y)) r is in
         let p = has_part env.text n s y.name one.0 within (member_part env.text orderly.names s y.name one.0 one.1) in
         let rest = selectors_linked xs p.depth one.0 (of_part (member y) typed one.1) p.within r one.2 k kind h in
         subst
@@ -320,16 +319,16 @@ module _ (env : Environment) (t : Table) (orderly : IsOrderly env) (serves : Ser
         (member_leads t k p.whole p.members y p.part (resolved_selectors env.text env.unit xs) p.there p.room
         (subst (λ sh. LeadsTo t sh (resolved_selectors env.text env.unit xs) k) (sym p.shape) rest))
     selectors_linked (selector_then (subscript e) xs) n s typed within r is k kind h =
-        let one = then_some (type_behind env.text xs) (selected_type env.text s (subscript e)) r is in
+        let one = then_some (type_after_selectors env.text xs) (selected_type env.text s (subscript e)) r is in
         let a = element_part env.text orderly.names s one.0 one.1 in
         let p = has_elements env.text n s one.0 within a in
         let d = asked None whole in
         let split : wrong_expression env d e ++ flat_map (wrong_node env) (nodes_of_selectors env xs) ≡ [] =
         sym (flat_map-append (wrong_node env) (nodes_of env d e) (nodes_of_selectors env xs)) ∙ h in
         let here =
-        front_empty (wrong_expression env d e) (flat_map (wrong_node env) (nodes_of_selectors env xs)) split in
+        append_first (wrong_expression env d e) (flat_map (wrong_node env) (nodes_of_selectors env xs)) split in
         let others =
-        back_empty (wrong_expression env d e) (flat_map (wrong_node env) (nodes_of_selectors env xs)) split in
+        append_second (wrong_expression env d e) (flat_map (wrong_node env) (nodes_of_selectors env xs)) split in
         let number = kind_asked env orderly.known None whole e here in
         let index = expr_linked None e (inside env d e here) number.0 number.1 in
         let inner = of_part (subscript e) typed one.1 in
@@ -338,6 +337,6 @@ module _ (env : Environment) (t : Table) (orderly : IsOrderly env) (serves : Ser
         (λ sh. LeadsTo t sh
         (selector_then (subscript (resolved_expr env.text env.unit None e))
         (resolved_selectors env.text env.unit xs)) k) (sym p.is)
-        (element_leads t k (lower_of a.array) (layouts.count_of a.array) (shape_within p.depth env.text one.0)
+        (element_leads t k (lower_of a.array) (elements_of_array a.array) (shape_within p.depth env.text one.0)
         (resolved_expr env.text env.unit None e) index.value (resolved_selectors env.text env.unit xs) index.is
         (orderly.bounded s typed a.array a.composition) rest)

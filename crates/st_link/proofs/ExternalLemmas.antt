@@ -9,16 +9,14 @@ use Rattle.st_types.specs.declared.identifier.Identifier as code_identifier
 use Rattle.st_meaning.specs.Scopes.{Name, contains_name}
 use Rattle.symbols.specs.Found.{or_found}
 use Rattle.st_link.proofs.SymbolLemmas.{more_taken}
+use Rattle.st_types.proofs.TestLemmas.{or_false}
+use Rattle.symbols.proofs.TextLemmas.{or_none}
 
 abbrev pub shown : List (Bor code_identifier.Identifier) → List Name
 shown xs = map (λ y. y.now.name) xs
 
-or_nothing : (b : Bool) → (b || false) ≡ b
-or_nothing true = refl
-or_nothing false = refl
-
 contains_append : (xs : List Name) (y x : Name) → contains_name (xs ++ y ∷ []) x ≡ (contains_name xs x || bytes_eq x y)
-contains_append [] y x = or_nothing (bytes_eq x y)
+contains_append [] y x = or_false (bytes_eq x y)
 contains_append (z ∷ xs) y x =
     ap (λ b. bytes_eq x z || b) (contains_append xs y x)
     ∙ turned (bytes_eq x z) (contains_name xs x) (bytes_eq x y)
@@ -35,7 +33,7 @@ contains_more xs i y x below is =
     (ap shown (more_taken xs i y below is) ∙ map-append (λ z. z.now.name) (take i xs) (y ∷ []))
     ∙ contains_append (shown (take i xs)) y.now.name x
 
--- the global of a name, where this one has it
+-- the global of a name, if this one has it
 same_global : {A : Type 0} (x y : Name) (g : Name → Option A) → bytes_eq x y ≡ true → g y ≡ g x
 same_global x y g h = ap g (sym ((bytes_eq-Decides x y).0 h))
 
@@ -43,10 +41,6 @@ same_or : {A : Type 0} (f o : Option A) → or_found (or_found f o) o ≡ or_fou
 same_or (Some a) o = refl
 same_or None None = refl
 same_or None (Some a) = refl
-
-nothing_or : {A : Type 0} (o : Option A) → or_found o None ≡ o
-nothing_or None = refl
-nothing_or (Some a) = refl
 
 pub global_more : {A : Type 0} (x y : Name) (g : Name → Option A) (first : Option A) (c : Bool)
     (before after more : Option A)
@@ -61,7 +55,7 @@ global_more x y g first c before after more so_far is added =
     by_c : (d : Bool) → or_found (or_found first (if d then g x else None)) (g x)
         ≡ or_found first (if d || true then g x else None)
     by_c true = same_or first (g x)
-    by_c false = ap (λ o. or_found o (g x)) (nothing_or first)
+    by_c false = ap (λ o. or_found o (g x)) (or_none first)
 
     by_test : (b : Bool) → bytes_eq x y ≡ b
         → after ≡ or_found (or_found first (if c then g x else None)) (if b then g y else None)
@@ -69,8 +63,8 @@ global_more x y g first c before after more so_far is added =
     by_test true e h =
         h ∙ ap (or_found (or_found first (if c then g x else None))) (same_global x y g e) ∙ by_c c
     by_test false e h =
-        h ∙ nothing_or (or_found first (if c then g x else None))
-        ∙ ap (λ d. or_found first (if d then g x else None)) (sym (or_nothing c))
+        h ∙ or_none (or_found first (if c then g x else None))
+        ∙ ap (λ d. or_found first (if d then g x else None)) (sym (or_false c))
 
 pub nothing_added : {A : Type 0} (o : Option A) (b : Bool) → o ≡ or_found o (if b then None else None)
 nothing_added None true = refl

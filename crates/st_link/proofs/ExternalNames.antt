@@ -7,8 +7,9 @@ use Rattle.st_types.specs.Declarations.{Declaration, VariableBlock}
 use Rattle.st_meaning.specs.Bodies.{is_external, names_of, declared_names, externals_in}
 use Rattle.st_meaning.specs.Scopes.{Name, contains_name}
 use Rattle.st_link.proofs.Among.{Among, here, later}
-use Rattle.layout.proofs.ListLemmas.{same_name, any_append}
-use Rattle.st_link.proofs.ListTests.{or_either}
+use Rattle.layout.proofs.ListLemmas.{same_name}
+use Rattle.std.proofs.lemmas.List.Folds.{list_any-append}
+use Rattle.std.proofs.lemmas.Bool.{or_cases}
 
 -- an external of a unit
 pub record ExternalIn (bs : List VariableBlock) (x : Name) : Type 0 where
@@ -46,8 +47,8 @@ name_in : (ds : List Declaration) (x : Name) → contains_name (declared_names d
 name_in [] x h = absurd (cc)
 name_in (d ∷ ds) x h =
     here_or_later
-    (or_either (contains_name (names_of d.names) x) (contains_name (declared_names ds) x)
-    (sym (any_append (λ y. bytes_eq x y) (names_of d.names) (declared_names ds)) ∙ h)) (λ k. name_in ds x k)
+    (or_cases (contains_name (names_of d.names) x) (contains_name (declared_names ds) x)
+    (sym (list_any-append (λ y. bytes_eq x y) (names_of d.names) (declared_names ds)) ∙ h)) (λ k. name_in ds x k)
   where
     here_or_later : (contains_name (names_of d.names) x ≡ true) ⊎ (contains_name (declared_names ds) x ≡ true)
         → (contains_name (declared_names ds) x ≡ true → NameIn ds x) → NameIn (d ∷ ds) x
@@ -101,6 +102,6 @@ external_in (b ∷ bs) x h = by_test (is_external b.section) refl h (λ k. exter
         → contains_name (if c then declared_names b.declarations ++ externals_in bs else externals_in bs) x ≡ true
         → (contains_name (externals_in bs) x ≡ true → ExternalIn bs x) → ExternalIn (b ∷ bs) x
     by_test true e k f =
-        here_or_later e (or_either (contains_name (declared_names b.declarations) x) (contains_name (externals_in bs) x)
-        (sym (any_append (λ y. bytes_eq x y) (declared_names b.declarations) (externals_in bs)) ∙ k)) f
+        here_or_later e (or_cases (contains_name (declared_names b.declarations) x) (contains_name (externals_in bs) x)
+        (sym (list_any-append (λ y. bytes_eq x y) (declared_names b.declarations) (externals_in bs)) ∙ k)) f
     by_test false e k f = external_later b bs x (f k)

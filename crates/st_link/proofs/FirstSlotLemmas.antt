@@ -10,6 +10,7 @@ use Rattle.layout.specs.Shapes.{size}
 use Rattle.layout.specs.Types.{shape_of_type}
 use Rattle.st_link.specs.FirstSlots.{found_at, slots_taken}
 use Rattle.st_link.specs.LinkVariables.{LinkVariable}
+use Rattle.std.proofs.lemmas.Bool.{and_parts, and_from}
 
 pub taken_append : (text : Declared) (vs ws : List LinkVariable)
     → slots_taken text (vs ++ ws) ≡ slots_taken text vs + slots_taken text ws
@@ -39,7 +40,7 @@ found_append text n (v ∷ vs) ws x =
         ih ∙ ap (λ m. or_found (found_at text (n + size (shape_of_type text v.declared)) vs x) (found_at text m ws x))
         (later n (size (shape_of_type text v.declared)) (slots_taken text vs))
 
--- so many slots further
+-- a number of slots further
 pub shifted : (text : Declared) (m n : ℕ) (vs : List LinkVariable) (x : Name)
     → found_at text (m + n) vs x ≡ option_map (λ e. (m + e.0, e.1)) (found_at text n vs x)
 shifted text m n [] x = refl
@@ -65,21 +66,12 @@ shifted_first text m vs x = ap (λ k. found_at text k vs x) (none m) ∙ shifted
     none : (k : ℕ) → k ≡ k + 0
     none k = omega arith
 
--- tests of lists
-pub both_hold : (a b : Bool) → (a && b) ≡ true → (a ≡ true) × (b ≡ true)
-both_hold true b h = (refl, h)
-both_hold false b h = absurd (cc)
-
-pub both_hold_back : (a b : Bool) → a ≡ true → b ≡ true → (a && b) ≡ true
-both_hold_back true b h g = g
-both_hold_back false b h g = absurd (cc)
-
 pub all_front : {A : Type 0} (p : A → Bool) (xs ys : List A) → list_all p (xs ++ ys) ≡ true → list_all p xs ≡ true
 all_front p [] ys h = refl
 all_front p (x ∷ xs) ys h =
-    let b = both_hold (p x) (list_all p (xs ++ ys)) h in
-    both_hold_back (p x) (list_all p xs) b.0 (all_front p xs ys b.1)
+    let b = and_parts (p x) (list_all p (xs ++ ys)) h in
+    and_from (p x) (list_all p xs) b.0 (all_front p xs ys b.1)
 
 pub all_back : {A : Type 0} (p : A → Bool) (xs ys : List A) → list_all p (xs ++ ys) ≡ true → list_all p ys ≡ true
 all_back p [] ys h = h
-all_back p (x ∷ xs) ys h = all_back p xs ys (both_hold (p x) (list_all p (xs ++ ys)) h).1
+all_back p (x ∷ xs) ys h = all_back p xs ys (and_parts (p x) (list_all p (xs ++ ys)) h).1

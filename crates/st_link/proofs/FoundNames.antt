@@ -1,4 +1,4 @@
--- What a text has under a name stands in it.
+-- An entry of a text under a name is in it.
 use Rattle.std.proofs.Common.{◌≡◌, refl, subst, ◌⊎◌, inl, inr, Bool, true, false, if◌then◌else◌, List, []}
 use Rattle.std.proofs.Common.{◌∷◌, Option, Some, None}
 use Rattle.std.specs.List.{list_any}

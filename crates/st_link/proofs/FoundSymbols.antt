@@ -13,11 +13,10 @@ use Rattle.st_meaning.specs.Runs.{Program}
 use Rattle.st_meaning.specs.Scopes.{Name, contains_name}
 use Rattle.layout.specs.LayoutVariables.{Owned, owned_variable}
 use Rattle.layout.specs.Shapes.{Parts, size}
-use Rattle.layout.specs.Standing.{variable_at}
+use Rattle.layout.specs.VariableSlots.{variable_at}
 use Rattle.layout.specs.TextLayouts.{variable_shape}
 use Rattle.layout.specs.Types.{Site, NamedSite, site_named}
-use Rattle.layout.proofs.ListLemmas.{some_is, same_name, any_append}
-use Rattle.layout.proofs.ListLemmas.{or_here, or_later}
+use Rattle.layout.proofs.ListLemmas.{same_name}
 use Rattle.st_link.proofs.TakenBodies.{names_taken}
 use Rattle.slot_trees.specs.Tables.{Symbol, symbol_of}
 use Rattle.slot_trees.specs.ProgramTables.{owner_of_name, symbol_at, program_symbols}
@@ -25,22 +24,21 @@ use Rattle.slot_trees.specs.BlockTables.{block_symbol, block_symbols}
 use Rattle.slot_trees.specs.FunctionTables.{call_symbol, function_symbols}
 use Rattle.slot_trees.specs.TextLinks.{names_in}
 use Rattle.slot_trees.proofs.LookedUp.{program_looked_up, block_looked_up, call_looked_up}
+use Rattle.st_types.proofs.OptionLemmas.{some_is}
+use Rattle.std.proofs.lemmas.Bool.{or_left, or_right}
+use Rattle.std.proofs.lemmas.List.Folds.{list_any-append}
+use Rattle.layout.proofs.NameLaws.{same_search}
 
--- names hang on no literal
+-- names don't depend on literals
 pub all_names_taken : (text : Declared) (bs : List VariableBlock)
     → names_in (map (resolved_block text) bs) ≡ names_in bs
 all_names_taken text [] = refl
 all_names_taken text (b ∷ bs) =
     ap₂ (λ xs ys. xs ++ ys) (names_taken text b.declarations) (all_names_taken text bs)
 
--- what has a type is declared
-same_search : (x : Name) (xs : List Identifier) → contains_name (names_of xs) x ≡ list_any (is_named x) xs
-same_search x [] = refl
-same_search x (y ∷ ys) = ap (λ b. is_named x y || b) (same_search x ys)
-
 in_append : (xs ys : List Name) (x : Name) → (contains_name xs x || contains_name ys x) ≡ true
     → contains_name (xs ++ ys) x ≡ true
-in_append xs ys x h = any_append (λ y. bytes_eq x y) xs ys ∙ h
+in_append xs ys x h = list_any-append (λ y. bytes_eq x y) xs ys ∙ h
 
 declared_name : (ds : List Declaration) (x : Name) (t : VariableType) → type_in ds x ≡ Some t
     → contains_name (declared_names ds) x ≡ true
@@ -53,10 +51,10 @@ declared_name (d ∷ ds) x t h =
         → (type_in ds x ≡ Some t → contains_name (declared_names ds) x ≡ true)
         → (contains_name (names_of d.names) x || contains_name (declared_names ds) x) ≡ true
     by_test true e g ih =
-        or_here (contains_name (names_of d.names) x) (contains_name (declared_names ds) x)
+        or_left (contains_name (names_of d.names) x) (contains_name (declared_names ds) x)
         (same_search x d.names ∙ e)
     by_test false e g ih =
-        or_later (contains_name (names_of d.names) x) (contains_name (declared_names ds) x) (ih g)
+        or_right (contains_name (names_of d.names) x) (contains_name (declared_names ds) x) (ih g)
 
 pub name_of_unit : (bs : List VariableBlock) (x : Name) (t : VariableType) → type_in_blocks bs x ≡ Some t
     → contains_name (names_in bs) x ≡ true
@@ -69,12 +67,12 @@ name_of_unit (b ∷ bs) x t h =
         → (type_in_blocks bs x ≡ Some t → contains_name (names_in bs) x ≡ true)
         → (contains_name (declared_names b.declarations) x || contains_name (names_in bs) x) ≡ true
     by_type (Some s) e g ih =
-        or_here (contains_name (declared_names b.declarations) x) (contains_name (names_in bs) x)
+        or_left (contains_name (declared_names b.declarations) x) (contains_name (names_in bs) x)
         (declared_name b.declarations x s e)
     by_type None e g ih =
-        or_later (contains_name (declared_names b.declarations) x) (contains_name (names_in bs) x) (ih g)
+        or_right (contains_name (declared_names b.declarations) x) (contains_name (names_in bs) x) (ih g)
 
--- the symbol of a name that is there
+-- the symbol of a name that exists
 if_named : {A : Type 0} (b : Bool) (o : Option A) (y : A) → b ≡ true → o ≡ Some y
     → ◌≡◌ {A = Option A} (if b then o else None) (Some y)
 if_named true o y h g = g

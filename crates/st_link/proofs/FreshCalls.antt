@@ -9,7 +9,7 @@ use Rattle.st_types.specs.Units.{OrganisationUnit}
 use Rattle.st_types.specs.Sources.{Source}
 use Rattle.st_meaning.specs.NameTypes.{Declared, declared_in}
 use Rattle.st_meaning.specs.ResolvedUnits.{resolved}
-use Rattle.st_meaning.specs.Slots.{Slot, variables_in, inputs_in}
+use Rattle.st_meaning.specs.Slots.{Slot, variables_with, inputs_in}
 use Rattle.st_meaning.specs.Stores.{all_held}
 use Rattle.st_meaning.specs.Layouts.{variable_slot}
 use Rattle.st_meaning.specs.declared.plan.PlanVariable.{PlanVariable}
@@ -31,7 +31,7 @@ use Rattle.st_link.proofs.TakenBodies.{text_taken}
 abbrev pub call_sites : SimpleType → OrganisationUnit → List NamedSite
 call_sites t u = result_site t u.name.name ∷ sites_of_blocks u.blocks
 
--- the slots hang on no literal
+-- the slots don't depend on literals
 pub call_slots : (source : Source) (t : SimpleType) (u : OrganisationUnit)
     → slots_of (declared_of source) (call_variables t (resolved (declared_in source) u))
     ≡ slots_of (declared_in source) (call_variables t u)
@@ -66,7 +66,7 @@ own_slots text (d ∷ ds) =
 abbrev pub values_of : List PlanVariable → List Datum
 values_of ps = map (λ p. p.initial) ps
 
-as_variables : (ps : List PlanVariable) → initial_values ps ≡ variables_in (map variable_slot ps) (values_of ps)
+as_variables : (ps : List PlanVariable) → initial_values ps ≡ variables_with (map variable_slot ps) (values_of ps)
 as_variables [] = refl
 as_variables (p ∷ ps) = ap (λ s. (p.path, p.initial) ∷ s) (as_variables ps)
 
@@ -88,7 +88,7 @@ pub record CallStands (source : Source) (t : SimpleType) (u : OrganisationUnit) 
   pub values : List Datum
   pub are : AreValuesOf (slots_of (declared_in source) (call_variables t u)) values
   pub fresh : fresh_values (declared_of source) (call_sites t (resolved (declared_in source) u))
-      ≡ variables_in (slots_of (declared_in source) (call_variables t u)) values
+      ≡ variables_with (slots_of (declared_in source) (call_variables t u)) values
   pub image : [] ≡ inputs_in (slots_of (declared_in source) (call_variables t u)) values
 
 pub call_stands : (source : Source) (t : SimpleType) (u : OrganisationUnit) → CallStands source t u
@@ -104,6 +104,6 @@ call_stands source t u =
         types = all_kinds ps;
         held = same_held ps ∙ initial_values_held (declared_of source) (call_variables t v);
       });
-      fresh = as_variables ps ∙ ap (λ (ls : List Slot). variables_in ls (values_of ps)) is;
+      fresh = as_variables ps ∙ ap (λ (ls : List Slot). variables_with ls (values_of ps)) is;
       image = sym (no_inputs ps) ∙ ap (λ (ls : List Slot). inputs_in ls (values_of ps)) is;
     }

@@ -29,9 +29,9 @@ use Rattle.st_link.specs.FirstSlots.{slots_taken}
 use Rattle.st_link.specs.Linked.{function_parts}
 use Rattle.st_link.specs.LinkVariables.{are_whole, is_whole, of_site, result_of, variables_of_blocks}
 use Rattle.st_link.specs.Tables.{has_some}
-use Rattle.st_link.proofs.FirstSlotLemmas.{both_hold, both_hold_back}
 use Rattle.st_link.proofs.LayoutPlaces.{size_taken, sites_owned}
 use Rattle.st_link.proofs.UnitSymbols.{sites_of_function}
+use Rattle.std.proofs.lemmas.Bool.{and_parts, and_from}
 
 -- three parts
 abbrev pub three : {A B C D : Type 0} → (A → B → C → D) → Option A → Option B → Option C → Option D
@@ -94,10 +94,10 @@ whole_sites : (text : Declared) (ds : List NamedSite) → are_whole text (map of
     → are_expandable text (map (owned_variable None) ds) ≡ true
 whole_sites text [] h = refl
 whole_sites text (d ∷ ds) h =
-    let a = both_hold (is_whole text (of_site d)) (are_whole text (map of_site ds)) h in
-    let b = both_hold (is_within_depth MAX_TYPE_DEPTH text d.site.declared)
+    let a = and_parts (is_whole text (of_site d)) (are_whole text (map of_site ds)) h in
+    let b = and_parts (is_within_depth MAX_TYPE_DEPTH text d.site.declared)
     (is_sound (shape_of_type text d.site.declared)) a.0 in
-    both_hold_back (is_sound (shape_of_type text d.site.declared))
+    and_from (is_sound (shape_of_type text d.site.declared))
     (are_expandable text (map (owned_variable None) ds)) b.1 (whole_sites text ds a.1)
 
 pub whole_expandable : (text : Declared) (t : SimpleType) (u : OrganisationUnit)

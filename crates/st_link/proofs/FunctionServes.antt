@@ -31,8 +31,7 @@ use Rattle.layout.specs.Libraries.{result_site, input_names, instance_then, inst
 use Rattle.layout.specs.Types.{Site, NamedSite, site_named, sites_of_blocks, site_of_member, block_type_of}
 use Rattle.layout.specs.Types.{own_block_type, block_type_named, instance_of, shape_of_type}
 use Rattle.layout.specs.Types.{is_within_depth}
-use Rattle.layout.proofs.ListLemmas.{map_some, some_is, neither, name_itself, both_are, turned_back}
-use Rattle.slot_trees.proofs.OptionLemmas.{then_some}
+use Rattle.layout.proofs.ListLemmas.{name_itself}
 use Rattle.layout.proofs.ResolvedDepths.{same_depth}
 use Rattle.layout.proofs.ResolvedLemmas.{taken_text, same_shape, same_unit_named}
 use Rattle.st_link.specs.StatementSoundness.{HasNoInstances}
@@ -63,6 +62,9 @@ use Rattle.st_link.proofs.FoundSymbols.{call_symbol_found, call_variable}
 use Rattle.st_link.proofs.LinkedParts.{linked_and, linked_map, linked_list}
 use Rattle.st_link.proofs.TypeShapes.{plain_shape}
 use Rattle.st_link.proofs.UnitServes.{named_once, body_linked, typed_symbol, site_of, name_there}
+use Rattle.std.proofs.lemmas.Bool.{not_from_false, or_parts, and_from}
+use Rattle.st_types.proofs.OptionLemmas.{some_is, map_some, none_is, then_some}
+use Rattle.slot_trees.proofs.LookedUp.{either_none}
 
 -- slots of names, from those of each
 module _ (symbols : List Symbol) where
@@ -106,7 +108,7 @@ module _ (symbols : List Symbol) where
       block_slots b (input_names bs) (is_input b.section) (λ is. declared_slots b.declarations (h b here is))
       (input_slots bs (λ c among. h c (later among)))
 
--- what is no block has no instances
+-- a unit that isn't a block has no instances
 no_own_block : (text : Declared) (o : Option OrganisationUnit) → is_own_block o ≡ false
     → own_block_type (option_map (resolved text) o) ≡ None
 no_own_block text None h = refl
@@ -117,29 +119,20 @@ no_own_block text (Some u) h = by_sort u.sort h
     by_sort sorts.Program g = refl
     by_sort sorts.FunctionBlock g = absurd (cc)
 
-none_there : {A : Type 0} (o : Option A) → is_some o ≡ false → o ≡ None
-none_there None h = refl
-none_there (Some a) h = absurd (cc)
-
-if_none : {A : Type 0} (b : Bool) (o : Option A) → o ≡ None
-    → ◌≡◌ {A = Option A} (if b then o else None) None
-if_none true o h = h
-if_none false o h = refl
-
 no_instance : (text : Declared) (t : VariableType) → is_block_type text t ≡ false
     → instance_of (taken_text text) (resolved_type t) ≡ None
 no_instance text (types.Array a) h = refl
 no_instance text (types.Simple (Elementary k at)) h = refl
 no_instance text (types.Simple (Named x)) h =
-    let n = neither (is_some (block_of x.name)) (is_own_block (unit_named text.units x.name)) h in
+    let n = or_parts (is_some (block_of x.name)) (is_own_block (unit_named text.units x.name)) h in
     let none : block_type_named (taken_text text) x.name ≡ None =
     ap (λ (o : Option StandardBlock). elim o [
       | Some k ↦ Some (record { name = x.name; members = map site_of_member (members_of k) })
       | None ↦ own_block_type (unit_named (taken_text text).units x.name)
-    ]) (none_there (block_of x.name) n.0)
+    ]) (none_is (block_of x.name) n.0)
     ∙ ap own_block_type (same_unit_named text text.units x.name)
     ∙ no_own_block text (unit_named text.units x.name) n.1 in
-    if_none (is_none (type_named (taken_text text).types x.name)) (block_type_named (taken_text text) x.name) none
+    either_none (is_none (type_named (taken_text text).types x.name)) (block_type_named (taken_text text) x.name) none
 
 no_instances_among : (text : Declared) (ds : List NamedSite)
     → ((e : NamedSite) → Among e ds → instance_of text e.site.declared ≡ None) → instances_among text ds ≡ []
@@ -198,9 +191,9 @@ module _ (source : Source) (h : IsWellTyped source) (u : OrganisationUnit) (amon
       ap (is_within_depth MAX_TYPE_DEPTH whole) i.declared ∙ same_depth text MAX_TYPE_DEPTH i.declaration.declared
       ∙ depths_known source right.types right.names right.deep u unit i.one.name i.declaration.declared
       (site_type e i) in
-      both_are (not (contains_name (externals_in taken.blocks) e.name))
+      and_from (not (contains_name (externals_in taken.blocks) e.name))
       (is_within_depth MAX_TYPE_DEPTH whole e.site.declared)
-      (turned_back (contains_name (externals_in taken.blocks) e.name) apart) depth
+      (not_from_false (contains_name (externals_in taken.blocks) e.name) apart) depth
 
   pub unit_in_order : has_orderly_variables (taken_text (declared_in source)) (resolved (declared_in source) u) ≡ true
   unit_in_order = all_from (is_orderly whole (externals_in taken.blocks)) (sites_of_blocks taken.blocks) orderly_site

@@ -1,10 +1,10 @@
--- What is gathered, element by element.
+-- The list that is gathered, element by element.
 use Rattle.std.proofs.Common.{◌≡◌, refl, sym, ap, ◌∙◌, ℕ, ◌+◌, ◌<◌, ◌≤◌, List, [], ◌∷◌, ◌++◌, map, drop, length}
 use Rattle.std.proofs.Common.{Option, Some, None, slice_index_or}
 use Rattle.std.specs.Prelude.{option_map, option_and_then}
 use Rattle.std.proofs.lemmas.List.{append_assoc, append-nil, drop_all, map-append}
-use Rattle.layout.proofs.PushLemmas.{left_begins}
 use Rattle.st_link.specs.Gathered.{IsAppended, gathered}
+use Rattle.st_types.proofs.ListLemmas.{drop_next}
 
 -- The first elements gave these, and the others are left.
 pub record GatheredSoFar (A B : Type 0) (give : A → Option (List B)) (all : List A) (done : List B)
@@ -30,19 +30,19 @@ pub gathered_more : {C A B : Type 0} (view : C → A) (give : A → Option (List
     → GatheredSoFar A B give (map view xs) now (map view (drop (i + 1) xs))
 gathered_more {C} {A} {B} view give xs i x done now below at given h = record {
   is = h.is
-      ∙ ap (λ ys. option_map (λ zs. done ++ zs) (gathered give (map view ys))) (left_begins xs i x below at)
+      ∙ ap (λ ys. option_map (λ zs. done ++ zs) (gathered give (map view ys))) (drop_next xs i x below at)
       ∙ ap (λ o. option_map (λ zs. done ++ zs)
       (option_and_then (λ ys. option_map (λ zs. ys ++ zs) (gathered give (map view (drop (i + 1) xs)))) o)) given.is
       ∙ further done given.entries (gathered give (map view (drop (i + 1) xs)))
       ∙ ap (λ ds. option_map (λ zs. ds ++ zs) (gathered give (map view (drop (i + 1) xs)))) (sym given.grown);
 }
 
--- where one element gives nothing, all of them do
+-- if one element gives nothing, all of them do
 pub gathered_none : {C A B : Type 0} (view : C → A) (give : A → Option (List B)) (xs : List C) (i : ℕ) (x : C)
     (done : List B) → i < length xs → x ≡ slice_index_or xs i x → give (view x) ≡ None
     → GatheredSoFar A B give (map view xs) done (map view (drop i xs)) → gathered give (map view xs) ≡ None
 gathered_none {C} {A} {B} view give xs i x done below at none h =
-    h.is ∙ ap (λ ys. option_map (λ zs. done ++ zs) (gathered give (map view ys))) (left_begins xs i x below at)
+    h.is ∙ ap (λ ys. option_map (λ zs. done ++ zs) (gathered give (map view ys))) (drop_next xs i x below at)
     ∙ ap (λ o. option_map (λ zs. done ++ zs)
     (option_and_then (λ ys. option_map (λ zs. ys ++ zs) (gathered give (map view (drop (i + 1) xs)))) o)) none
 

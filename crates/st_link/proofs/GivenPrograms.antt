@@ -26,7 +26,7 @@ among_append [] ds k f g = g k
 among_append (c ∷ cs) ds here f g = f here
 among_append (c ∷ cs) ds (further_on k) f g = among_append cs ds k (λ h. f (further_on h)) g
 
-among_one : {A : Type 0} {a b : A} → IsAmong a (b ∷ []) → a ≡ b
+pub among_one : {A : Type 0} {a b : A} → IsAmong a (b ∷ []) → a ≡ b
 among_one here = refl
 among_one (further_on k) = elim k [ ]
 
@@ -40,7 +40,7 @@ module _ (source : Source) where
   unit_is : (x : Name) → unit_named whole.units x ≡ option_map (resolved text) (unit_named text.units x)
   unit_is x = ap (λ (t : Declared). unit_named t.units x) (text_taken source) ∙ same_unit_named text (units_in source) x
 
-  -- that of an instance is there
+  -- the program of an instance exists
   program_is : (owner : Owner) (x : Name) (u : OrganisationUnit) → unit_named text.units x ≡ Some u → u.sort ≡ program
       → program_if_there whole owner (unit_named whole.units x) ≡ program_given source owner u ∷ []
   program_is owner x u h sort =

@@ -1,4 +1,4 @@
--- Functions as the grammar has them: no block of their variables is one of externals.
+-- Functions by the grammar: no block of their variables is one of externals.
 use Rattle.std.proofs.Common.{◌≡◌, refl, sym, ap, subst, ◌∙◌, List, [], ◌∷◌, Bool, true, false, if◌then◌else◌, Option, Some}
 use Rattle.st_types.specs.declared.declaration.Section.{Section}
 use Rattle.st_types.specs.declared.data_type.SimpleType.{SimpleType}

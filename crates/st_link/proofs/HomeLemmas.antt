@@ -28,14 +28,19 @@ use Rattle.layout.specs.LayoutVariables.{program_sites}
 use Rattle.layout.specs.LayoutVariables.{owner_in, variables_of_instances, variables_of_resources}
 use Rattle.layout.specs.LayoutVariables.{variables_of_configuration}
 use Rattle.layout.specs.TextLayouts.{variable_shape}
-use Rattle.layout.specs.Standing.{is_named_so, has_variable, are_declared_once, variable_at}
-use Rattle.layout.proofs.ListLemmas.{same_name, some_is, both, turned, neither, or_later, any_append}
+use Rattle.layout.specs.VariableSlots.{is_variable, has_variable, are_declared_once, variable_at}
+use Rattle.layout.proofs.ListLemmas.{same_name}
 use Rattle.layout.proofs.VariableLemmas.{variable_is, variable_itself}
-use Rattle.st_link.specs.Homes.{IsHome, HasHomes, IsAmong, here, further_on, IsInstanceOf, environment_of, IsGrounded}
+use Rattle.st_link.specs.Homes.{IsLayoutPart, HaveSlots, IsAmong, here, further_on, IsInstanceOf, IsGrounded}
 use Rattle.st_link.specs.Homes.{RunsIn}
 use Rattle.st_link.proofs.SoundMembers.{Declares, declaration_declared, found_first, not_named}
+use Rattle.std.proofs.lemmas.Bool.{or_parts, and_parts, or_right}
+use Rattle.st_types.proofs.OptionLemmas.{some_is}
+use Rattle.st_types.proofs.TestLemmas.{false_from_not}
+use Rattle.std.proofs.lemmas.List.Folds.{list_any-append}
+use Rattle.st_rules.specs.Rules.{environment}
 
--- what is among a part of a list is among the whole
+-- a member of a part of a list is one of the whole
 pub among_left : {A : Type 0} {a : A} (cs ds : List A) → IsAmong a cs → IsAmong a (cs ++ ds)
 among_left [] ds i = elim i [ ]
 among_left (c ∷ cs) ds here = here
@@ -55,7 +60,7 @@ has_among : (vs : List Owned) (v : Owned) → IsAmong v vs → has_variable vs v
 has_among [] v i = elim i [ ]
 has_among (u ∷ vs) v here = let i = variable_itself v in rw i refl
 has_among (u ∷ vs) v (further_on i) =
-    or_later (is_named_so v.owner v.name u) (has_variable vs v.owner v.name) (has_among vs v i)
+    or_right (is_variable v.owner v.name u) (has_variable vs v.owner v.name) (has_among vs v i)
 
 pub record IsFoundAt (text : Declared) (vs : List Owned) (v : Owned) : Type 0 where
   pub first : ℕ
@@ -66,13 +71,13 @@ pub found_at : (text : Declared) (vs : List Owned) → are_declared_once text vs
 found_at text [] once v i = elim i [ ]
 found_at text (u ∷ vs) once v here = let i = variable_itself v in record { first = 0; there = rw i refl }
 found_at text (u ∷ vs) once v (further_on i) =
-    let a = both (not (has_variable vs u.owner u.name))
+    let a = and_parts (not (has_variable vs u.owner u.name))
     (is_sound (variable_shape text u) && are_declared_once text vs) once in
-    let b = both (is_sound (variable_shape text u)) (are_declared_once text vs) a.1 in
-    by_test (is_named_so v.owner v.name u) refl (turned (has_variable vs u.owner u.name) a.0) (has_among vs v i)
+    let b = and_parts (is_sound (variable_shape text u)) (are_declared_once text vs) a.1 in
+    by_test (is_variable v.owner v.name u) refl (false_from_not (has_variable vs u.owner u.name) a.0) (has_among vs v i)
     (found_at text vs b.1 v i)
   where
-    by_test : (b : Bool) → is_named_so v.owner v.name u ≡ b → has_variable vs u.owner u.name ≡ false
+    by_test : (b : Bool) → is_variable v.owner v.name u ≡ b → has_variable vs u.owner u.name ≡ false
         → has_variable vs v.owner v.name ≡ true → IsFoundAt text vs v → IsFoundAt text (u ∷ vs) v
     by_test true e absent present f =
         let q = variable_is v.owner v.name u e in
@@ -83,13 +88,13 @@ found_at text (u ∷ vs) once v (further_on i) =
         let t = f.there in
         record { first = size (variable_shape text u) + f.first; there = rw (e, t) refl }
 
--- a variable that is no external has a site of its own
+-- a variable that isn't an external has a site of its own
 not_among_names : (ds : List Declaration) (x : Name) → contains_name (declared_names ds) x ≡ false
     → type_in ds x ≡ None
 not_among_names [] x h = refl
 not_among_names (d ∷ ds) x h =
-    let n = neither (contains_name (names_of d.names) x) (contains_name (declared_names ds) x)
-    (sym (any_append (λ y. bytes_eq x y) (names_of d.names) (declared_names ds)) ∙ h) in
+    let n = or_parts (contains_name (names_of d.names) x) (contains_name (declared_names ds) x)
+    (sym (list_any-append (λ y. bytes_eq x y) (names_of d.names) (declared_names ds)) ∙ h) in
     let a = same_test d.names ∙ n.0 in
     rw a (not_among_names ds x n.1)
   where
@@ -149,13 +154,13 @@ own_site (b ∷ bs) x t h e = by_section (is_external b.section) e (own_site bs 
         → Declares (site_named (if external then sites_of_blocks bs
         else sites_of_declarations (retention_of b.section) b.declarations ++ sites_of_blocks bs) x) t
     by_section true g ih =
-        let n = neither (contains_name (declared_names b.declarations) x) (contains_name (externals_in bs) x)
-        (sym (any_append (λ y. bytes_eq x y) (declared_names b.declarations) (externals_in bs)) ∙ g) in
+        let n = or_parts (contains_name (declared_names b.declarations) x) (contains_name (externals_in bs) x)
+        (sym (list_any-append (λ y. bytes_eq x y) (declared_names b.declarations) (externals_in bs)) ∙ g) in
         ih (sym (ap (λ o. or_type o (type_in_blocks bs x)) (not_among_names b.declarations x n.0)) ∙ h) n.1
     by_section false g ih =
         in_block (retention_of b.section) (type_in b.declarations x) refl h (λ k. ih k g)
 
--- which stands among the variables of the layout
+-- which is among the variables of the layout
 pub site_among : (ds : List NamedSite) (x : Name) (s : Site) → site_named ds x ≡ Some s
     → IsAmong (record { name = x; site = s }) ds
 site_among [] x s h = absurd (cc)
@@ -227,7 +232,7 @@ module _ (text : Declared) (c : Configuration) (owner : Owner) (u : Organisation
       (runs : RunsIn u (of_program owner) w) where
     own_home : (x : Name) (t : VariableType) (fixed : Bool) → variable_type u x ≡ Some t
         → contains_name (externals_in u.blocks) x ≡ false
-        → IsHome text (variables_of_configuration text (Some c)) fixed (own_path (of_program owner) x) t
+        → IsLayoutPart text (variables_of_configuration text (Some c)) fixed (own_path (of_program owner) x) t
     own_home x t fixed h e =
         let d = own_site u.blocks x t (type_of_own x t h) e in
         let f = found_at text (variables_of_configuration text (Some c)) once
@@ -252,12 +257,12 @@ module _ (text : Declared) (c : Configuration) (owner : Owner) (u : Organisation
         ap₂ (λ f xs. if contains_name xs x then unowned x else own_path f x) runs.names_of runs.externals
         ∙ ap (λ c. if c then unowned x else own_path (of_program owner) x) e
 
-    pub program_homes : HasHomes (environment_of text u) (variables_of_configuration text (Some c)) w
+    pub program_homes : HaveSlots (environment text u) (variables_of_configuration text (Some c)) w
     program_homes x t h = by_test (contains_name (externals_in u.blocks) x) refl
       where
         moved : (p q : Path) (fixed : Bool) → p ≡ q
-            → IsHome text (variables_of_configuration text (Some c)) fixed q t
-            → IsHome text (variables_of_configuration text (Some c)) fixed p t
+            → IsLayoutPart text (variables_of_configuration text (Some c)) fixed q t
+            → IsLayoutPart text (variables_of_configuration text (Some c)) fixed p t
         moved p q fixed e i = record {
           owner = i.owner;
           name = i.name;
@@ -273,10 +278,10 @@ module _ (text : Declared) (c : Configuration) (owner : Owner) (u : Organisation
         }
 
         by_test : (b : Bool) → contains_name (externals_in u.blocks) x ≡ b
-            → IsHome text (variables_of_configuration text (Some c))
-            (is_fixed (section_of (environment_of text u) x)) (path_in w.frame w.body x) t
+            → IsLayoutPart text (variables_of_configuration text (Some c))
+            (is_fixed (section_of (environment text u) x)) (path_in w.frame w.body x) t
         by_test true e = moved (path_in w.frame w.body x) (unowned x)
-            (is_fixed (section_of (environment_of text u) x)) (path_of x true e) (grounded.externals x t e h)
+            (is_fixed (section_of (environment text u) x)) (path_of x true e) (grounded.externals x t e h)
         by_test false e = moved (path_in w.frame w.body x) (own_path (of_program owner) x)
-            (is_fixed (section_of (environment_of text u) x)) (path_of x false e)
-            (own_home x t (is_fixed (section_of (environment_of text u) x)) h e)
+            (is_fixed (section_of (environment text u) x)) (path_of x false e)
+            (own_home x t (is_fixed (section_of (environment text u) x)) h e)

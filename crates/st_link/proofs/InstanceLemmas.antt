@@ -11,9 +11,9 @@ use Rattle.symbols.specs.Agreeing.{Agree}
 use Rattle.symbols.specs.PlaceTypes.{place_type_view}
 use Rattle.layout.specs.Shapes.{Shape, plain, array, parts, Parts, size, sizes}
 use Rattle.layout.specs.Types.{shape_of_type}
-use Rattle.layout.specs.Sizes.{cut}
+use Rattle.layout.specs.Sizes.{capped_size}
 use Rattle.slot_trees.specs.SlotTrees.{Anchor, BlockCode, SlotArgument, SlotStmt, invoke}
-use Rattle.slot_trees.specs.LinkedStatements.{Instance, code_of, control_of, instance_at, instance_of_symbol}
+use Rattle.slot_trees.specs.LinkedStatements.{Instance, block_code_of, control_of, instance_at, instance_of_symbol}
 use Rattle.slot_trees.specs.LinkedStatements.{linked_arguments, linked_call_of, linked_invocation, offset_of}
 use Rattle.slot_trees.specs.LinkedStatements.{plain_anchor, plain_offset}
 use Rattle.slot_trees.specs.Tables.{Part, Symbol, Table, part_at, symbol_of}
@@ -25,7 +25,7 @@ use Rattle.st_link.specs.Instances.{HasMembers}
 use Rattle.st_link.proofs.PlaceLemmas.{part_room}
 use Rattle.st_link.specs.declared.body_table.LinkSymbol.{LinkSymbol}
 
--- what the table tells of a member is told of the instance's parts
+-- the table's entry of a member agrees with the instance's parts
 pub member_agrees : (text : Declared) (t : VariableType) (ps : Parts) (x : Name) (m : Option MemberPlace)
     → HasMembers text t ps → Agree (IsMemberPlace text 0) m (member_of (shape_of_type text t) x)
     → Agree (IsMemberPlace text 0) m (part_at ps x)
@@ -60,16 +60,16 @@ member_at text m (Some e) a elementary small =
     ∙ plain_at e.offset (shape_of_type text (place_type_view m.declared)) elementary
     ∙ ap Some (uncut e.offset m.offset small a.offset)
   where
-    uncut : (n o : ℕ) → o ≤ MAX_PATHS → o ≡ cut (0 + n) → n ≡ o
+    uncut : (n o : ℕ) → o ≤ MAX_PATHS → o ≡ capped_size (0 + n) → n ≡ o
     uncut n o small e = grind (arith, small, e)
 
--- no member of an instance stands further than a layout has room
+-- no member of an instance is further on than a layout has room
 pub far_member : (text : Declared) (t : VariableType) (ps : Parts) (x : Name) (m : MemberPlace)
     → HasMembers text t ps → Agree (IsMemberPlace text 0) (Some m) (part_at ps x) → MAX_PATHS < m.offset
     → option_and_then offset_of (part_at ps x) ≡ None
 far_member text t ps x m has a far = by_part (part_at ps x) refl a
   where
-    near : (n o s w : ℕ) → n + s ≤ w → w ≤ MAX_PATHS → o ≡ cut (0 + n) → MAX_PATHS < o → ⊥
+    near : (n o s w : ℕ) → n + s ≤ w → w ≤ MAX_PATHS → o ≡ capped_size (0 + n) → MAX_PATHS < o → ⊥
     near n o s w a b c d = grind (arith)
 
     by_part : (o : Option Part) → part_at ps x ≡ o → Agree (IsMemberPlace text 0) (Some m) o
@@ -181,7 +181,7 @@ other_instance text s (Some y) a output none =
 pub call_linked : (t : Table) (x : Name) (arguments : List Argument) (a : Anchor) (ps : Parts) (code : BlockCode)
     (xs : List SlotArgument)
     → option_and_then instance_of_symbol (symbol_of t.symbols x) ≡ Some (record { anchor = a; members = ps })
-    → code_of t x ≡ Some code → linked_arguments t ps arguments ≡ Some xs
+    → block_code_of t x ≡ Some code → linked_arguments t ps arguments ≡ Some xs
     → linked_invocation t x arguments ≡ Some (invoke a code xs)
 call_linked t x arguments a ps code xs i b h =
     ap (option_and_then (linked_call_of t x arguments)) i
@@ -194,14 +194,14 @@ no_call t x arguments i = ap (option_and_then (linked_call_of t x arguments)) i
 
 pub no_code : (t : Table) (x : Name) (arguments : List Argument) (a : Anchor) (ps : Parts)
     → option_and_then instance_of_symbol (symbol_of t.symbols x) ≡ Some (record { anchor = a; members = ps })
-    → code_of t x ≡ None → linked_invocation t x arguments ≡ None
+    → block_code_of t x ≡ None → linked_invocation t x arguments ≡ None
 no_code t x arguments a ps i b =
     ap (option_and_then (linked_call_of t x arguments)) i
     ∙ ap (option_and_then (λ code. option_map (invoke a code) (linked_arguments t ps arguments))) b
 
 pub no_arguments : (t : Table) (x : Name) (arguments : List Argument) (a : Anchor) (ps : Parts) (code : BlockCode)
     → option_and_then instance_of_symbol (symbol_of t.symbols x) ≡ Some (record { anchor = a; members = ps })
-    → code_of t x ≡ Some code → linked_arguments t ps arguments ≡ None → linked_invocation t x arguments ≡ None
+    → block_code_of t x ≡ Some code → linked_arguments t ps arguments ≡ None → linked_invocation t x arguments ≡ None
 no_arguments t x arguments a ps code i b h =
     ap (option_and_then (linked_call_of t x arguments)) i
     ∙ ap (option_and_then (λ code. option_map (invoke a code) (linked_arguments t ps arguments))) b

@@ -29,12 +29,12 @@ use Rattle.layout.specs.Types.{site_of_member, BlockType, block_type_of, own_blo
 use Rattle.layout.specs.Names
 use Rattle.layout.specs.Names.{are_different, names_of_sites, has_different_variables}
 use Rattle.layout.specs.Names.{are_types_and_units_different}
-use Rattle.layout.proofs.ListLemmas.{both}
 use Rattle.layout.proofs.LibraryLemmas.{instance_made}
 use Rattle.layout.proofs.NameLemmas.{found_unit}
 use Rattle.st_link.specs.Homes.{are_names_different}
 use Rattle.st_link.proofs.SoundMembers.{Declares, later_differ, found_later, found_first, member_declared}
 use Rattle.st_link.proofs.SoundMembers.{declaration_declared, IsPart, instance_by, member_part}
+use Rattle.std.proofs.lemmas.Bool.{and_parts}
 
 -- an input of a block of the text is one of its variables
 module _ (ds : List Declaration) (bs : List VariableBlock) (x : Name) (u : VariableType) where
@@ -121,9 +121,9 @@ members_found TP = (refl, (refl, (refl, (refl, (refl, (refl, tt))))))
 
 module _ (text : Declared) (differ : are_names_different text ≡ true) where
   units_differ : list_all has_different_variables text.units ≡ true
-  units_differ = (both (list_all (λ t. Names.has_different_fields t.definition) text.types)
+  units_differ = (and_parts (list_all (λ t. Names.has_different_fields t.definition) text.types)
       (list_all has_different_variables text.units)
-      (both (are_different (map (λ t. t.name.name) text.types)) (are_types_and_units_different text) differ).1).1
+      (and_parts (are_different (map (λ t. t.name.name) text.types)) (are_types_and_units_different text) differ).1).1
 
   -- the block of an instance
   pub own_instance : (b : Identifier) (d : OrganisationUnit) → type_named text.types b.name ≡ None

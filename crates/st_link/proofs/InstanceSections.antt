@@ -31,7 +31,7 @@ use Rattle.st_link.proofs.NamedFaults.{may_stand}
 use Rattle.st_link.proofs.ApartNames.{NamesRight, types_are_no_blocks}
 use Rattle.st_link.proofs.NoInstances.{functions_have_none}
 
--- where a variable is declared, with its section
+-- the declaration of a variable, with its section
 record FoundIn (bs : List VariableBlock) (x : Name) (t : VariableType) : Type 0 where
   pub block : VariableBlock
   pub there : Among block bs
@@ -66,7 +66,7 @@ found_among [] x t h = absurd (cc)
 found_among (d ∷ ds) x t h =
     among_at d ds x t (list_any (is_named x) d.names) refl (λ k. found_among ds x t k) h
 
--- a list of declarations that has not the name
+-- a list of declarations that doesn't have the name
 absent_at : (d : Declaration) (ds : List Declaration) (x : Name) (b : Bool) → list_any (is_named x) d.names ≡ b
     → (type_in ds x ≡ None → list_any (λ c. list_any (is_named x) c.names) ds ≡ false)
     → (if b then Some d.declared else type_in ds x) ≡ None
@@ -148,7 +148,7 @@ module _ (source : Source) (right : TypesRight source) (names : NamesRight sourc
             (types_are_no_blocks source names b.name);
       }
 
-  -- a function's result is no instance
+  -- a function's result isn't an instance
   no_result : (b : Identifier) → is_block text b.name ≡ true → (x : Name)
       → variable_type u x ≡ Some (types.Simple (Named b)) → (sort : UnitSort) → u.sort ≡ sort
       → result_type sort ≡ Some (types.Simple (Named b)) → ⊥

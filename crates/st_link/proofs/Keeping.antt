@@ -1,5 +1,4 @@
--- What an assignment leaves: the parts of the store are still there, with values of their types. So a store that agreed
--- does so still.
+-- The store after an assignment: its parts are still there, with values of their types. So a store that agreed still does.
 use Rattle.std.proofs.Common.{◌≡◌, refl, sym, ap, subst, ◌∙◌, Bool, true, false, ◌||◌, if◌then◌else◌}
 use Rattle.std.proofs.Common.{[], ◌∷◌, Option, Some, None, Result, Ok, Err}
 use Rattle.std.proofs.lemmas.Bool.{and_parts}
@@ -10,11 +9,12 @@ use Rattle.st_types.specs.Values.{Datum}
 use Rattle.st_types.specs.Paths.{Path, same_path, is_within}
 use Rattle.st_types.specs.declared.data_type.VariableType.{VariableType}
 use Rattle.st_meaning.specs.Failures.{Failure, ill_typed}
-use Rattle.st_meaning.specs.Stores.{Store, get, may_replace, replaced, behind_first, assigned, has_part}
+use Rattle.st_meaning.specs.Stores.{Store, get, may_replace, replaced, with_entry, assigned, has_part}
 use Rattle.st_meaning.specs.Scopes.{Name, Scope, or_datum}
 use Rattle.st_meaning.specs.Evaluation.{known, element_at}
 use Rattle.st_rules.specs.Environments.{Environment}
 use Rattle.st_link.specs.Soundness.{HasKind, IsPlace, root, part, element, Agrees, Keeps}
+use Rattle.st_meaning.proofs.Shapes.{may_replace_is}
 
 pub keeps_itself : (s : Store) → Keeps s s
 keeps_itself s = record { parts = λ p. refl; kinds = λ p k h. h }
@@ -22,7 +22,7 @@ keeps_itself s = record { parts = λ p. refl; kinds = λ p k h. h }
 pub keeps_on : {s t u : Store} → Keeps s t → Keeps t u → Keeps s u
 keeps_on h i = record { parts = λ p. i.parts p ∙ h.parts p; kinds = λ p k x. i.kinds p k (h.kinds p k x) }
 
--- a value that may stand in the place of another
+-- a value that may take the place of another
 kind_replaced : (e : Path × Datum) (v : Datum) (o : Option Datum) (k : Kind) (b : Bool)
     → (e.1.kind ≡ v.kind) × (holds v.kind v.number ≡ true) → HasKind (if b then Some e.1 else o) k
     → HasKind (if b then Some v else o) k
@@ -34,12 +34,6 @@ kind_replaced e v o k true may h =
       is_of = record { kind = sym may.0 ∙ (ap (λ d. d.kind) is ∙ h.is_of.kind); held = may.1 };
     }
 kind_replaced e v o k false may h = h
-
-may_replace_tells : (old new : Datum) → may_replace old new ≡ true
-    → (old.kind ≡ new.kind) × (holds new.kind new.number ≡ true)
-may_replace_tells old new h =
-    let both = and_parts (same_kind old.kind new.kind) (holds new.kind new.number) h in
-    (same_kind_is old.kind new.kind both.0, both.1)
 
 replaced_keeps : (e : Path × Datum) (v : Datum) (s t : Store) (b : Bool)
     → (b ≡ true → (e.1.kind ≡ v.kind) × (holds v.kind v.number ≡ true))
@@ -58,7 +52,7 @@ kind_behind e o p k true f h = h
 kind_behind e o p k false f h = f h
 
 behind_keeps : (e : Path × Datum) (s t : Store) (r : Result Store Failure) → ((u : Store) → r ≡ Ok u → Keeps s u)
-    → behind_first e r ≡ Ok t → Keeps (e ∷ s) t
+    → with_entry e r ≡ Ok t → Keeps (e ∷ s) t
 behind_keeps e s t (Ok u) f h =
     let is : ◌≡◌ {A = Store} (e ∷ u) t = cc in
     let rest = f u refl in
@@ -70,8 +64,8 @@ behind_keeps e s t (Err x) f h = absurd (cc)
 
 keeps_at : (e : Path × Datum) (p : Path) (v : Datum) (s t : Store) (b : Bool)
     → ((u : Store) → assigned s p v ≡ Ok u → Keeps s u)
-    → (if b then replaced e v s else behind_first e (assigned s p v)) ≡ Ok t → Keeps (e ∷ s) t
-keeps_at e p v s t true f h = replaced_keeps e v s t (may_replace e.1 v) (may_replace_tells e.1 v) h
+    → (if b then replaced e v s else with_entry e (assigned s p v)) ≡ Ok t → Keeps (e ∷ s) t
+keeps_at e p v s t true f h = replaced_keeps e v s t (may_replace e.1 v) (may_replace_is e.1 v) h
 keeps_at e p v s t false f h = behind_keeps e s t (assigned s p v) f h
 
 pub assigned_keeps : (s : Store) (p : Path) (v : Datum) (t : Store) → assigned s p v ≡ Ok t → Keeps s t

@@ -1,4 +1,4 @@
--- What is kept of a linked text is the text's linked form, but for what is left out.
+-- The linked text that is kept is the text's linked form, except for the units that are left out.
 use Rattle.std.proofs.Common.{◌≡◌, refl, ap, subst, ◌∙◌, ℕ, zero, suc, List, [], ◌∷◌, Bool, true, false, Option}
 use Rattle.std.proofs.Common.{Some, None}
 use Rattle.std.specs.Prelude.{option_map, option_and_then, slice_get}
@@ -13,27 +13,24 @@ use Rattle.slot_trees.specs.SlotTrees.{SlotFunction, SlotStmts}
 use Rattle.slot_trees.specs.TextLinks.{LinkedText, library_with, linked_block, linked_block_then, linked_blocks}
 use Rattle.slot_trees.specs.TextLinks.{linked_function, linked_function_then, linked_functions, linked_library}
 use Rattle.slot_trees.specs.TextLinks.{linked_programs, linked_text, linked_then, text_with}
-use Rattle.layout.proofs.ListLemmas.{map_some}
-use Rattle.slot_trees.proofs.OptionLemmas.{then_some}
 use Rattle.slot_trees.specs.LibraryViews.{IsKeptOf}
 use Rattle.st_link.specs.KeptTexts.{IsKeptLink, KeptText, block_fits, is_linked, kept_block_then, kept_blocks}
 use Rattle.st_link.specs.KeptTexts.{kept_function_then, kept_functions, kept_if, kept_library, kept_library_with}
 use Rattle.st_link.specs.KeptTexts.{kept_text, kept_text_with}
+use Rattle.st_types.proofs.OptionLemmas.{map_some, then_some}
+use Rattle.std.proofs.lemmas.Option.{same_Some}
 
--- of a list, those that are kept stand where they stood
+-- the kept elements of a list keep their places
 pub record HasKept (A : Type 0) (whole : List A) (r : Option (List (Option A))) : Type 0 where
   pub kept : List (Option A)
   pub is : r ≡ Some kept
   pub at : (i : ℕ) (a : A) → slice_get kept i ≡ Some (Some a) → slice_get whole i ≡ Some a
 
-some_same : {A : Type 0} (a b : A) → Some a ≡ Some b → a ≡ b
-some_same a b h = cc
-
 one_kept : {A : Type 0} (x : A) (o : Option A) (xs : List A) (ys : List (Option A))
     → ((a : A) → o ≡ Some a → x ≡ a)
     → ((i : ℕ) (a : A) → slice_get ys i ≡ Some (Some a) → slice_get xs i ≡ Some a)
     → (i : ℕ) (a : A) → slice_get (o ∷ ys) i ≡ Some (Some a) → slice_get (x ∷ xs) i ≡ Some a
-one_kept x o xs ys here later zero a h = ap Some (here a (some_same o (Some a) h))
+one_kept x o xs ys here later zero a h = ap Some (here a (same_Some o (Some a) h))
 one_kept x o xs ys here later (suc i) a h = later i a h
 
 then_kept : {A : Type 0} (b : Bool) (o : Option A) (rest : Option (List A)) (kept_rest : Option (List (Option A)))
@@ -52,7 +49,7 @@ then_kept {A} b o rest kept_rest whole h ih =
       kept = Some x ∷ k.kept;
       is = ap (λ p. linked_then (kept_if true p) kept_rest) is ∙ ap (option_map (λ ys. Some x ∷ ys)) k.is;
       at = λ i a g. subst (λ ws. slice_get ws i ≡ Some a) all
-          (one_kept x (Some x) xs k.kept (λ c e. some_same x c e) k.at i a g);
+          (one_kept x (Some x) xs k.kept (λ c e. same_Some x c e) k.at i a g);
     }
     by_test false x is xs all k = record {
       kept = None ∷ k.kept;

@@ -32,7 +32,6 @@ use Rattle.st_rules.specs.declared.typings.Typing.TheVariants.{Composite as comp
 use Rattle.st_rules.specs.Typings.{typing_of_named, is_nothing}
 use Rattle.st_rules.specs.declared.limits.TheConstants.{MAX_TYPE_DEPTH}
 use Rattle.st_link.specs.Soundness.{IsKnown}
-use Rattle.st_link.proofs.Alikes.{front_empty, back_empty}
 use Rattle.st_link.proofs.Among.{Among, here, in_flat, none_of, none_passes}
 use Rattle.st_link.proofs.ApartNames.{NamesRight}
 use Rattle.st_link.proofs.BodyRunLaw.{own_block}
@@ -42,10 +41,10 @@ use Rattle.layout.specs.Types.{is_within_depth}
 use Rattle.layout.proofs.LibraryLemmas.{no_enumeration}
 use Rattle.layout.proofs.ListLemmas.{same_name}
 use Rattle.st_link.proofs.ChainLemmas.{without_chain}
-
-no_case : (b : Bool) (at : ℕ) → in_case b at ≡ [] → b ≡ false
-no_case true at h = absurd (cc)
-no_case false at h = refl
+use Rattle.st_link.proofs.BoundedArrays.{no_case}
+use Rattle.st_types.proofs.ListLemmas.{append_first, append_second}
+use Rattle.st_types.proofs.TestLemmas.{or_first}
+use Rattle.st_types.proofs.OptionLemmas.{none_is}
 
 elementary_shallow : (text : Declared) → has_chain text (MAX_TYPE_DEPTH + 1) elementary ≡ false
 unfolding has_chain
@@ -55,14 +54,6 @@ elementary_alone : (text : Declared) (x : Name) → parts_named text x ≡ eleme
     → has_chain text (MAX_TYPE_DEPTH + 1) (named x) ≡ false
 unfolding has_chain
 elementary_alone text x h = ap (list_any (has_chain text MAX_TYPE_DEPTH)) h
-
-first_false : (a b : Bool) → (a || b) ≡ false → a ≡ false
-first_false true b h = absurd (cc)
-first_false false b h = refl
-
-none_there : {A : Type 0} (o : Option A) → is_some o ≡ false → o ≡ None
-none_there None h = refl
-none_there (Some a) h = absurd (cc)
 
 known_named : (text : Declared) (x : Name) (o : Option Enumeration) → o ≡ None → type_named text.types x ≡ None
     → is_nothing (typing_of_named text x o) ≡ false → is_block text x ≡ true
@@ -83,26 +74,26 @@ module _ (source : Source) (right : TypesRight source) (names : NamesRight sourc
   arrays = flat_map (too_deep_array (declared_in source)) (unnamed_arrays_in source)
 
   types_shallow : too_deep_types text ≡ []
-  types_shallow = front_empty (too_deep_types text) (too_deep_units text)
-      (front_empty (too_deep_types text ++ too_deep_units text) arrays deep)
+  types_shallow = append_first (too_deep_types text) (too_deep_units text)
+      (append_first (too_deep_types text ++ too_deep_units text) arrays deep)
 
   units_shallow : too_deep_units text ≡ []
-  units_shallow = back_empty (too_deep_types text) (too_deep_units text)
-      (front_empty (too_deep_types text ++ too_deep_units text) arrays deep)
+  units_shallow = append_second (too_deep_types text) (too_deep_units text)
+      (append_first (too_deep_types text ++ too_deep_units text) arrays deep)
 
   arrays_shallow : arrays ≡ []
-  arrays_shallow = back_empty (too_deep_types text ++ too_deep_units text) arrays deep
+  arrays_shallow = append_second (too_deep_types text ++ too_deep_units text) arrays deep
 
-  -- no unit bears the name of a standard block
+  -- no unit has the name of a standard block
   unit_not_standard : (x : Name) (o : Option OrganisationUnit) → unit_named text.units x ≡ o → is_some o ≡ true
       → block_of x ≡ None
   unit_not_standard x None is h = absurd (cc)
   unit_not_standard x (Some u) is h =
       let found = unit_found text.units x u is in
       let name = in_flat names_of_element (unit_in source u found.among) here in
-      let free = first_false (is_some (block_of u.name.name)) (is_some (standard_of u.name.name))
+      let free = or_first (is_some (block_of u.name.name)) (is_some (standard_of u.name.name))
       (none_passes (λ y. is_standard y.name) name names.free) in
-      none_there (block_of x) (subst (λ (y : Name). is_some (block_of y) ≡ false)
+      none_is (block_of x) (subst (λ (y : Name). is_some (block_of y) ≡ false)
       (sym (same_name x u.name.name found.named)) free)
 
   not_standard : (x : Name) → is_some (unit_named text.units x) ≡ true → block_of x ≡ None

@@ -1,5 +1,5 @@
--- In a text whose declared types are right, the inputs and results of functions have elementary or enumerated types, and
--- where no name is declared twice, functions have no instances.
+-- In a text whose declared types are right, the inputs and results of functions have elementary or enumerated types,
+-- and if no name is declared twice, functions have no instances.
 use Rattle.std.proofs.Common.{◌≡◌, refl, sym, subst, ℕ, Bool, true, false, ◌&&◌, if◌then◌else◌, List, []}
 use Rattle.std.proofs.Common.{◌∷◌, ◌++◌, Option, Some, None}
 use Rattle.std.specs.Prelude.{is_some}
@@ -29,12 +29,12 @@ use Rattle.st_rules.specs.DeclaredTypes.{variable_of, Declaring}
 use Rattle.st_rules.specs.TypeRules.{place_of_simple, place_of_type, is_without_parts, wrong_simple}
 use Rattle.st_rules.proofs.TypingLaws.{kind_of_declared, untyped_declared}
 use Rattle.st_link.specs.Soundness.{IsKnown}
-use Rattle.st_link.proofs.Alikes.{back_empty}
 use Rattle.st_link.proofs.Among.{Among, here, later}
 use Rattle.st_link.proofs.KnownTypes.{TypesRight, declared_right, sound_known, sound_declared}
 use Rattle.st_link.proofs.KnownTypes.{variable_among, result_right, result_known}
+use Rattle.st_types.proofs.ListLemmas.{append_second}
 
--- what is known and has no parts has a kind
+-- a known type without parts has a kind
 kind_some : (t : Typing) → is_nothing t ≡ false → is_untyped_typing t ≡ false → is_composite t ≡ false
     → is_some (kind_of t) ≡ true
 kind_some untyped h i j = absurd (cc)
@@ -124,6 +124,6 @@ module _ (source : Source) (right : TypesRight source) where
   pub result_has_kind : (u : OrganisationUnit) (s : SimpleType) → Among (sources.unit u) source → u.sort ≡ function s
       → is_some (kind_among (declared_in source).types (types.Simple s)) ≡ true
   result_has_kind u s unit is = has_kind text (types.Simple s) (result_known source right u s unit is)
-      (not_in_case _ (place_of_simple s) (back_empty (wrong_simple text false s)
+      (not_in_case _ (place_of_simple s) (append_second (wrong_simple text false s)
       (breaking WrongType (in_case (is_composite (typing_of_type text (Some (types.Simple s)))) (place_of_simple s)))
       (result_right source right u s unit is)))

@@ -1,4 +1,4 @@
--- Where nothing is wrong in an expression, and the types of variables are known, its type is.
+-- If nothing is wrong in an expression, and the types of variables are known, its type is.
 use Rattle.std.proofs.Common.{◌≡◌, refl, sym, ap, subst, ◌∙◌, ℕ, Bool, true, false, if◌then◌else◌, List}
 use Rattle.std.proofs.Common.{[], ◌∷◌, ◌++◌, Option, Some, None}
 use Rattle.std.specs.Prelude.{option_and_then, IsSome}
@@ -14,7 +14,7 @@ use Rattle.st_types.specs.declared.data_type.VariableType.{VariableType}
 use Rattle.st_types.specs.Expressions.{Expr, literal, read, call, parenthesis, unary, binary, Exprs, Variable, variable}
 use Rattle.st_types.specs.Expressions.{Selector, member, subscript, Selectors, no_selectors, selector_then}
 use Rattle.st_meaning.specs.Scopes.{Name}
-use Rattle.st_meaning.specs.NameTypes.{Declared, selected_type, type_behind}
+use Rattle.st_meaning.specs.NameTypes.{Declared, selected_type, type_after_selectors}
 use Rattle.st_meaning.specs.Operators.{or_kind}
 use Rattle.st_meaning.specs.StandardFunctions.{Standard, ABS, MIN, MAX, LIMIT, SEL, SHL, SHR, ROL, ROR, CONVERT}
 use Rattle.st_meaning.specs.Resolution.{is_joining, standard_kind}
@@ -36,9 +36,9 @@ use Rattle.st_rules.specs.Nodes.{nodes_of, nodes_below, offered, demands_of}
 use Rattle.st_rules.specs.ExpressionRules.{wrong_selector, wrong_selectors, wrong_variable, wrong_alone, wrong_call}
 use Rattle.st_rules.specs.ExpressionRules.{wrong_part, wrong_node, wrong_within}
 use Rattle.st_link.specs.Soundness.{IsKnown, IsTypeIn, of_variable, of_part, AreKnown}
-use Rattle.st_link.proofs.Alikes.{front_empty, back_empty}
+use Rattle.st_types.proofs.ListLemmas.{append_first, append_second}
 
--- What has a type is not nothing.
+-- An expression with a type isn't unknown.
 number_known : (o : Option Kind) → is_nothing (typing_of_number o) ≡ false
 number_known None = refl
 number_known (Some k) = refl
@@ -64,7 +64,7 @@ alone_known env known at x (Some t) is h = known.types t (of_variable x is)
 -- A selection in which nothing is wrong leads to a type.
 pub record Leads (text : Declared) (t : VariableType) (xs : Selectors) : Type 0 where
   pub type_is : VariableType
-  pub leads : type_behind text xs t ≡ Some type_is
+  pub leads : type_after_selectors text xs t ≡ Some type_is
   pub known : IsKnown text type_is
 
 abbrev selector_faults : Declared → ℕ → Selector → Selectors → VariableType → Option VariableType → List Broken
@@ -95,11 +95,11 @@ selectors_lead env known at (selector_then x xs) t k h =
     let rest = selectors_lead env known at xs one.0 (of_part x k one.1) one.2 in
     record {
       type_is = rest.type_is;
-      leads = ap (option_and_then (type_behind env.text xs)) one.1 ∙ rest.leads;
+      leads = ap (option_and_then (type_after_selectors env.text xs)) one.1 ∙ rest.leads;
       known = rest.known;
     }
 
--- A variable in which nothing is wrong is there.
+-- A variable in which nothing is wrong exists.
 pub record IsThere (env : Environment) (x : Identifier) (xs : Selectors) : Type 0 where
   pub declared : VariableType
   pub named : type_of_name env x.name ≡ Some declared
@@ -127,7 +127,7 @@ variable_is_there env known x xs h = variable_named env known x xs (type_of_name
 
 pub type_there : (env : Environment) (x : Identifier) (xs : Selectors) (h : IsThere env x xs)
     → type_of_place env (variable x xs) ≡ Some h.behind.type_is
-type_there env x xs h = ap (option_and_then (type_behind env.text xs)) h.named ∙ h.behind.leads
+type_there env x xs h = ap (option_and_then (type_after_selectors env.text xs)) h.named ∙ h.behind.leads
 
 read_known : (env : Environment) → AreKnown env → (k : Option Kind) (v : Variable) → wrong_part env k (read v) ≡ []
     → is_nothing (typing_of env (read v)) ≡ false
@@ -138,7 +138,7 @@ read_known env known k (variable x (selector_then y ys)) h =
     subst (λ o. is_nothing (typing_of_type env.text o) ≡ false) (sym (type_there env x (selector_then y ys) there))
     there.behind.known
 
--- calls give something
+-- calls have a type
 some_kind : (o : Option Kind) (k : Kind) → is_nothing (typing_of_kind (or_kind o (Some k))) ≡ false
 some_kind None k = refl
 some_kind (Some l) k = refl
@@ -189,11 +189,11 @@ pub below_binary : (env : Environment) (k : Option Kind) (op : BinaryOperator) (
 below_binary env k op l r h =
     let o = offered k op (typing_of env l) (typing_of env r) in
     sym (flat_map-append (wrong_node env) (nodes_of env (operand o) l) (nodes_of env (operand o) r))
-    ∙ back_empty (wrong_part env k (binary op l r))
+    ∙ append_second (wrong_part env k (binary op l r))
     (flat_map (wrong_node env) (nodes_of env (operand o) l ++ nodes_of env (operand o) r)) h
 
 pub own_part : (env : Environment) (k : Option Kind) (e : Expr) → wrong_within env k e ≡ [] → wrong_part env k e ≡ []
-own_part env k e h = front_empty (wrong_part env k e) (flat_map (wrong_node env) (nodes_below env k e)) h
+own_part env k e h = append_first (wrong_part env k e) (flat_map (wrong_node env) (nodes_below env k e)) h
 
 pub typing_known : (env : Environment) → AreKnown env → (k : Option Kind) (e : Expr) → wrong_within env k e ≡ []
     → is_nothing (typing_of env e) ≡ false
@@ -204,10 +204,10 @@ typing_known env known k (call f es) h =
     (callee_of env f.name) refl (own_part env k (call f es) h)
 typing_known env known k (parenthesis at e) h = typing_known env known k e h
 typing_known env known k (unary op at e) h =
-    typing_known env known k e (back_empty (wrong_part env k (unary op at e)) (wrong_within env k e) h)
+    typing_known env known k e (append_second (wrong_part env k (unary op at e)) (wrong_within env k e) h)
 typing_known env known k (binary op l r) h =
     let o = offered k op (typing_of env l) (typing_of env r) in
     let below = below_binary env k op l r h in
     operation_known (is_joining op) (typing_of env l) (typing_of env r)
-    (typing_known env known o l (front_empty (wrong_within env o l) (wrong_within env o r) below))
-    (typing_known env known o r (back_empty (wrong_within env o l) (wrong_within env o r) below))
+    (typing_known env known o l (append_first (wrong_within env o l) (wrong_within env o r) below))
+    (typing_known env known o r (append_second (wrong_within env o l) (wrong_within env o r) below))

@@ -1,4 +1,4 @@
--- In a text whose declared types are right, each type of a unit's variables and of their parts stands for something.
+-- In a text whose declared types are right, each type of a unit's variables and of their parts is known.
 use Rattle.std.proofs.Common.{◌≡◌, refl, sym, subst, Bool, true, false, ◌&&◌, ◌||◌, if◌then◌else◌, List, []}
 use Rattle.std.proofs.Common.{◌++◌, Option, Some, None}
 use Rattle.std.specs.Prelude.{option_map, option_and_then, is_some}
@@ -39,13 +39,13 @@ use Rattle.st_rules.specs.TypeRules.{place_of_simple, place_of_type, wrong_simpl
 use Rattle.st_rules.specs.TypeRules.{is_without_parts, wrong_declaring, wrong_element, wrong_result}
 use Rattle.st_rules.specs.Rules.{environment}
 use Rattle.st_link.specs.Soundness.{IsKnown, IsTypeIn, of_variable, of_part}
-use Rattle.st_link.proofs.Alikes.{front_empty, back_empty}
 use Rattle.st_link.proofs.Among.{Among, here, in_front, in_back, in_map, in_flat, none_of}
 use Rattle.st_link.proofs.NamedFaults.{named_something}
 use Rattle.st_link.proofs.FoundNames.{unit_found, unit_in, type_found, type_in_source, field_found, FoundVariable}
 use Rattle.st_link.proofs.FoundNames.{variable_found, section_found}
+use Rattle.st_types.proofs.ListLemmas.{append_first, append_second}
 
--- a name that is no wrong type
+-- a name that isn't a wrong type
 composite_known : (text : Declared) (x : Name) (o : Option Enumeration)
     → (is_some (type_named text.types x) || is_block text x) ≡ true → is_nothing (typing_of_named text x o) ≡ false
 composite_known text x (Some e) h = refl
@@ -59,7 +59,7 @@ simple_known text blocks (Named x) h =
     (named_something (is_some (type_named text.types x.name)) (is_block text x.name)
     (is_some (unit_named text.units x.name) || is_some (standard_of x.name)) blocks x.place h)
 
--- a type that stands for something, and whose elements do where it is an array without a name
+-- a type that is known, and whose elements are if it is an array without a name
 abbrev pub IsSoundType : Declared → VariableType → Type 0
 IsSoundType text (types.Array a) = IsKnown text (types.Simple a.element)
 IsSoundType text (types.Simple t) = IsKnown text (types.Simple t)
@@ -89,8 +89,8 @@ declaring_right text d h =
     (place_of_type d.declared)) in
     let three = breaking WrongType (in_case (is_block_type text d.declared && is_some d.initial)
     (place_of_type d.declared)) in
-    let front = front_empty (one ++ two) three h in
-    record { name = front_empty one two front; whole = back_empty one two front }
+    let front = append_first (one ++ two) three h in
+    record { name = append_first one two front; whole = append_second one two front }
 
 module _ (source : Source) (right : TypesRight source) where
   abbrev text : Declared
@@ -140,7 +140,7 @@ module _ (source : Source) (right : TypesRight source) where
   pub result_known : (u : OrganisationUnit) (s : SimpleType) → Among (sources.unit u) source → u.sort ≡ function s
       → IsKnown text (types.Simple s)
   result_known u s unit is = simple_known text false s
-      (front_empty (wrong_simple text false s) (breaking WrongType
+      (append_first (wrong_simple text false s) (breaking WrongType
       (in_case (is_composite (typing_of_type text (Some (types.Simple s)))) (place_of_simple s)))
       (result_right u s unit is))
 

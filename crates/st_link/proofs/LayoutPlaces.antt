@@ -1,4 +1,4 @@
--- Where variables of one owner stand in a layout.
+-- Where variables of one owner are in a layout.
 use Rattle.std.proofs.Common.{◌≡◌, refl, sym, ap, ap₂, ◌∙◌, arith, ℕ, ◌+◌, List, [], ◌∷◌, ◌++◌, map, Bool, true}
 use Rattle.std.proofs.Common.{false, ◌&&◌, if◌then◌else◌, Option, Some, None}
 use Rattle.std.specs.Prelude.{option_map, bytes_eq, not}
@@ -10,14 +10,15 @@ use Rattle.st_meaning.specs.Scopes.{Name}
 use Rattle.symbols.specs.Found.{or_found}
 use Rattle.layout.specs.LayoutVariables.{Owned, owned_variable}
 use Rattle.layout.specs.Shapes.{size}
-use Rattle.layout.specs.Standing.{is_named_so, later, variable_at}
+use Rattle.layout.specs.VariableSlots.{is_variable, later, variable_at}
 use Rattle.layout.specs.TextLayouts.{variable_shape}
 use Rattle.layout.specs.Types.{NamedSite}
 use Rattle.layout.specs.Layouts.{layout_size}
 use Rattle.st_link.specs.FirstSlots.{found_at, slots_taken}
 use Rattle.st_link.specs.LinkVariables.{LinkVariable, of_owned, of_site}
 use Rattle.st_link.specs.Tables.{seen_at}
-use Rattle.st_link.proofs.FirstSlotLemmas.{both_hold, both_hold_back}
+use Rattle.std.proofs.lemmas.Bool.{and_parts, and_from}
+use Rattle.st_types.proofs.TestLemmas.{false_from_not}
 
 pub size_taken : (text : Declared) (vs : List Owned) → layout_size text vs ≡ slots_taken text (map of_owned vs)
 size_taken text [] = refl
@@ -28,7 +29,7 @@ pub size_append : (text : Declared) (vs ws : List Owned)
 size_append text [] ws = omega arith
 size_append text (v ∷ vs) ws = let h = size_append text vs ws in omega arith
 
--- a variable that is seen so many slots further
+-- a variable that is found a number of slots further
 abbrev pub seen_from : ℕ → Option (ℕ × Owned) → Option (ℕ × LinkVariable)
 seen_from n o = option_map (λ e. (n + e.0, of_owned e.1)) o
 
@@ -47,7 +48,7 @@ pub owned_at : (text : Declared) (o : Option Owner) (n : ℕ) (vs : List Owned) 
     → seen_from n (variable_at text vs o x) ≡ found_at text n (map of_owned vs) x
 owned_at text o n [] x h = refl
 owned_at text o n (v ∷ vs) x h =
-    let b = both_hold (same_owner o v.owner) (list_all (λ w. same_owner o w.owner) vs) h in
+    let b = and_parts (same_owner o v.owner) (list_all (λ w. same_owner o w.owner) vs) h in
     ap (λ c. seen_from n (if c && bytes_eq x v.name then Some (0, v)
     else option_map (later text v) (variable_at text vs o x)))
     b.0
@@ -76,17 +77,13 @@ owned_at text o n (v ∷ vs) x h =
 abbrev pub NoneOf : Option Owner → List Owned → Type 0
 NoneOf o vs = list_all (λ v. not (same_owner o v.owner)) vs ≡ true
 
-negated : (b : Bool) → not b ≡ true → b ≡ false
-negated true h = absurd (cc)
-negated false h = refl
-
 pub none_at : (text : Declared) (o : Option Owner) (vs : List Owned) (x : Name) → NoneOf o vs
     → variable_at text vs o x ≡ None
 none_at text o [] x h = refl
 none_at text o (v ∷ vs) x h =
-    let b = both_hold (not (same_owner o v.owner)) (list_all (λ w. not (same_owner o w.owner)) vs) h in
+    let b = and_parts (not (same_owner o v.owner)) (list_all (λ w. not (same_owner o w.owner)) vs) h in
     ap (λ c. if c && bytes_eq x v.name then Some (0, v) else option_map (later text v) (variable_at text vs o x))
-    (negated (same_owner o v.owner) b.0)
+    (false_from_not (same_owner o v.owner) b.0)
     ∙ ap (option_map (later text v)) (none_at text o vs x b.1)
 
 -- among more variables
@@ -98,7 +95,7 @@ at_append text o n [] ws x = ap (λ m. seen_from m (variable_at text ws o x)) (n
     none : (m : ℕ) → m ≡ m + 0
     none m = omega arith
 at_append text o n (v ∷ vs) ws x =
-    by_test (is_named_so o x v) (at_append text o (n + size (variable_shape text v)) vs ws x)
+    by_test (is_variable o x v) (at_append text o (n + size (variable_shape text v)) vs ws x)
   where
     further : (r : Option (ℕ × Owned)) → seen_from n (option_map (later text v) r)
         ≡ seen_from (n + size (variable_shape text v)) r
@@ -128,7 +125,7 @@ at_append text o n (v ∷ vs) ws x =
 pub all_owned : (o : Option Owner) (ds : List NamedSite) → same_owner o o ≡ true → AllOf o (map (owned_variable o) ds)
 all_owned o [] h = refl
 all_owned o (d ∷ ds) h =
-    both_hold_back (same_owner o o) (list_all (λ v. same_owner o v.owner) (map (owned_variable o) ds)) h
+    and_from (same_owner o o) (list_all (λ v. same_owner o v.owner) (map (owned_variable o) ds)) h
     (all_owned o ds h)
 
 pub sites_owned : (o : Option Owner) (ds : List NamedSite) → map of_owned (map (owned_variable o) ds) ≡ map of_site ds

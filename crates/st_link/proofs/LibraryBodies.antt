@@ -39,7 +39,7 @@ use Rattle.st_link.proofs.RunHomes.{no_type_by}
 use Rattle.st_link.proofs.TakenBodies.{unit_taken, no_type_taken, statements_taken, externals_taken, types_in_taken}
 use Rattle.st_link.proofs.TakenBodies.{section_taken, site_of_variable, named_instance}
 
-local_is : (sort : UnitSort) (section : Section) → may_be_instance (variable_of sort section) ≡ true
+pub local_is : (sort : UnitSort) (section : Section) → may_be_instance (variable_of sort section) ≡ true
     → is_external section ≡ false
 local_is sort (sections.Local keep) h = refl
 local_is sort (sections.Input keep) h = absurd (cc)

@@ -1,4 +1,4 @@
--- The functions of a text's own library are there, and their variables have values of their types as a call begins.
+-- The functions of a text's own library exist, and their variables have values of their types at the beginning of a call.
 use Rattle.std.proofs.Common.{◌≡◌, ℕ, Bool, true, false, if◌then◌else◌, List, [], ◌∷◌, ◌++◌, map, Option, Some, None}
 use Rattle.std.proofs.Common.{refl, sym, ap, ap₂, ◌∙◌, subst}
 use Rattle.std.specs.List.{list_all}
@@ -36,7 +36,6 @@ use Rattle.layout.specs.Libraries.{input_names, function_of_unit, library_of_tex
 use Rattle.layout.specs.Names
 use Rattle.layout.specs.Names.{are_different, has_different_variables, are_types_and_units_different}
 use Rattle.layout.proofs.LibraryLemmas.{function_found}
-use Rattle.layout.proofs.ListLemmas.{both}
 use Rattle.layout.proofs.NameLemmas.{found_unit, variables_once}
 use Rattle.st_link.specs.Homes.{are_names_different, IsGrounded}
 use Rattle.st_link.specs.WellTypedRuns.{call_variables}
@@ -45,6 +44,7 @@ use Rattle.st_link.proofs.FreshCalls.{call_sites, call_stands}
 use Rattle.st_link.proofs.LibraryBodies.{body_taken}
 use Rattle.st_link.proofs.TakenBodies.{unit_taken, names_taken, externals_taken}
 use Rattle.st_link.proofs.UnitHomeLemmas.{function_homes}
+use Rattle.std.proofs.lemmas.Bool.{and_parts}
 
 -- inputs in order
 take_both : (s : Store) (xs ys : List Name) (ks ls : List (Option Kind)) → TakeInputs s xs ks → TakeInputs s ys ls
@@ -111,10 +111,10 @@ module _ (source : Source) (right : TypesRight source) (names : NamesRight sourc
 
   types_and_units : are_types_and_units_different text ≡ true
   types_and_units =
-      (both (are_different (map (λ t. t.name.name) text.types)) (are_types_and_units_different text) differ).1
+      (and_parts (are_different (map (λ t. t.name.name) text.types)) (are_types_and_units_different text) differ).1
 
   units_differ : list_all has_different_variables text.units ≡ true
-  units_differ = (both (list_all (λ t. Names.has_different_fields t.definition) text.types)
+  units_differ = (and_parts (list_all (λ t. Names.has_different_fields t.definition) text.types)
       (list_all has_different_variables text.units) types_and_units).1
 
   module _ (f : Name) (u : OrganisationUnit) (t : SimpleType)

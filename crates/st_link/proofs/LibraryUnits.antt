@@ -1,4 +1,4 @@
--- What a unit of a sort adds to a library.
+-- The addition of a unit of a sort to a library.
 use Rattle.std.proofs.Common.{◌≡◌, sym, ap, ◌∙◌, ℕ, ◌<◌, List, [], ◌∷◌, map, length, Bool, true}
 use Rattle.std.proofs.Common.{slice_index_or, Option, Some, None}
 use Rattle.std.specs.List.{list_all}
@@ -15,12 +15,12 @@ use Rattle.slot_trees.specs.SlotTrees.{SlotFunction, SlotStmts}
 use Rattle.st_link.specs.KeptTexts.{kept_block, kept_function}
 use Rattle.st_link.specs.Linked.{alone, blocks_by, blocks_of, functions_by, functions_of}
 use Rattle.st_link.specs.LinkVariables.{are_whole, is_whole_unit, result_of, variables_by_sort, variables_of_blocks}
-use Rattle.st_link.proofs.FirstSlotLemmas.{both_hold}
-use Rattle.layout.proofs.PushLemmas.{left_begins}
 use Rattle.std.proofs.Common.{drop, ◌+◌}
 use Rattle.std.proofs.lemmas.List.{take-append-drop, map-append}
 use Rattle.std.proofs.Common.{take}
 use Rattle.st_link.proofs.FirstSlotLemmas.{all_back}
+use Rattle.std.proofs.lemmas.Bool.{and_parts}
+use Rattle.st_types.proofs.ListLemmas.{drop_next}
 
 pub function_whole : (text : Declared) (u : OrganisationUnit) (t : SimpleType) → u.sort ≡ sorts.Function t
     → is_whole_unit text u ≡ true
@@ -54,8 +54,8 @@ pub unit_passes : (p : OrganisationUnit → Bool) (us : List (Bor code_unit.Unit
     → p (unit_view u.now) ≡ true
 unit_passes p us i u below at h =
     let rest = map (λ (v : Bor code_unit.Unit). unit_view v.now) (drop (i + 1) us) in
-    (both_hold (p (unit_view u.now)) (list_all p rest)
-    (ap (λ vs. list_all p (map (λ v. unit_view v.now) vs)) (sym (left_begins us i u below at))
+    (and_parts (p (unit_view u.now)) (list_all p rest)
+    (ap (λ vs. list_all p (map (λ v. unit_view v.now) vs)) (sym (drop_next us i u below at))
     ∙ all_back p (map (λ v. unit_view v.now) (take i us)) (map (λ v. unit_view v.now) (drop i us))
     (ap (list_all p) (sym (map-append (λ v. unit_view v.now) (take i us) (drop i us))
     ∙ ap (map (λ v. unit_view v.now)) (take-append-drop i us)) ∙ h))).0

@@ -1,4 +1,4 @@
--- What is linked, put together.
+-- Linked parts, put together.
 use Rattle.std.proofs.Common.{◌≡◌, List, ◌∷◌, Option, Some, option_map, option_and_then, ap, ◌∙◌}
 use Rattle.slot_trees.specs.TextLinks.{linked_then}
 use Rattle.st_link.specs.Served.{IsLinked}
@@ -18,7 +18,7 @@ linked_map f o h = record { value = f h.value; is = ap (option_map f) h.is }
 pub linked_as : {A : Type 0} (o p : Option A) → o ≡ p → IsLinked p → IsLinked o
 linked_as o p e h = record { value = h.value; is = e ∙ h.is }
 
--- one more of a list
+-- one more element of a list
 pub linked_list : {A : Type 0} (o : Option A) (rest : Option (List A)) → IsLinked o → IsLinked rest
     → IsLinked (linked_then o rest)
 linked_list o rest h g =

@@ -1,9 +1,9 @@
--- Loops whose turns and steps are alike where a property of the store holds, and keep it, are alike and keep it.
+-- Loops whose turns and steps are alike if a property of the store holds, and keep it, are alike and keep it.
 use Rattle.std.proofs.Common.{ℕ, zero, suc, Bool, true, false, if◌then◌else◌, Option, Some, None}
 use Rattle.st_meaning.specs.Stores.{Store}
 use Rattle.st_meaning.specs.Ticks.{Run, ◌>>=◌, give}
-use Rattle.st_meaning.specs.Loops.{End, goes_on, exits, returns, Turn, again, over, turned, resumed, go_back, turns}
-use Rattle.st_meaning.specs.Loops.{looped, guarded, asked, until}
+use Rattle.st_meaning.specs.Loops.{End, goes_on, exits, returns, Iteration, again, over, turned, resumed, go_back, turns}
+use Rattle.st_meaning.specs.Loops.{looped, guarded, tested_after, until}
 use Rattle.st_meaning.specs.Runs.{store_of}
 use Rattle.st_link.proofs.RunsAlike.{RunsAlike, both_then, both_give, both_fault, both_tick}
 
@@ -11,11 +11,11 @@ abbrev pub Whatever : Bool → Type 0
 Whatever b = Unit {0}
 
 module _ (I : Store → Type 0) where
-  -- what is left has the property
+  -- the store after a run has the property
   abbrev pub Leaves : End → Type 0
   Leaves e = I (store_of e)
 
-  abbrev pub LeavesTurn : Turn → Type 0
+  abbrev pub LeavesTurn : Iteration → Type 0
   LeavesTurn (again s) = I s
   LeavesTurn (over e) = Leaves e
 
@@ -28,7 +28,7 @@ module _ (I : Store → Type 0) where
   turned_leaves (exits s) h = h
   turned_leaves (returns s) h = h
 
-  module _ (turn turn' : Store → Run Turn) (step step' : Store → Run (Option Store))
+  module _ (turn turn' : Store → Run Iteration) (step step' : Store → Run (Option Store))
       (turns_so : (s : Store) → I s → RunsAlike LeavesTurn (turn s) (turn' s))
       (steps_so : (s : Store) → I s → RunsAlike LeavesStep (step s) (step' s)) where
     resumed_alike : (next next' : Store → Run End)
@@ -38,7 +38,7 @@ module _ (I : Store → Type 0) where
     resumed_alike next next' k s is (Some t) h = k t h
 
     back_alike : (next next' : Store → Run End)
-        → ((s : Store) → I s → RunsAlike Leaves (next s) (next' s)) → (t : Turn) → LeavesTurn t
+        → ((s : Store) → I s → RunsAlike Leaves (next s) (next' s)) → (t : Iteration) → LeavesTurn t
         → RunsAlike Leaves (go_back step next t) (go_back step' next' t)
     back_alike next next' k (over e) h = both_give Leaves e h
     back_alike next next' k (again s) h =
@@ -68,7 +68,7 @@ module _ (I : Store → Type 0) where
         chosen true = both_then (bodies_so s is) (λ e h. both_give LeavesTurn (turned e) (turned_leaves e h))
         chosen false = both_give LeavesTurn (over (goes_on s)) is
 
-    asked_alike : (e : End) → Leaves e → RunsAlike LeavesTurn (asked condition e) (asked condition' e)
+    asked_alike : (e : End) → Leaves e → RunsAlike LeavesTurn (tested_after condition e) (tested_after condition' e)
     asked_alike (goes_on s) h = both_then (conditions_so s h) (λ stop _. chosen stop)
       where
         chosen : (stop : Bool) → RunsAlike LeavesTurn (give (if stop then over (goes_on s) else again s))

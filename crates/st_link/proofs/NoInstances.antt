@@ -25,14 +25,14 @@ use Rattle.st_rules.specs.DeclaredTypes.{variable_of, Declaring}
 use Rattle.st_rules.specs.TypeRules.{place_of_simple, wrong_simple, wrong_name, may_be_instance}
 use Rattle.st_rules.specs.Rules.{environment}
 use Rattle.st_link.specs.StatementSoundness.{HasNoInstances}
-use Rattle.st_link.proofs.Alikes.{front_empty}
 use Rattle.st_link.proofs.Among.{Among}
 use Rattle.st_link.proofs.FoundNames.{FoundVariable, variable_found}
 use Rattle.st_link.proofs.KnownTypes.{TypesRight, declared_right, variable_among, result_right}
 use Rattle.st_link.proofs.NamedFaults.{no_block_named}
 use Rattle.st_link.proofs.ApartNames.{NamesRight, types_are_no_blocks}
+use Rattle.st_types.proofs.ListLemmas.{append_first}
 
--- where a function's variables are declared no instance may stand
+-- no instance is allowed among a function's variables
 no_instance_stands : (t : SimpleType) (section : Section) → may_be_instance (variable_of (function t) section) ≡ false
 no_instance_stands t (sections.Input keep) = refl
 no_instance_stands t (sections.Output keep) = refl
@@ -47,7 +47,7 @@ module _ (source : Source) (right : TypesRight source) (names : NamesRight sourc
   text = declared_in source
 
   result_simple : wrong_simple text false result ≡ []
-  result_simple = front_empty (wrong_simple text false result) (breaking WrongType
+  result_simple = append_first (wrong_simple text false result) (breaking WrongType
       (in_case (is_composite (typing_of_type text (Some (types.Simple result)))) (place_of_simple result)))
       (result_right source right u result unit sort)
 

@@ -44,17 +44,6 @@ numbered_more n (z ∷ xs) y x = by_test (bytes_eq x z) (numbered_more (suc n) x
 pub itself : (x : Name) → bytes_eq x x ≡ true
 itself x = (bytes_eq-Decides x x).1 refl
 
--- a unit has the name by which it is found
-pub named_unit : (us : List OrganisationUnit) (x : Name) (u : OrganisationUnit) → unit_named us x ≡ Some u
-    → x ≡ u.name.name
-named_unit [] x u h = absurd (cc)
-named_unit (v ∷ us) x u h = by_test (bytes_eq x v.name.name) refl h (named_unit us x u)
-  where
-    by_test : (b : Bool) → bytes_eq x v.name.name ≡ b → (if b then Some v else unit_named us x) ≡ Some u
-        → (unit_named us x ≡ Some u → x ≡ u.name.name) → x ≡ u.name.name
-    by_test true e g ih = let same : v ≡ u = cc in (bytes_eq-Decides x v.name.name).0 e ∙ ap (λ w. w.name.name) same
-    by_test false e g ih = ih g
-
 -- a block of the text has a number
 some_later : (b : Bool) (n : ℕ) (o : Option ℕ) → is_some o ≡ true → is_some (if b then Some n else o) ≡ true
 some_later true n o h = refl

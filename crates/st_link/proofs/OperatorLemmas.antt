@@ -14,7 +14,7 @@ use Rattle.st_types.specs.declared.operator.BinaryOperator.TheVariants.{LessOrEq
 use Rattle.st_types.specs.declared.operator.BinaryOperator.TheVariants.{Multiply, Divide, Modulo}
 use Rattle.st_types.specs.Kinds.{holds, same_kind}
 use Rattle.st_types.proofs.KindLemmas.{same_kind-refl}
-use Rattle.st_types.specs.Values.{Datum, in_range, datum_of_truth}
+use Rattle.st_types.specs.Values.{Datum, in_range, bool_datum}
 use Rattle.st_meaning.specs.Failures.{ill_typed, failing}
 use Rattle.st_meaning.specs.Operators.{applied, apply, apply_unary, quotient}
 use Rattle.st_meaning.specs.Resolution.{is_joining}
@@ -40,7 +40,7 @@ quotient_gives k x y = divided (int_eq y (pos 0))
     divided true = tt
     divided false = in_range_gives k (int_div x y)
 
-pub truth_is : (b : Bool) → IsOf Boolean (datum_of_truth b)
+pub truth_is : (b : Bool) → IsOf Boolean (bool_datum b)
 truth_is true = record { kind = refl; held = refl }
 truth_is false = record { kind = refl; held = refl }
 

@@ -1,11 +1,11 @@
--- Parts with names, by the members of what is made so.
+-- Parts with names, by the members of a composition.
 use Rattle.std.proofs.Common.{◌≡◌, refl, ap, ◌∙◌, List, [], ◌∷◌, map, false}
 use Rattle.st_types.specs.declared.data_type.VariableType.{VariableType}
 use Rattle.st_meaning.specs.Scopes.{Name}
 use Rattle.st_types.specs.declared.path.Step.TheVariants as steps
 use Rattle.symbols.specs.PlaceTypes.{place_type_view}
 use Rattle.layout.specs.Types.{Site, NamedSite, Composition, of_kind, of_elements, of_parts}
-use Rattle.layout.specs.KeptSites.{kept_part, member_part, part_view, parts_behind, step_view}
+use Rattle.layout.specs.KeptSites.{kept_part, member_part, part_view, parts_below, step_view}
 use Rattle.layout.specs.declared.sites.Part.{Part}
 use Rattle.layout.specs.declared.sites.PartStep.{PartStep}
 use Rattle.layout.specs.declared.sites.PartStep.TheVariants.{Member, Element}
@@ -30,7 +30,7 @@ named_members s (d ∷ ds) (p ∷ ps) h =
     ∙ ap (λ es. name_and_type d ∷ es) (named_members s ds ps others)
 
 pub named_parts_of : (s : Site) (c : Composition) (ps : List Part) → array_made c ≡ false
-    → map part_view ps ≡ map kept_part (parts_behind s c) → named_parts ps ≡ members_in c
+    → map part_view ps ≡ map kept_part (parts_below s c) → named_parts ps ≡ members_in c
 named_parts_of s (of_kind k) [] none h = refl
 named_parts_of s (of_kind k) (p ∷ ps) none h = absurd (cc)
 named_parts_of s (of_elements a) ps none h = absurd (cc)

@@ -1,4 +1,4 @@
--- Where the variables of programs' instances stand in a layout.
+-- Where the variables of programs' instances are in a layout.
 use Rattle.std.proofs.Common.{◌≡◌, refl, sym, ap, ap₂, subst, ◌∙◌, arith, ℕ, ◌+◌, ◌≤◌, List, [], ◌∷◌, ◌++◌, map, Bool}
 use Rattle.std.proofs.Common.{true, false, ◌||◌, if◌then◌else◌, Option, Some, None}
 use Rattle.std.specs.Prelude.{bytes_eq, is_none, not}
@@ -7,7 +7,6 @@ use Rattle.std.proofs.Common.{◌<◌, length, slice_index_or, take, drop}
 use Rattle.std.proofs.lemmas.List.{append_assoc, map-append, take-append-drop}
 use Rattle.layout.specs.Instances.{instance_view}
 use Rattle.layout.specs.declared.configurations.ProgramInstance.{ProgramInstance}
-use Rattle.layout.proofs.PushLemmas.{left_begins}
 use Rattle.std.proofs.lemmas.Slice.Eq.{bytes_eq-Decides}
 use Rattle.st_types.specs.declared.limits.TheConstants.{MAX_PATHS}
 use Rattle.st_types.specs.declared.path.Owner.{Owner}
@@ -19,32 +18,35 @@ use Rattle.st_meaning.specs.NameTypes.{Declared, unit_named}
 use Rattle.st_meaning.specs.Scopes.{Name}
 use Rattle.symbols.specs.Found.{or_found}
 use Rattle.layout.specs.LayoutVariables.{Owned, owned_variable, program_sites, sites_of_program}
-use Rattle.layout.specs.Standing.{variable_at}
+use Rattle.layout.specs.VariableSlots.{variable_at}
 use Rattle.layout.specs.Types.{NamedSite}
 use Rattle.layout.specs.Instances.{OwnedProgram, variables_of_programs}
 use Rattle.layout.specs.Layouts.{layout_size}
-use Rattle.layout.specs.Sizes.{cut}
+use Rattle.layout.specs.Sizes.{capped_size}
 use Rattle.st_link.specs.FirstSlots.{found_at, slots_taken}
 use Rattle.st_link.specs.Linked.{IsLayoutBy, are_owners_different, if_program, program_unit, slots_of_instances}
 use Rattle.st_link.specs.Linked.{variables_by, variables_of_instance}
 use Rattle.st_link.specs.LinkVariables.{are_whole, is_whole_unit, of_owned, of_site, variables_by_sort}
 use Rattle.st_link.specs.LinkVariables.{variables_of_blocks}
 use Rattle.st_link.specs.Tables.{AreGlobals, BeginAt, seen_at}
-use Rattle.st_link.proofs.FirstSlotLemmas.{both_hold, both_hold_back}
 use Rattle.st_link.proofs.LayoutPlaces.{AllOf, NoneOf, all_owned, at_append, none_at, owned_at, seen_first}
 use Rattle.st_link.proofs.LayoutPlaces.{seen_from}
 use Rattle.st_link.proofs.LayoutPlaces.{sites_owned, size_append, size_taken}
 use Rattle.st_link.proofs.SiteLemmas.{sites_seen}
+use Rattle.std.proofs.lemmas.Bool.{or_parts, and_parts, and_from, or_from}
+use Rattle.st_types.proofs.TestLemmas.{false_from_not}
+use Rattle.st_types.proofs.ListLemmas.{drop_next}
+use Rattle.layout.proofs.LayoutLemmas.{programs_append}
 
 -- one owner
 same_names : (a b : Owner) → same_owner (Some a) (Some b) ≡ true → a ≡ b
 same_names a b h =
-    let both = both_hold (bytes_eq a.resource b.resource) (bytes_eq a.instance b.instance) h in
+    let both = and_parts (bytes_eq a.resource b.resource) (bytes_eq a.instance b.instance) h in
     ap₂ (λ r i. record { resource = r; instance = i }) ((bytes_eq-Decides a.resource b.resource).0 both.0)
     ((bytes_eq-Decides a.instance b.instance).0 both.1)
 
 pub same_itself : (a : Owner) → same_owner (Some a) (Some a) ≡ true
-same_itself a = both_hold_back (bytes_eq a.resource a.resource) (bytes_eq a.instance a.instance)
+same_itself a = and_from (bytes_eq a.resource a.resource) (bytes_eq a.instance a.instance)
     ((bytes_eq-Decides a.resource a.resource).1 refl) ((bytes_eq-Decides a.instance a.instance).1 refl)
 
 not_turned : (a b : Owner) → same_owner (Some a) (Some b) ≡ false → same_owner (Some b) (Some a) ≡ false
@@ -62,8 +64,8 @@ not_turned a b h = by_test (same_owner (Some b) (Some a)) refl
 unowned_all : (vs : List Owned) → list_all (λ v. is_none v.owner) vs ≡ true → AllOf None vs
 unowned_all [] h = refl
 unowned_all (v ∷ vs) h =
-    let b = both_hold (is_none v.owner) (list_all (λ w. is_none w.owner) vs) h in
-    both_hold_back (same_owner None v.owner) (list_all (λ w. same_owner None w.owner) vs)
+    let b = and_parts (is_none v.owner) (list_all (λ w. is_none w.owner) vs) h in
+    and_from (same_owner None v.owner) (list_all (λ w. same_owner None w.owner) vs)
     (by_owner v.owner b.0) (unowned_all vs b.1)
   where
     by_owner : (o : Option Owner) → is_none o ≡ true → same_owner None o ≡ true
@@ -73,8 +75,8 @@ unowned_all (v ∷ vs) h =
 unowned_none : (a : Owner) (vs : List Owned) → list_all (λ v. is_none v.owner) vs ≡ true → NoneOf (Some a) vs
 unowned_none a [] h = refl
 unowned_none a (v ∷ vs) h =
-    let b = both_hold (is_none v.owner) (list_all (λ w. is_none w.owner) vs) h in
-    both_hold_back (not (same_owner (Some a) v.owner)) (list_all (λ w. not (same_owner (Some a) w.owner)) vs)
+    let b = and_parts (is_none v.owner) (list_all (λ w. is_none w.owner) vs) h in
+    and_from (not (same_owner (Some a) v.owner)) (list_all (λ w. not (same_owner (Some a) w.owner)) vs)
     (by_owner v.owner b.0) (unowned_none a vs b.1)
   where
     by_owner : (o : Option Owner) → is_none o ≡ true → not (same_owner (Some a) o) ≡ true
@@ -84,15 +86,15 @@ unowned_none a (v ∷ vs) h =
 none_append : (o : Option Owner) (vs ws : List Owned) → NoneOf o vs → NoneOf o ws → NoneOf o (vs ++ ws)
 none_append o [] ws a b = b
 none_append o (v ∷ vs) ws a b =
-    let c = both_hold (not (same_owner o v.owner)) (list_all (λ w. not (same_owner o w.owner)) vs) a in
-    both_hold_back (not (same_owner o v.owner)) (list_all (λ w. not (same_owner o w.owner)) (vs ++ ws)) c.0
+    let c = and_parts (not (same_owner o v.owner)) (list_all (λ w. not (same_owner o w.owner)) vs) a in
+    and_from (not (same_owner o v.owner)) (list_all (λ w. not (same_owner o w.owner)) (vs ++ ws)) c.0
     (none_append o vs ws c.1 b)
 
 none_owned : (o : Option Owner) (a : Owner) (ds : List NamedSite) → same_owner o (Some a) ≡ false
     → NoneOf o (map (owned_variable (Some a)) ds)
 none_owned o a [] h = refl
 none_owned o a (d ∷ ds) h =
-    both_hold_back (not (same_owner o (Some a)))
+    and_from (not (same_owner o (Some a)))
     (list_all (λ w. not (same_owner o w.owner)) (map (owned_variable (Some a)) ds)) (ap not h) (none_owned o a ds h)
 
 programs_unowned : (text : Declared) (ps : List OwnedProgram) → NoneOf None (variables_of_programs text ps)
@@ -106,30 +108,14 @@ programs_unowned text (p ∷ ps) =
 abbrev NoOwner : Owner → List OwnedProgram → Type 0
 NoOwner a ps = list_any (λ q. same_owner (Some a) (Some q.0)) ps ≡ false
 
-either_false : (a b : Bool) → (a || b) ≡ false → (a ≡ false) × (b ≡ false)
-either_false true b h = absurd (cc)
-either_false false b h = (refl, h)
-
 programs_none : (text : Declared) (a : Owner) (ps : List OwnedProgram) → NoOwner a ps
     → NoneOf (Some a) (variables_of_programs text ps)
 programs_none text a [] h = refl
 programs_none text a (p ∷ ps) h =
-    let e = either_false (same_owner (Some a) (Some p.0)) (list_any (λ q. same_owner (Some a) (Some q.0)) ps) h in
+    let e = or_parts (same_owner (Some a) (Some p.0)) (list_any (λ q. same_owner (Some a) (Some q.0)) ps) h in
     none_append (Some a) (map (owned_variable (Some p.0)) (program_sites (unit_named text.units p.1)))
     (variables_of_programs text ps) (none_owned (Some a) p.0 (program_sites (unit_named text.units p.1)) e.0)
     (programs_none text a ps e.1)
-
-programs_append : (text : Declared) (ps qs : List OwnedProgram)
-    → variables_of_programs text (ps ++ qs) ≡ variables_of_programs text ps ++ variables_of_programs text qs
-programs_append text [] qs = refl
-programs_append text (p ∷ ps) qs =
-    let own = map (owned_variable (Some p.0)) (program_sites (unit_named text.units p.1)) in
-    ap (λ vs. own ++ vs) (programs_append text ps qs)
-    ∙ sym (append_assoc own (variables_of_programs text ps) (variables_of_programs text qs))
-
-negated : (b : Bool) → not b ≡ true → b ≡ false
-negated true h = absurd (cc)
-negated false h = refl
 
 -- an instance among others: those before and those after it have other owners
 record IsApart (before : List OwnedProgram) (p : OwnedProgram) (after : List OwnedProgram) : Type 0 where
@@ -138,29 +124,25 @@ record IsApart (before : List OwnedProgram) (p : OwnedProgram) (after : List Own
 
 any_in : (f : OwnedProgram → Bool) (xs ys : List OwnedProgram) (y : OwnedProgram)
     → list_any f (xs ++ y ∷ ys) ≡ false → f y ≡ false
-any_in f [] ys y h = (either_false (f y) (list_any f ys) h).0
-any_in f (x ∷ xs) ys y h = any_in f xs ys y (either_false (f x) (list_any f (xs ++ y ∷ ys)) h).1
-
-both_false : (a b : Bool) → a ≡ false → b ≡ false → (a || b) ≡ false
-both_false true b h g = absurd (cc)
-both_false false b h g = g
+any_in f [] ys y h = (or_parts (f y) (list_any f ys) h).0
+any_in f (x ∷ xs) ys y h = any_in f xs ys y (or_parts (f x) (list_any f (xs ++ y ∷ ys)) h).1
 
 apart : (before : List OwnedProgram) (p : OwnedProgram) (after : List OwnedProgram)
     → are_owners_different (before ++ p ∷ after) ≡ true → IsApart before p after
 apart [] p after h = record {
   before_none = refl;
-  after_none = negated (list_any (λ q. same_owner (Some p.0) (Some q.0)) after)
-      (both_hold (not (list_any (λ q. same_owner (Some p.0) (Some q.0)) after)) (are_owners_different after) h).0;
+  after_none = false_from_not (list_any (λ q. same_owner (Some p.0) (Some q.0)) after)
+      (and_parts (not (list_any (λ q. same_owner (Some p.0) (Some q.0)) after)) (are_owners_different after) h).0;
 }
 apart (q ∷ before) p after h =
-    let b = both_hold (not (list_any (λ r. same_owner (Some q.0) (Some r.0)) (before ++ p ∷ after)))
+    let b = and_parts (not (list_any (λ r. same_owner (Some q.0) (Some r.0)) (before ++ p ∷ after)))
     (are_owners_different (before ++ p ∷ after)) h in
     let i = apart before p after b.1 in
     record {
-      before_none = both_false (same_owner (Some p.0) (Some q.0))
+      before_none = or_from (same_owner (Some p.0) (Some q.0))
           (list_any (λ r. same_owner (Some p.0) (Some r.0)) before)
           (not_turned q.0 p.0 (any_in (λ r. same_owner (Some q.0) (Some r.0)) before after p
-          (negated (list_any (λ r. same_owner (Some q.0) (Some r.0)) (before ++ p ∷ after)) b.0)))
+          (false_from_not (list_any (λ r. same_owner (Some q.0) (Some r.0)) (before ++ p ∷ after)) b.0)))
           i.before_none;
       after_none = i.after_none;
     }
@@ -278,7 +260,7 @@ pub program_whole : (text : Declared) (us : List OrganisationUnit) (x : Name) (u
     → are_whole text (variables_of_blocks u.blocks) ≡ true
 program_whole text [] x u h whole = absurd (cc)
 program_whole text (v ∷ us) x u h whole =
-    let b = both_hold (is_whole_unit text v) (list_all (is_whole_unit text) us) whole in
+    let b = and_parts (is_whole_unit text v) (list_all (is_whole_unit text) us) whole in
     by_test (bytes_eq x v.name.name) h b.0 (λ g. program_whole text us x u g b.1)
   where
     by_test : (t : Bool) → program_unit (if t then Some v else unit_named us x) ≡ Some u
@@ -288,14 +270,14 @@ program_whole text (v ∷ us) x u h whole =
     by_test true g one ih = by_sort_whole text v.sort v u refl g one
     by_test false g one ih = ih g
 
--- slots, cut off
-pub none_further : (n : ℕ) → n ≤ MAX_PATHS + 1 → n ≡ cut (n + 0)
+-- slots, capped
+pub none_further : (n : ℕ) → n ≤ MAX_PATHS + 1 → n ≡ capped_size (n + 0)
 none_further n h = grind (arith)
 
-pub further_cut : (a s n r : ℕ) → s ≡ cut n → r ≡ cut (a + s) → r ≡ cut (a + n)
+pub further_cut : (a s n r : ℕ) → s ≡ capped_size n → r ≡ capped_size (a + s) → r ≡ capped_size (a + n)
 further_cut a s n r is all = grind (arith)
 
-pub first_is : (f g n m : ℕ) → f ≡ cut (g + 0) → g ≡ n → n + m ≤ MAX_PATHS → f ≡ n + 0
+pub first_is : (f g n m : ℕ) → f ≡ capped_size (g + 0) → g ≡ n → n + m ≤ MAX_PATHS → f ≡ n + 0
 first_is f g n m is same room = grind (arith)
 
 -- an instance at hand, among those before and after it
@@ -322,14 +304,14 @@ pub next_first : (text : Declared) (globals : List Owned) (before now : List Own
     (first next : ℕ) → now ≡ before ++ p ∷ []
     → first ≡ slots_taken text (map of_owned globals) + slots_of_instances text before
     → first + slots_taken text (variables_of_instance text p) ≤ MAX_PATHS
-    → next ≡ cut (first + slots_taken text (variables_of_instance text p))
+    → next ≡ capped_size (first + slots_taken text (variables_of_instance text p))
     → next ≡ slots_taken text (map of_owned globals) + slots_of_instances text now
 next_first text globals before now p first next more is room all =
     let a = ap (slots_of_instances text) more ∙ instances_taken text before (p ∷ []) in
     let b = uncut next (first + slots_taken text (variables_of_instance text p)) all room in
     omega (arith, a, b, is)
   where
-    uncut : (a n : ℕ) → a ≡ cut n → n ≤ MAX_PATHS → a ≡ n
+    uncut : (a n : ℕ) → a ≡ capped_size n → n ≤ MAX_PATHS → a ≡ n
     uncut a n is small = grind (arith)
 
 -- a list of instances at one of them
@@ -339,4 +321,4 @@ pub split_at : (xs : List ProgramInstance) (i : ℕ) (x : ProgramInstance) → i
 split_at xs i x below at =
     ap (map instance_view) (sym (take-append-drop i xs))
     ∙ map-append instance_view (take i xs) (drop i xs)
-    ∙ ap (λ ys. map instance_view (take i xs) ++ map instance_view ys) (left_begins xs i x below at)
+    ∙ ap (λ ys. map instance_view (take i xs) ++ map instance_view ys) (drop_next xs i x below at)

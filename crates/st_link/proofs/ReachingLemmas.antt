@@ -1,4 +1,4 @@
--- Following calls: what a name adds, what a turn adds, and what is found in the end.
+-- Following calls: the additions of a name and of a turn, and the result in the end.
 use Rattle.std.proofs.Common.{◌≡◌, refl, sym, ap, subst, ◌∙◌, arith, ℕ, zero, suc, ◌+◌, ◌≤◌, Bool, true, false}
 use Rattle.std.proofs.Common.{List, [], ◌∷◌, ◌++◌, map, length, Option, Some, None, if◌then◌else◌, inl, inr}
 use Rattle.std.specs.Prelude.{◌||◌, ◌⊎◌, is_some, is_none, not, option_map, bytes_eq, option_to_list}
@@ -15,9 +15,10 @@ use Rattle.layout.proofs.ListLemmas.{name_itself, same_name}
 use Rattle.st_link.specs.CalledFunctions.{IsReached, program, callee, callees_of}
 use Rattle.st_link.specs.Reaching.{Adds, FindsFunctions, FindsReached, Follows, IsFollowed, IsReachedUnit, Waits}
 use Rattle.st_link.specs.Reaching.{Worklist, number_left}
-
-one : {A : Type 0} {a b : A} → Some a ≡ Some b → a ≡ b
-one e = cc
+use Rattle.st_types.proofs.ListLemmas.{length_push}
+use Rattle.st_types.proofs.OptionLemmas.{some_is}
+use Rattle.slot_trees.proofs.InstanceLemmas.{unit_name}
+use Rattle.st_link.proofs.GivenPrograms.{among_one}
 
 none_there : {X : Type 0} → false ≡ true → X
 none_there e = absurd (cc)
@@ -28,7 +29,7 @@ none_some e = absurd (cc)
 there_is : {A : Type 0} (o : Option A) {a : A} → o ≡ Some a → is_some o ≡ true
 there_is o e = ap is_some e
 
--- what is among two lists is among one of them
+-- a member of two lists together is some_is of some_is of them
 among_parts : {A : Type 0} {a : A} (xs ys : List A) → IsAmong a (xs ++ ys) → IsAmong a xs ⊎ IsAmong a ys
 among_parts [] ys i = inr i
 among_parts (x ∷ xs) ys here = inl here
@@ -36,25 +37,6 @@ among_parts (x ∷ xs) ys (further_on i) = elim (among_parts xs ys i) [ inl j �
 
 among_none : {A X : Type 0} {a : A} → IsAmong a [] → X
 among_none i = elim i [ ]
-
-among_one : {A : Type 0} {a b : A} → IsAmong a (b ∷ []) → a ≡ b
-among_one here = refl
-among_one (further_on i) = among_none i
-
--- a unit is found by its own name
-pub found_by_name : (us : List OrganisationUnit) (x : Name) (u : OrganisationUnit) → unit_named us x ≡ Some u
-    → x ≡ u.name.name
-found_by_name [] x u e = none_some e
-found_by_name (v ∷ us) x u e = by_name (found_by_name us x u) (bytes_eq x v.name.name) refl e
-  where
-    by_name : (unit_named us x ≡ Some u → x ≡ u.name.name) → (b : Bool) → bytes_eq x v.name.name ≡ b
-        → (if b then Some v else unit_named us x) ≡ Some u → x ≡ u.name.name
-    by_name later true is e = same_name x v.name.name is ∙ ap (λ w. w.name.name) (one e)
-    by_name later false is e = later e
-
-one_longer : {A : Type 0} (xs : List A) (x : A) → length (xs ++ x ∷ []) ≡ length xs + 1
-one_longer [] x = refl
-one_longer (y ∷ xs) x = let shorter : length (xs ++ x ∷ []) ≡ length xs + 1 = one_longer xs x in omega (arith, shorter)
 
 -- no more are left than there are
 pub left_at_most : (has : Name → Bool) (us : List OrganisationUnit) → number_left has us ≤ length us
@@ -66,7 +48,7 @@ left_at_most has (u ∷ us) = by_test (has u.name.name) (left_at_most has us)
     by_test true h = omega (arith, h)
     by_test false h = omega (arith, h)
 
--- no more are left where more is reached
+-- no more are left if more is reached
 pub left_fewer : (old new : Name → Bool) (us : List OrganisationUnit) → ((x : Name) → old x ≡ true → new x ≡ true)
     → number_left new us ≤ number_left old us
 left_fewer old new [] kept = omega arith
@@ -80,7 +62,7 @@ left_fewer old new (u ∷ us) kept =
     by_tests false true k h = omega (arith, h)
     by_tests false false k h = omega (arith, h)
 
--- one fewer is left where a unit of the text is new
+-- some_is fewer is left if a unit of the text is new
 pub left_one_fewer : (old new : Name → Bool) (us : List OrganisationUnit) (u : OrganisationUnit) (x : Name)
     → unit_named us x ≡ Some u → old x ≡ false → new x ≡ true → ((y : Name) → old y ≡ true → new y ≡ true)
     → number_left new us + 1 ≤ number_left old us
@@ -197,7 +179,7 @@ adds_new text x u old new named fresh has waiting = record {
 }
   where
     itself : x ≡ u.name.name
-    itself = found_by_name text.units x u named
+    itself = unit_name text.units x u named
 
     or_old : (a b : Bool) → a ≡ true → (a || b) ≡ true
     or_old true b h = refl
@@ -233,7 +215,7 @@ adds_new text x u old new named fresh has waiting = record {
     })
 
     longer : length new.waiting ≡ length old.waiting + 1
-    longer = ap length waiting ∙ one_longer old.waiting u
+    longer = ap length waiting ∙ length_push old.waiting u
 
 -- the name of a unit
 pub adds_unit : (text : Declared) (x : Name) (u : OrganisationUnit) (old new : Worklist)
@@ -241,22 +223,22 @@ pub adds_unit : (text : Declared) (x : Name) (u : OrganisationUnit) (old new : W
     → ((y : Name) → new.has y ≡ (old.has y || bytes_eq y u.name.name)) → new.waiting ≡ old.waiting ++ u ∷ []
     → Adds text (x ∷ []) old new
 adds_unit text x u old new named fresh has waiting =
-    let itself = found_by_name text.units x u named in
+    let itself = unit_name text.units x u named in
     subst (λ z. Adds text (z ∷ []) old new) (sym itself)
     (adds_new text u.name.name u old new (ap (unit_named text.units) (sym itself) ∙ named) fresh has waiting)
 
 pub adds_same : (text : Declared) (x : Name) (u : OrganisationUnit) (w : Worklist) → unit_named text.units x ≡ Some u
     → w.has u.name.name ≡ true → Adds text (x ∷ []) w w
-adds_same text x u w named has = adds_old text x w (ap w.has (found_by_name text.units x u named) ∙ has)
+adds_same text x u w named has = adds_old text x w (ap w.has (unit_name text.units x u named) ∙ has)
 
--- what is found after an entry was added
+-- the result of a look-up after an entry was added
 pub found_after : {A : Type 0} (before after : Option A) (b : Bool) (v : A)
     → after ≡ or_found before (if b then Some v else None) → is_some after ≡ (is_some before || b)
 found_after (Some w) after b v e = ap is_some e
 found_after None after true v e = ap is_some e
 found_after None after false v e = ap is_some e
 
--- whether a look up finds something
+-- whether a look-up finds something
 pub was_found : {A B : Type 0} (f : A → B) (given : Option A) (kept : Option B) (b : Bool)
     → option_map f given ≡ kept → is_none given ≡ b → is_some kept ≡ not b
 was_found f None kept b e n = ap is_some (sym e) ∙ ap not n
@@ -274,12 +256,12 @@ follows_first text programs none w nothing empty added = record {
   standing = λ u i. elim (added.each u i) [ inl j ↦ among_none (subst (IsAmong u) empty j) | inr r ↦ r ];
   followed = λ y u h named. elim (added.only y h) [
     | inl old ↦ none_there (sym (nothing y) ∙ old)
-    | inr new ↦ inl (subst (λ v. IsAmong v w.waiting) (one (sym new.1.named ∙ named)) new.1.among)
+    | inr new ↦ inl (subst (λ v. IsAmong v w.waiting) (some_is (sym new.1.named ∙ named)) new.1.among)
   ];
   room = omega (arith, added.room, left_at_most none.has text.units, ap length empty);
 }
 
--- one turn, in which the last of those that wait is followed
+-- some_is turn, in which the last of those that wait is followed
 pub follows_more : (text : Declared) (programs : List Name) (turns next : ℕ) (old new : Worklist)
     (rest : List OrganisationUnit) (u : OrganisationUnit) → old.waiting ≡ rest ++ u ∷ [] → turns ≡ next + 1
     → Adds text (callees_of u) (record { has = old.has; waiting = rest }) new
@@ -302,7 +284,7 @@ follows_more text programs turns next old new rest u waiting turn added h = reco
       ]
       | inr f ↦ inr (record { all = λ x i t. added.kept x (f.all x i t) })
     ]
-    | inr w ↦ inl (subst (λ z. IsAmong z new.waiting) (one (sym w.1.named ∙ named)) w.1.among)
+    | inr w ↦ inl (subst (λ z. IsAmong z new.waiting) (some_is (sym w.1.named ∙ named)) w.1.among)
   ];
   room = omega (arith, added.room, h.room, shorter, turn);
 }
@@ -314,9 +296,9 @@ follows_more text programs turns next old new rest u waiting turn added h = reco
     kept_standing v r = record { named = r.named; reached = added.kept v.name.name r.reached }
 
     shorter : length old.waiting ≡ length rest + 1
-    shorter = ap length waiting ∙ one_longer rest u
+    shorter = ap length waiting ∙ length_push rest u
 
--- where nothing waits, all is found
+-- if nothing waits, all is found
 pub follows_all : (text : Declared) (programs : List Name) (turns : ℕ) (w : Worklist) → w.waiting ≡ []
     → Follows text programs turns w → FindsReached text programs w.has
 follows_all text programs turns w empty h = record { only = h.only; each = all }
@@ -331,7 +313,7 @@ follows_all text programs turns w empty h = record { only = h.only; each = all }
         let before = all y reached (there_is (unit_named text.units y) named) in
         (go_on u (h.followed y u before named)).all x among t
 
--- nor does anything wait where no turn is left
+-- nor does anything wait if no turn is left
 pub none_waits : (text : Declared) (programs : List Name) (turns : ℕ) (w : Worklist) → turns ≡ 0
     → Follows text programs turns w → w.waiting ≡ []
 none_waits text programs turns w none h = no_length w.waiting (omega (arith, h.room, none))
@@ -369,7 +351,7 @@ no_functions text programs has nothing none = record {
     there_one [] x h = none_there h
     there_one (u ∷ us) x h = by_name u us x (is_named x u.name) (there_one us x) h
 
--- What finds the units finds the functions.
+-- A search that finds the units finds the functions.
 pub finds_functions : (text : Declared) (programs : List Name) (has : Name → Bool) → FindsReached text programs has
     → FindsFunctions text programs has
 finds_functions text programs has h = record {
@@ -381,7 +363,7 @@ finds_functions text programs has h = record {
     there_too None e = none_there e
     there_too (Some u) e = refl
 
--- nothing is taken of an empty list alone
+-- only an empty list gives no last element
 pub none_taken : {A B : Type 0} (f : A → B) (old new : List A) (taken : Option A) → old ≡ new ++ option_to_list taken
     → taken ≡ None → length new ≡ 0 → map f old ≡ []
 none_taken f old [] None is e none = ap (map f) is

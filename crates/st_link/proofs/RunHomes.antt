@@ -1,4 +1,4 @@
--- Each body that a run comes to has homes in the layout for its names, and so do the members of the instances in it.
+-- Each body that a run reaches has homes in the layout for its names, and so do the members of the instances in it.
 use Rattle.std.proofs.Common.{◌≡◌, ℕ, Bool, true, false, ◌||◌, List, [], ◌∷◌, Option, Some, None, refl, ap}
 use Rattle.std.proofs.Common.{◌∙◌, subst}
 use Rattle.std.specs.Prelude.{is_some}
@@ -15,39 +15,36 @@ use Rattle.st_types.specs.Sources.{Source}
 use Rattle.st_meaning.specs.NameTypes.{Declared, declared_in, type_named, unit_named, variable_type, elementary}
 use Rattle.st_meaning.specs.Scopes.{Name, of_block, Block, Library, path_in, member_at}
 use Rattle.st_meaning.specs.Bodies.{externals_in}
-use Rattle.st_meaning.specs.Slots.{Slot, variables_in, inputs_in}
+use Rattle.st_meaning.specs.Slots.{Slot, variables_with, inputs_in}
 use Rattle.st_meaning.specs.StandardBlocks.{StandardBlock, BlockMember, block_of, members_of}
 use Rattle.st_meaning.specs.Stores.{Store}
 use Rattle.st_rules.specs.Environments.{is_block_sort, is_own_block, is_block}
 use Rattle.st_rules.specs.Rules.{environment}
 use Rattle.st_link.specs.UnitSoundness.{IsBlockOf, BodyRun, Reaches, itself, inside, scope_of_run, AreStored}
-use Rattle.st_link.specs.UnitSoundness.{InstanceStands, Stands, IsLibraryOf}
+use Rattle.st_link.specs.UnitSoundness.{InstanceIsTyped, PlacesAreTyped, IsLibraryOf}
 use Rattle.st_link.proofs.ApartNames.{NamesRight, types_are_no_blocks}
 use Rattle.st_link.proofs.InstanceSections.{instances_are_free}
 use Rattle.st_link.proofs.KnownTypes.{TypesRight}
 use Rattle.st_link.proofs.WellTypedTexts.{unit_there}
 use Rattle.layout.specs.LayoutVariables.{Owned}
-use Rattle.layout.specs.Standing.{are_declared_once}
+use Rattle.layout.specs.VariableSlots.{are_declared_once}
 use Rattle.layout.specs.TextLayouts.{slots_of}
-use Rattle.st_link.specs.Homes.{IsHome, HasHomes, are_names_different, AreValuesOf, IsGrounded}
+use Rattle.st_link.specs.Homes.{IsLayoutPart, HaveSlots, are_names_different, AreValuesOf, IsGrounded}
 use Rattle.st_link.proofs.AgreementLemmas.{stored_home, slots_agree}
 use Rattle.st_link.proofs.InstanceParts.{AreFound, members_found, own_instance, standard_part, input_part, output_part}
 use Rattle.st_link.proofs.SoundMembers.{IsPart}
 use Rattle.st_link.proofs.UnitHomeLemmas.{member_home, block_homes}
+use Rattle.std.proofs.lemmas.Bool.{or_right}
 
--- a block's name is no type's
+-- a block's name isn't a type's
 pub no_type_by : (o : Option TypeDefinition) (is : Bool) → (is_some o ≡ true → is ≡ false) → is ≡ true → o ≡ None
 no_type_by None is f h = refl
 no_type_by (Some d) is f h = absurd (let e = f refl in cc)
 
-either_is : (a b : Bool) → b ≡ true → (a || b) ≡ true
-either_is true b h = refl
-either_is false b h = h
-
 own_is_block : (text : Declared) (b : Name) (d : OrganisationUnit) → unit_named text.units b ≡ Some d
     → d.sort ≡ FunctionBlock → is_block text b ≡ true
 own_is_block text b d declared sort =
-    either_is (is_some (block_of b)) (is_own_block (unit_named text.units b))
+    or_right (is_some (block_of b)) (is_own_block (unit_named text.units b))
     (ap is_own_block declared ∙ ap is_block_sort sort)
 
 module _ (source : Source) (right : TypesRight source) (names : NamesRight source)
@@ -68,13 +65,13 @@ module _ (source : Source) (right : TypesRight source) (names : NamesRight sourc
   image = inputs_in (slots_of (declared_in source) variables) vs
 
   abbrev store : Store
-  store = variables_in (slots_of (declared_in source) variables) vs
+  store = variables_with (slots_of (declared_in source) variables) vs
 
   -- a body of a unit of the text whose names have homes
   pub record IsHoused (q : BodyRun) : Type 0 where
     pub name : Name
     pub declared : unit_named text.units name ≡ Some q.unit
-    pub homes : HasHomes (environment text q.unit) variables (scope_of_run image now q)
+    pub homes : HaveSlots (environment text q.unit) variables (scope_of_run image now q)
 
   no_type : (b : Identifier) → is_block text b.name ≡ true → type_named text.types b.name ≡ None
   no_type b is = no_type_by (type_named text.types b.name) (is_block text b.name)
@@ -82,9 +79,9 @@ module _ (source : Source) (right : TypesRight source) (names : NamesRight sourc
 
   instance_home : (q : BodyRun) → IsHoused q → (x : Name) (b : Identifier)
       → variable_type q.unit x ≡ Some (types.Simple (Named b)) → is_block text b.name ≡ true
-      → IsHome text variables false (path_in q.frame q.body x) (types.Simple (Named b))
+      → IsLayoutPart text variables false (path_in q.frame q.body x) (types.Simple (Named b))
   instance_home q housed x b named is =
-      subst (λ (c : Bool). IsHome text variables c (path_in q.frame q.body x) (types.Simple (Named b)))
+      subst (λ (c : Bool). IsLayoutPart text variables c (path_in q.frame q.body x) (types.Simple (Named b)))
       (instances_are_free source right names q.unit (unit_there source housed.name q.unit housed.declared) x b named is)
       (housed.homes x (types.Simple (Named b)) named)
 
@@ -121,7 +118,7 @@ module _ (source : Source) (right : TypesRight source) (names : NamesRight sourc
     site = path_in q.frame q.body x
 
     part_stored : (y : Name) (t : VariableType) → IsPart text (types.Simple (Named b)) y t
-        → IsHome text variables false (member_at site y) t
+        → IsLayoutPart text variables false (member_at site y) t
     part_stored y t part =
         member_home text variables site (types.Simple (Named b)) y t false part (instance_home q housed x b named is)
 
@@ -134,7 +131,7 @@ module _ (source : Source) (right : TypesRight source) (names : NamesRight sourc
       members_stored k e ms found.1,
     )
 
-    instance_stands : InstanceStands text store site b
+    instance_stands : InstanceIsTyped text store site b
     instance_stands = record {
       inputs = λ y t k h among. stored_home (environment text q.unit) variables (scope_of_run image now q) vs differ once
           values refl housed.homes (part_stored y t (input_part text differ b y t (no_type b is) h)) k refl among;
@@ -143,7 +140,7 @@ module _ (source : Source) (right : TypesRight source) (names : NamesRight sourc
       members = λ k e. members_stored k e (members_of k) (members_found k);
     }
 
-  pub run_stands : (r : BodyRun) → IsHoused r → Stands text library image now r store
+  pub run_stands : (r : BodyRun) → IsHoused r → PlacesAreTyped text library image now r store
   run_stands r housed = record {
     places = λ q reach. slots_agree (environment text q.unit) variables (scope_of_run image now q) vs differ once values
         refl (all_housed housed reach).homes;

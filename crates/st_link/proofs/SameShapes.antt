@@ -1,4 +1,4 @@
--- Types that are one have one shape.
+-- Types that are the same have the same shape.
 use Rattle.std.proofs.Common.{◌≡◌, ℕ, zero, suc, Bool, true, ◌&&◌, Option, Some, None, refl, sym, ap, ap₂, ◌∙◌}
 use Rattle.std.specs.Prelude.{pos, ◌+ℤ◌, ◌-ℤ◌}
 use Rattle.std.specs.Ordering.{int_eq}
@@ -16,18 +16,20 @@ use Rattle.st_meaning.specs.NameTypes.{Declared, type_named, definition_of}
 use Rattle.st_meaning.specs.Operators.{natural, number_of}
 use Rattle.st_meaning.specs.Scopes.{Name}
 use Rattle.st_rules.specs.ConfigurationRules.{same_simple, same_bounds, same_over, same_within}
+use Rattle.st_rules.specs.TypeRules.{elements_of_array}
 use Rattle.layout.specs.Shapes.{Shape, array}
-use Rattle.layout.specs.Types.{Composition, of_kind, of_elements, composition_of, lower_of, count_of, composed_shape}
+use Rattle.layout.specs.Types.{Composition, of_kind, of_elements, composition_of, lower_of, composed_shape}
 use Rattle.layout.specs.Types.{shape_within}
-use Rattle.layout.proofs.ListLemmas.{both, same_int, same_name}
+use Rattle.layout.proofs.ListLemmas.{same_int, same_name}
 use Rattle.st_link.specs.Homes.{are_names_different}
 use Rattle.st_link.proofs.SoundMembers.{made}
+use Rattle.std.proofs.lemmas.Bool.{and_parts}
 
 module _ (text : Declared) (differ : are_names_different text ≡ true) where
   abbrev Same : VariableType → VariableType → Type 0
   Same t u = (m : ℕ) → shape_within m text t ≡ shape_within m text u
 
-  -- of one composition
+  -- with the same composition
   composed : (t u : VariableType) → composition_of text t ≡ composition_of text u → Same t u
   unfolding shape_within
   composed t u h zero = refl
@@ -35,12 +37,12 @@ module _ (text : Declared) (differ : are_names_different text ≡ true) where
 
   -- arrays
   abbrev shape_of_array : ArrayType → Shape → Shape
-  shape_of_array a sh = array (lower_of a) (count_of a) sh
+  shape_of_array a sh = array (lower_of a) (elements_of_array a) sh
 
   arrays_same : (a b : ArrayType) → same_bounds a b ≡ true → (sh sh' : Shape) → sh ≡ sh'
       → shape_of_array a sh ≡ shape_of_array b sh'
   arrays_same a b h sh sh' e =
-      let bounds = both (int_eq (number_of a.lower) (number_of b.lower)) (int_eq (number_of a.upper) (number_of b.upper)) h in
+      let bounds = and_parts (int_eq (number_of a.lower) (number_of b.lower)) (int_eq (number_of a.upper) (number_of b.upper)) h in
       let lower = same_int (number_of a.lower) (number_of b.lower) bounds.0 in
       let upper = same_int (number_of a.upper) (number_of b.upper) bounds.1 in
       ap₂ (λ l u. array l (natural ((u -ℤ l) +ℤ pos 1)) sh) lower upper
@@ -61,7 +63,7 @@ module _ (text : Declared) (differ : are_names_different text ≡ true) where
       → composition_of text (types.Simple (Named x)) ≡ of_elements a
   named_array x a h = made text differ x (declarations.array a) h refl
 
-  -- one name
+  -- with the same name
   abbrev by_name : Name → Composition
   by_name x = composition_of text (types.Simple (Named (record { name = x; place = 0 })))
 
@@ -80,7 +82,7 @@ module _ (text : Declared) (differ : are_names_different text ≡ true) where
     both_arrays : (t u : VariableType) (a b : ArrayType) → composition_of text t ≡ of_elements a
         → composition_of text u ≡ of_elements b → (same_bounds a b && same a.element b.element) ≡ true → Same t u
     both_arrays t u a b e f h =
-        let parts = both (same_bounds a b) (same a.element b.element) h in
+        let parts = and_parts (same_bounds a b) (same a.element b.element) h in
         elements t u a b e f parts.0 (ih a.element b.element parts.1)
 
     array_and_name : (a : ArrayType) (y : Identifier) (p : Option TypeDefinition) → type_named text.types y.name ≡ p

@@ -40,7 +40,7 @@ stmts_linked t (x ∷ xs) =
     chained stmt_then stmts_of (linked_stmt t x) (traversed (linked_stmt t) xs) (linked_stmts t (texts.stmts_of xs))
     (stmts_linked t xs) (λ y ys. refl)
 
--- two parts of an arm, one behind the other or both at once
+-- two parts of an arm, one after the other or both at once
 paired : {A B C : Type 0} (more : A → B → Option C) (a : Option A) (b : Option B)
     → option_and_then (λ x. option_and_then (λ y. more x y) b) a
     ≡ option_and_then (λ (p : A × B). more p.0 p.1) (option_and_then (λ x. option_map (λ y. (x, y)) b) a)

@@ -3,9 +3,9 @@ use Rattle.std.proofs.Common.{◌≡◌, refl, sym, ap, subst, ◌∙◌, ℕ, �
 use Rattle.std.proofs.Common.{Option, Some, None, slice_index_or}
 use Rattle.std.specs.Prelude.{option_map, option_and_then}
 use Rattle.std.proofs.lemmas.List.{append_assoc, append-nil, drop_all, map-append}
-use Rattle.layout.proofs.PushLemmas.{left_begins}
+use Rattle.st_types.proofs.ListLemmas.{drop_next}
 
--- each element by itself; None where one of them gives nothing
+-- each element separately; None if one of them gives nothing
 abbrev pub traversed : {A B : Type 0} → (A → Option B) → List A → Option (List B)
 traversed f [] = Some []
 traversed f (x ∷ xs) = option_and_then (λ y. option_map (λ ys. y ∷ ys) (traversed f xs)) (f x)
@@ -42,14 +42,14 @@ turned_more {C} {D} {A} {B} view seen f xs i x done now y below at pushed is h =
     subst (λ ds. Turned A B f (map view xs) ds (map view (drop (i + 1) xs)))
     (sym (ap (map seen) pushed ∙ map-append seen done (y ∷ [])))
     (turned_next f (map view xs) (map view (drop (i + 1) xs)) (map seen done) (view x) (seen y)
-    (subst (Turned A B f (map view xs) (map seen done)) (ap (map view) (left_begins xs i x below at)) h) is)
+    (subst (Turned A B f (map view xs) (map seen done)) (ap (map view) (drop_next xs i x below at)) h) is)
 
--- where one element gives nothing, all of them do
+-- if one element gives nothing, all of them do
 pub turned_none : {C A B : Type 0} (view : C → A) (f : A → Option B) (xs : List C) (i : ℕ) (x : C) (done : List B)
     → i < length xs → x ≡ slice_index_or xs i x → f (view x) ≡ None
     → Turned A B f (map view xs) done (map view (drop i xs)) → traversed f (map view xs) ≡ None
 turned_none {C} {A} {B} view f xs i x done below at is h =
-    h.is ∙ ap (λ ys. option_map (λ zs. done ++ zs) (traversed f (map view ys))) (left_begins xs i x below at)
+    h.is ∙ ap (λ ys. option_map (λ zs. done ++ zs) (traversed f (map view ys))) (drop_next xs i x below at)
     ∙ ap (λ o. option_map (λ zs. done ++ zs)
     (option_and_then (λ z. option_map (λ zs. z ∷ zs) (traversed f (map view (drop (i + 1) xs)))) o)) is
 

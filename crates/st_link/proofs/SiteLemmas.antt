@@ -10,7 +10,7 @@ use Rattle.st_meaning.specs.Bodies.{is_external}
 use Rattle.layout.specs.LayoutVariables as layouts
 use Rattle.layout.specs.Types.{Site, with_site, site_of_declaration, sites_of_declarations, retention_of}
 use Rattle.layout.specs.Types.{sites_of_blocks}
-use Rattle.st_link.specs.LinkVariables.{of_owned, of_site, named_so, variables_in, variables_of_blocks}
+use Rattle.st_link.specs.LinkVariables.{of_owned, of_site, named_so, link_variables, variables_of_blocks}
 use Rattle.st_link.specs.LinkVariables.{variables_of_names, variables_declared, variables_of_globals}
 
 named_seen : (s : Site) (xs : List Identifier) → map of_site (map (with_site s) xs) ≡ map (named_so s.declared) xs
@@ -18,7 +18,7 @@ named_seen s [] = refl
 named_seen s (x ∷ xs) = ap (λ zs. named_so s.declared x ∷ zs) (named_seen s xs)
 
 declarations_seen : (keep : Option Retention) (ds : List Declaration)
-    → map of_site (sites_of_declarations keep ds) ≡ variables_in ds
+    → map of_site (sites_of_declarations keep ds) ≡ link_variables ds
 declarations_seen keep [] = refl
 declarations_seen keep (d ∷ ds) =
     map-append of_site (map (with_site (site_of_declaration keep d)) d.names) (sites_of_declarations keep ds)
@@ -31,7 +31,7 @@ sites_seen (b ∷ bs) = by_test (is_external b.section) (sites_seen bs)
     by_test : (e : Bool) → map of_site (sites_of_blocks bs) ≡ variables_of_blocks bs
         → map of_site (if e then sites_of_blocks bs
         else sites_of_declarations (retention_of b.section) b.declarations ++ sites_of_blocks bs)
-        ≡ (if e then variables_of_blocks bs else variables_in b.declarations ++ variables_of_blocks bs)
+        ≡ (if e then variables_of_blocks bs else link_variables b.declarations ++ variables_of_blocks bs)
     by_test true ih = ih
     by_test false ih =
         map-append of_site (sites_of_declarations (retention_of b.section) b.declarations) (sites_of_blocks bs)

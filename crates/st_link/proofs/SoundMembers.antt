@@ -1,4 +1,4 @@
--- What stands after a dot or a subscript by its type is the part that the layout has there.
+-- The part after a dot or a subscript, by its type, is the part in the layout.
 use Rattle.std.proofs.Common.{◌≡◌, ℕ, ◌+◌, Bool, true, false, not, ◌||◌, if◌then◌else◌, List, [], ◌∷◌, ◌++◌}
 use Rattle.std.proofs.Common.{map, Option, Some, None, option_map, option_and_then, refl, sym, ap, ◌∙◌}
 use Rattle.std.specs.Prelude.{bytes_eq, is_none}
@@ -27,7 +27,7 @@ use Rattle.st_meaning.specs.NameTypes.{variable_of_block, block_variable, member
 use Rattle.st_meaning.specs.Scopes.{Name, contains_name}
 use Rattle.st_meaning.specs.StandardBlocks.{StandardBlock, BlockMember, block_of, inputs_of, outputs_of, hidden_of}
 use Rattle.st_meaning.specs.StandardBlocks.{members_of}
-use Rattle.layout.specs.Shapes.{Whole, of_structure, of_instance}
+use Rattle.layout.specs.Shapes.{PartsOwner, of_structure, of_instance}
 use Rattle.layout.specs.Types.{Site, NamedSite, site_named, with_site, site_of_declaration, sites_of_declarations}
 use Rattle.layout.specs.Types.{retention_of, sites_of_blocks, site_of_field, site_of_member, BlockType}
 use Rattle.layout.specs.Types.{block_type_of}
@@ -36,10 +36,13 @@ use Rattle.layout.specs.Types.{of_parts, defined_composition, composition_of, el
 use Rattle.layout.specs.Names
 use Rattle.layout.specs.Names.{are_different, names_of_sites, has_different_variables}
 use Rattle.layout.specs.Names.{are_types_and_units_different}
-use Rattle.layout.proofs.ListLemmas.{same_name, some_is, both, turned, neither, or_later}
+use Rattle.layout.proofs.ListLemmas.{same_name}
 use Rattle.layout.proofs.LibraryLemmas.{no_enumeration, instance_made}
 use Rattle.layout.proofs.NameLemmas.{standard_members, found_unit}
 use Rattle.st_link.specs.Homes.{are_names_different}
+use Rattle.std.proofs.lemmas.Bool.{or_parts, and_parts, or_right}
+use Rattle.st_types.proofs.OptionLemmas.{some_is}
+use Rattle.st_types.proofs.TestLemmas.{false_from_not}
 
 -- a declaration of this type
 pub record Declares (o : Option Site) (u : VariableType) : Type 0 where
@@ -47,7 +50,7 @@ pub record Declares (o : Option Site) (u : VariableType) : Type 0 where
   pub is : o ≡ Some site
   pub declared : site.declared ≡ u
 
--- what is found among later sites is found among all of them, where no name stands twice
+-- a name that is found among later sites is found among all of them, if no name occurs twice
 found_name : (ds : List NamedSite) (x : Name) (s : Site) → site_named ds x ≡ Some s
     → contains_name (names_of_sites ds) x ≡ true
 found_name [] x s h = absurd (cc)
@@ -67,22 +70,22 @@ pub later_differ : (cs bs : List NamedSite) → are_different (names_of_sites (c
     → are_different (names_of_sites bs) ≡ true
 later_differ [] bs h = h
 later_differ (a ∷ cs) bs h =
-    later_differ cs bs (both (not (contains_name (names_of_sites (cs ++ bs)) a.name))
+    later_differ cs bs (and_parts (not (contains_name (names_of_sites (cs ++ bs)) a.name))
     (are_different (names_of_sites (cs ++ bs))) h).1
 
 contained_later : (cs bs : List NamedSite) (x : Name) → contains_name (names_of_sites bs) x ≡ true
     → contains_name (names_of_sites (cs ++ bs)) x ≡ true
 contained_later [] bs x h = h
 contained_later (a ∷ cs) bs x h =
-    or_later (bytes_eq x a.name) (contains_name (names_of_sites (cs ++ bs)) x) (contained_later cs bs x h)
+    or_right (bytes_eq x a.name) (contains_name (names_of_sites (cs ++ bs)) x) (contained_later cs bs x h)
 
 pub found_later : (cs bs : List NamedSite) → are_different (names_of_sites (cs ++ bs)) ≡ true → (x : Name) (s : Site)
     → site_named bs x ≡ Some s → site_named (cs ++ bs) x ≡ Some s
 found_later [] bs d x s h = h
 found_later (a ∷ cs) bs d x s h =
-    let b = both (not (contains_name (names_of_sites (cs ++ bs)) a.name))
+    let b = and_parts (not (contains_name (names_of_sites (cs ++ bs)) a.name))
     (are_different (names_of_sites (cs ++ bs))) d in
-    by_test (bytes_eq x a.name) refl (turned (contains_name (names_of_sites (cs ++ bs)) a.name) b.0)
+    by_test (bytes_eq x a.name) refl (false_from_not (contains_name (names_of_sites (cs ++ bs)) a.name) b.0)
     (contained_later cs bs x (found_name bs x s h)) (found_later cs bs b.1 x s h)
   where
     by_test : (b : Bool) → bytes_eq x a.name ≡ b → contains_name (names_of_sites (cs ++ bs)) a.name ≡ false
@@ -175,7 +178,7 @@ pub not_named : (s : Site) (xs : List Identifier) (rest : List NamedSite) (x : N
     → site_named (map (with_site s) xs ++ rest) x ≡ site_named rest x
 not_named s [] rest x h = refl
 not_named s (y ∷ ys) rest x h =
-    let n = neither (is_named x y) (list_any (is_named x) ys) h in
+    let n = or_parts (is_named x y) (list_any (is_named x) ys) h in
     let a = n.0 in
     rw a (not_named s ys rest x n.1)
 
@@ -213,7 +216,7 @@ module _ (ds : List Declaration) (bs : List VariableBlock) (x : Name) (u : Varia
       are_different (names_of_sites (sites_of_blocks bs)) ≡ true → type_in_sections is_output bs x ≡ Some u
       → Declares (site_named (sites_of_blocks bs) x) u
 
-  -- what stands behind the variables of a section
+  -- the variables after those of a section
   behind_section : (keep : Option Retention)
       → are_different (names_of_sites (sites_of_declarations keep ds ++ sites_of_blocks bs)) ≡ true → Later
       → type_in_sections is_output bs x ≡ Some u
@@ -262,7 +265,7 @@ not_declared : (ts : List TypeDeclaration) (x : Name) → contains_name (map (λ
     → type_named ts x ≡ None
 not_declared [] x h = refl
 not_declared (t ∷ ts) x h =
-    let n = neither (bytes_eq x t.name.name) (contains_name (map (λ t. t.name.name) ts) x) h in
+    let n = or_parts (bytes_eq x t.name.name) (contains_name (map (λ t. t.name.name) ts) x) h in
     let a = n.0 in
     rw a (not_declared ts x n.1)
 
@@ -271,9 +274,9 @@ no_other_enumeration : (n : ℕ) (ts : List TypeDeclaration) → are_different (
     → enumeration_named (enumerations_from n ts) x ≡ None
 no_other_enumeration n [] differ x d h e = absurd (cc)
 no_other_enumeration n (t ∷ ts) differ x d h e =
-    let b = both (not (contains_name (map (λ t. t.name.name) ts) t.name.name))
+    let b = and_parts (not (contains_name (map (λ t. t.name.name) ts) t.name.name))
     (are_different (map (λ t. t.name.name) ts)) differ in
-    by_test (is_named x t.name) refl h (turned (contains_name (map (λ t. t.name.name) ts) t.name.name) b.0)
+    by_test (is_named x t.name) refl h (false_from_not (contains_name (map (λ t. t.name.name) ts) t.name.name) b.0)
     (λ m g. no_other_enumeration m ts b.1 x d g e)
   where
     none_here : (names : Option (List Identifier)) → names ≡ None → type_named ts x ≡ None
@@ -308,7 +311,7 @@ no_other_enumeration n (t ∷ ts) differ x d h e =
 
 -- the part of a name, of a type that is made of parts
 pub record IsPart (text : Declared) (t : VariableType) (x : Name) (u : VariableType) : Type 0 where
-  pub whole : Whole
+  pub whole : PartsOwner
   pub sites : List NamedSite
   pub own : Site
   pub composition : composition_of text t ≡ of_parts whole sites
@@ -323,12 +326,12 @@ pub record IsArray (text : Declared) (t u : VariableType) : Type 0 where
 
 module _ (text : Declared) (differ : are_names_different text ≡ true) where
   types_once : are_different (map (λ t. t.name.name) text.types) ≡ true
-  types_once = (both (are_different (map (λ t. t.name.name) text.types)) (are_types_and_units_different text) differ).0
+  types_once = (and_parts (are_different (map (λ t. t.name.name) text.types)) (are_types_and_units_different text) differ).0
 
   units_once : list_all has_different_variables text.units ≡ true
-  units_once = (both (list_all (λ t. Names.has_different_fields t.definition) text.types)
+  units_once = (and_parts (list_all (λ t. Names.has_different_fields t.definition) text.types)
       (list_all has_different_variables text.units)
-      (both (are_different (map (λ t. t.name.name) text.types)) (are_types_and_units_different text) differ).1).1
+      (and_parts (are_different (map (λ t. t.name.name) text.types)) (are_types_and_units_different text) differ).1).1
 
   no_kind_among : (x : Identifier) (d : TypeDefinition) → type_named text.types x.name ≡ Some d
       → enumerated_names d ≡ None → kind_among text.types (types.Simple (Named x)) ≡ None

@@ -27,7 +27,7 @@ use Rattle.st_rules.specs.declared.typings.Typing.TheVariants.{Untyped as untype
 use Rattle.st_rules.specs.declared.typings.Typing.TheVariants.{Composite as composite, Nothing as nothing}
 use Rattle.st_rules.specs.Environments.{Environment}
 use Rattle.st_rules.specs.Demands.{expected_of, demands_of_standard}
-use Rattle.st_rules.specs.Typings.{kind_of, kinds_of, typing_of, typings_of, settled, meets}
+use Rattle.st_rules.specs.Typings.{kind_of, kinds_of, typing_of, typings_of, settled, allows}
 use Rattle.st_link.specs.Soundness.{IsOf, AreOf}
 use Rattle.st_link.proofs.Alikes.{Succeeds, Gives, failed}
 use Rattle.st_link.proofs.OperatorLemmas.{is_of_kind, in_range_gives, same_kinds}
@@ -36,7 +36,7 @@ use Rattle.st_link.proofs.OperatorLemmas.{is_of_kind, in_range_gives, same_kinds
 pub record FitsPlace (env : Environment) (d : Demand) (e : Expr) (v : Datum) : Type 0 where
   pub kind : Kind
   pub typed : settled (expected_of d) (typing_of env e) ≡ elementary kind
-  pub right : meets d (elementary kind) ≡ true
+  pub right : allows d (elementary kind) ≡ true
   pub is_of : IsOf kind v
 
 pub data FitPlaces (env : Environment) : List Demand → Exprs → List Datum → Type 0 where
@@ -44,13 +44,13 @@ pub data FitPlaces (env : Environment) : List Demand → Exprs → List Datum �
   one_more : {d : Demand} {ds : List Demand} {e : Expr} {es : Exprs} {v : Datum} {vs : List Datum}
       → FitsPlace env d e v → FitPlaces env ds es vs → FitPlaces env (d ∷ ds) (expr_then e es) (v ∷ vs)
 
-elementary_same : (k l : Kind) → elementary k ≡ elementary l → k ≡ l
+pub elementary_same : (k l : Kind) → elementary k ≡ elementary l → k ≡ l
 elementary_same k l h = cc
 
 some_same : (k l : Kind) → Some k ≡ Some l → k ≡ l
 some_same k l h = cc
 
--- an argument of which nothing is expected has the type that the function takes of it
+-- an argument without an expected type has the type that the function takes from it
 own_typed : (t : Typing) (k l : Kind) → settled None t ≡ elementary k → or_kind (kind_of t) (Some Lint) ≡ Some l → k ≡ l
 own_typed untyped k l h i = sym (elementary_same Lint k h) ∙ some_same Lint l i
 own_typed (elementary m) k l h i = sym (elementary_same m k h) ∙ some_same m l i
@@ -59,7 +59,7 @@ own_typed nothing k l h i = absurd (cc)
 
 -- an operand of the common type
 common_typed : (c : Option Kind) (t : Typing) (ss : Sorts) (k l : Kind) → settled c t ≡ elementary k
-    → meets (asked c ss) (elementary k) ≡ true → or_kind c (Some Lint) ≡ Some l → (c ≡ None → kind_of t ≡ None) → k ≡ l
+    → allows (asked c ss) (elementary k) ≡ true → or_kind c (Some Lint) ≡ Some l → (c ≡ None → kind_of t ≡ None) → k ≡ l
 common_typed (Some c) t ss k l h m i u =
     same_kind_is k c (and_parts (same_kind k c) _ m).0 ∙ some_same c l i
 common_typed None untyped ss k l h m i u = sym (elementary_same Lint k h) ∙ some_same Lint l i
@@ -67,7 +67,7 @@ common_typed None (elementary x) ss k l h m i u = absurd (let e = u refl in cc)
 common_typed None composite ss k l h m i u = absurd (cc)
 common_typed None nothing ss k l h m i u = absurd (cc)
 
--- where there is no common type, no operand has one
+-- if there is no common type, no operand has one
 first_none : (a b : Option Kind) → or_kind a b ≡ None → a ≡ None
 first_none None b h = refl
 first_none (Some k) b h = absurd (cc)
@@ -99,7 +99,7 @@ converted k l x true h =
     failed {A = Datum} (IsOf l) (conversion l x.number) (converted_or_not l x.number (holds l x.number) refl)
 converted k l x false h = absurd (cc)
 
--- one operand, of which nothing is expected
+-- one operand, without an expected type
 abbrev lone : Environment → Sorts → Expr → Datum → Type 0
 lone env ss e v = FitsPlace env (asked None ss) e v
 
@@ -120,7 +120,7 @@ operand_is : (env : Environment) (c : Option Kind) (ss : Sorts) (e : Expr) (v : 
 operand_is env c ss e v l h i u =
     is_of_kind h.kind l v (common_typed c (typing_of env e) ss h.kind l h.typed h.right i u) h.is_of
 
--- operands of one type, of which the first two or the three are there
+-- operands of one type, of which the first two or all three exist
 abbrev kind_in : Environment → Expr → Option Kind
 kind_in env e = kind_of (typing_of env e)
 

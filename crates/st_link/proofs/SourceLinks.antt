@@ -13,18 +13,18 @@ use Rattle.layout.specs.LayoutVariables as layouts
 use Rattle.layout.specs.LayoutVariables.{Owned, variables_of_configuration}
 use Rattle.layout.specs.Types.{Site}
 use Rattle.layout.specs.Instances.{variables_of_programs}
-use Rattle.layout.specs.Sizes.{cut}
+use Rattle.layout.specs.Sizes.{capped_size}
 use Rattle.layout.proofs.LayoutLemmas.{programs_of_resources}
 use Rattle.st_link.specs.FirstSlots.{slots_taken}
 use Rattle.st_link.specs.Linked.{IsLayoutBy}
 use Rattle.st_link.specs.LinkVariables.{of_owned}
 use Rattle.st_link.specs.Orderly.{IsOrderlySource, configuration_in, globals_in, instances_of, layout_of}
 use Rattle.st_link.specs.Tables.{AreGlobals}
-use Rattle.st_link.proofs.FirstSlotLemmas.{both_hold, both_hold_back}
 use Rattle.st_link.proofs.ProgramPlaces.{globals_stand, layout_taken}
 use Rattle.st_link.proofs.SiteLemmas.{globals_seen}
+use Rattle.std.proofs.lemmas.Bool.{and_parts, and_from}
 
--- the globals of a configuration, in the words of layouts
+-- the globals of a configuration, in the terms of layouts
 abbrev pub owned_globals : Option Configuration → List Owned
 owned_globals None = []
 owned_globals (Some c) = layouts.variables_of_globals c.globals
@@ -39,15 +39,15 @@ layout_split text None = refl
 layout_split text (Some c) =
     ap (λ vs. layouts.variables_of_globals c.globals ++ vs) (sym (programs_of_resources text c.resources))
 
--- globals are nobody's
+-- globals have no owner
 abbrev AreUnowned : List Owned → Type 0
 AreUnowned vs = list_all (λ v. is_none v.owner) vs ≡ true
 
 unowned_append : (vs ws : List Owned) → AreUnowned vs → AreUnowned ws → AreUnowned (vs ++ ws)
 unowned_append [] ws a b = b
 unowned_append (v ∷ vs) ws a b =
-    let c = both_hold (is_none v.owner) (list_all (λ w. is_none w.owner) vs) a in
-    both_hold_back (is_none v.owner) (list_all (λ w. is_none w.owner) (vs ++ ws)) c.0 (unowned_append vs ws c.1 b)
+    let c = and_parts (is_none v.owner) (list_all (λ w. is_none w.owner) vs) a in
+    and_from (is_none v.owner) (list_all (λ w. is_none w.owner) (vs ++ ws)) c.0 (unowned_append vs ws c.1 b)
 
 unowned_listed : (s : Site) (xs : List Identifier) → AreUnowned (map (layouts.global_variable s false) xs)
 unowned_listed s [] = refl
@@ -102,5 +102,5 @@ globals_are source h =
     subst (AreGlobals (declared_in source) (layout_of source)) (owned_seen o)
     (globals_stand (declared_in source) (owned_globals o) (layout_of source) (instances_of o) (layout_by source h))
 
-pub uncut : (a n : ℕ) → a ≡ cut n → n ≤ MAX_PATHS → a ≡ n
+pub uncut : (a n : ℕ) → a ≡ capped_size n → n ≤ MAX_PATHS → a ≡ n
 uncut a n is small = grind (arith)

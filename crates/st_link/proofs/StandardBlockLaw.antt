@@ -1,5 +1,5 @@
--- Calls of standard blocks on members that are there end alike, and keep the variables: each member that a step gives is
--- one of its type.
+-- Calls of standard blocks on members that exist end alike, and keep the variables: each member after a step has a
+-- value of its type.
 use Rattle.std.proofs.Common.{◌≡◌, refl, sym, ap, subst, ◌∙◌, ℕ, ℤ, pos, ◌-ℤ◌, Bool, true, false, ◌&&◌, ◌||◌, not, int_le}
 use Rattle.std.proofs.Common.{if◌then◌else◌, List, [], ◌∷◌, Option, Some}
 use Rattle.std.specs.Prelude.{option_map, option_and_then}
@@ -9,7 +9,7 @@ use Rattle.st_types.specs.declared.kind.Kind.TheVariants.{Int, Time}
 use Rattle.st_types.specs.Kinds.{holds}
 use Rattle.st_types.specs.Values.{Datum, is_true}
 use Rattle.st_types.specs.Paths.{Path}
-use Rattle.st_meaning.specs.Failures.{StandIns, ill_typed, or_failure}
+use Rattle.st_meaning.specs.Failures.{StuckFaults, ill_typed, or_failure}
 use Rattle.st_meaning.specs.Stores.{Store, assigned}
 use Rattle.st_meaning.specs.StandardBlocks.{StandardBlock, SR, RS, R_TRIG, F_TRIG, CTU, CTD, CTUD, TON, TOF, TP}
 use Rattle.st_meaning.specs.StandardBlocks.{BlockMember, members_of, stepped, Timer, running, elapsed, timed_from}
@@ -150,7 +150,7 @@ module _ (now : ℕ) (moment : holds Time (pos now) ≡ true) where
       let h = pulse_holds (is_true x) p.number (timer_of a b c d) (number_held Time p pt) (timer_holds a b c d et start) in
       more input (more pt (more (truth_is _) (more (time_is _ h.et) (more (truth_is _) (more (time_is _ h.start) none)))))
 
--- the values that members have
+-- the values of members
 record HaveValues (s : Store) (at : Path) (ms : List BlockMember) : Type 0 where
   pub values : List Datum
   pub there : member_values s at ms ≡ Some values
@@ -183,7 +183,7 @@ values_succeed : (ms : List BlockMember) (o : Option (List Datum)) (vs : List Da
 values_succeed ms o vs is fit =
     subst (λ (p : Option (List Datum)). Succeeds (AreMembers ms) (or_failure ill_typed p)) (sym is) fit
 
-pub standard_calls_agree : (now : ℕ) → holds Time (pos now) ≡ true → (i j : StandIns) → StandardCallsAgree now i j
+pub standard_calls_agree : (now : ℕ) → holds Time (pos now) ≡ true → (i j : StuckFaults) → StandardCallsAgree now i j
 standard_calls_agree now moment i j k at s stored =
     let has = have_values s at (members_of k) stored in
     both_then (both_attempt (AreMembers (members_of k)) i j (or_failure ill_typed (member_values s at (members_of k)))

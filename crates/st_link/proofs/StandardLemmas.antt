@@ -8,7 +8,7 @@ use Rattle.st_meaning.specs.NameTypes.{Declared, elementary}
 use Rattle.st_meaning.specs.StandardBlocks.{BlockMember}
 use Rattle.layout.specs.Shapes.{plain, size}
 use Rattle.layout.specs.Types.{of_kind, is_within_depth, shape_of_type, site_of_member}
-use Rattle.layout.specs.Sizes.{cut}
+use Rattle.layout.specs.Sizes.{capped_size}
 use Rattle.st_link.specs.NamedMembers.{NamedType, name_and_type}
 use Rattle.st_link.specs.Shapes.{AreExpanded, IsExpanded}
 use Rattle.st_link.proofs.DepthLemmas.{composed_whole}
@@ -36,8 +36,8 @@ elementary_expanded text (e ∷ es) h =
     (ap (is_within_depth MAX_TYPE_DEPTH text) h.0.1 ∙ expanded_kind text h.0.0) ∙ elementary_expanded text es h.1
 
 pub elementary_size : (text : Declared) (t : VariableType) (k : Kind) → t ≡ elementary k
-    → 1 ≡ cut (size (shape_of_type text t))
+    → 1 ≡ capped_size (size (shape_of_type text t))
 elementary_size text t k is =
-    sym (ap (λ u. cut (size (shape_of_type text u))) is
-    ∙ ap (λ sh. cut (size sh)) (composed_whole MAX_TYPE_DEPTH text (elementary k) (of_kind k) refl (expanded_kind
+    sym (ap (λ u. capped_size (size (shape_of_type text u))) is
+    ∙ ap (λ sh. capped_size (size sh)) (composed_whole MAX_TYPE_DEPTH text (elementary k) (of_kind k) refl (expanded_kind
     text k)))

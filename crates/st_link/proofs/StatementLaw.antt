@@ -1,4 +1,4 @@
--- Well-typed statements end alike, and keep a property of the store that tells that it agrees.
+-- Well-typed statements end alike, and keep a property of the store that makes it agree.
 use Rattle.std.proofs.Common.{◌≡◌, sym, ap, subst, ◌∙◌, zero, Bool, true, false, if◌then◌else◌}
 use Rattle.std.proofs.Common.{List, [], ◌∷◌, Option, Some, None, Result, Ok, Err}
 use Rattle.std.specs.Prelude.{ℤ, pos, ◌+ℤ◌, map, option_map}
@@ -16,13 +16,13 @@ use Rattle.st_types.specs.Expressions.{Expr}
 use Rattle.st_types.specs.Statements.{Argument, Stmt, empty, assign, invoke, IF, CASE, FOR, WHILE, REPEAT, EXIT}
 use Rattle.st_types.specs.Statements.{RETURN, Stmts, no_stmts, stmt_then, Arms, no_arms, arm_then, CaseArms}
 use Rattle.st_types.specs.Statements.{no_case_arms, case_arm_then}
-use Rattle.st_meaning.specs.Failures.{StandIns, ill_typed, or_failure}
+use Rattle.st_meaning.specs.Failures.{StuckFaults, ill_typed, or_failure}
 use Rattle.st_meaning.specs.Stores.{Store, get, assigned}
 use Rattle.st_meaning.specs.Ticks.{Run, attempt, proceed}
-use Rattle.st_meaning.specs.Operators.{truth}
+use Rattle.st_meaning.specs.Operators.{condition_of}
 use Rattle.st_meaning.specs.Scopes.{Units, Scope, path_in}
 use Rattle.st_meaning.specs.Evaluation.{value, truth_of}
-use Rattle.st_meaning.specs.Loops.{End, goes_on, exits, returns, behind, unless_fault, stored, stepped_on, runs_on}
+use Rattle.st_meaning.specs.Loops.{End, goes_on, exits, returns, continue_with, unless_fault, stored, stepped_on, runs_on}
 use Rattle.st_meaning.specs.Loops.{step_on, nonzero}
 use Rattle.st_meaning.specs.Execution.{label_holds, step_of, counting, exec, exec_all, exec_arms, exec_case}
 use Rattle.st_meaning.specs.NameTypes.{kind_among, variable_type}
@@ -44,7 +44,7 @@ use Rattle.st_rules.specs.Roots.{demand_of_typing, conditions_of, roots_of_step}
 use Rattle.st_rules.specs.TargetRules.{is_fixed}
 use Rattle.st_rules.specs.BodyRules.{wrong_statement}
 use Rattle.st_rules.proofs.TypingLaws.{kind_of_declared}
-use Rattle.st_link.specs.Soundness.{IsOf, HasKind, standing, root, Agrees, Keeps, UnitsAgree, AreKnown}
+use Rattle.st_link.specs.Soundness.{IsOf, HasKind, with_units, root, Agrees, Keeps, UnitsAgree, AreKnown}
 use Rattle.st_link.specs.StatementSoundness.{BodyRight}
 use Rattle.st_link.proofs.Alikes.{Succeeds, Gives}
 use Rattle.st_link.proofs.OperatorLemmas.{in_range_gives, same_kinds}
@@ -63,10 +63,10 @@ truth_tested : (v : Datum) (b : Bool) → b ≡ true
 truth_tested v true h = tt
 truth_tested v false h = absurd (cc)
 
-truth_succeeds : (v : Datum) → IsOf Boolean v → Succeeds Whatever (truth v)
+truth_succeeds : (v : Datum) → IsOf Boolean v → Succeeds Whatever (condition_of v)
 truth_succeeds v of = truth_tested v (same_kind v.kind Boolean) (same_kinds v.kind Boolean of.kind)
 
--- a variable that is there
+-- a variable that exists
 pub there_succeeds : (o : Option Datum) (k : Kind) → HasKind o k → Succeeds (IsOf k) (or_failure ill_typed o)
 there_succeeds o k h = subst (λ (p : Option Datum). Succeeds (IsOf k) (or_failure ill_typed p)) (sym h.there) h.is_of
 
@@ -74,14 +74,14 @@ nonzero_alike : (z : ℤ) → RunsAlike {A = Unit {0}} (λ _. Unit {0}) (nonzero
 nonzero_alike (pos zero) = both_fault {A = Unit {0}} (λ _. Unit {0}) ZeroStep
 nonzero_alike _ = both_give {A = Unit {0}} (λ _. Unit {0}) tt tt
 
-module _ (env : Environment) (w : Scope) (u v : Units) (i j : StandIns) (I : Store → Type 0)
+module _ (env : Environment) (w : Scope) (u v : Units) (i j : StuckFaults) (I : Store → Type 0)
     (agrees : (s : Store) → I s → Agrees env w s) (kept : (s t : Store) → I s → Keeps s t → I t)
     (units : UnitsAgree env u v) (known : AreKnown env) where
   abbrev one : Scope
-  one = standing u i w
+  one = with_units u i w
 
   abbrev two : Scope
-  two = standing v j w
+  two = with_units v j w
 
   abbrev tree : Option Kind → Expr → Expr
   tree k e = resolved_expr env.text env.unit k e
@@ -90,7 +90,7 @@ module _ (env : Environment) (w : Scope) (u v : Units) (i j : StandIns) (I : Sto
   pub premises : (s : Store) → I s → Premises env w s u v
   premises s is = record { agrees = agrees s is; units = units; known = known }
 
-  -- an expression of a type that a place asks for
+  -- an expression of the type that a place demands
   pub exact_alike : (k : Kind) (e : Expr) → wrong_expression env (exactly k) e ≡ [] → (s : Store) → I s
       → RunsAlike (IsOf k) (value one s (tree (Some k) e)) (value two s (tree (Some k) e))
   exact_alike k e h s is =
@@ -103,7 +103,7 @@ module _ (env : Environment) (w : Scope) (u v : Units) (i j : StandIns) (I : Sto
       → RunsAlike Whatever (truth_of one (tree (Some Boolean) e) s) (truth_of two (tree (Some Boolean) e) s)
   unfolding truth_of
   test_alike e h s is =
-      both_then (exact_alike Boolean e h s is) (λ x of. both_attempt Whatever i j (truth x) (truth_succeeds x of))
+      both_then (exact_alike Boolean e h s is) (λ x of. both_attempt Whatever i j (condition_of x) (truth_succeeds x of))
 
   -- statements
   abbrev Ends : Run End → Run End → Type 0
@@ -117,7 +117,7 @@ module _ (env : Environment) (w : Scope) (u v : Units) (i j : StandIns) (I : Sto
   if_alike false h k = k
 
   behind_alike : (e : End) (next next' : Store → Run End) → Bodies next next' → Leaves I e
-      → Ends (behind e next) (behind e next')
+      → Ends (continue_with e next) (continue_with e next')
   behind_alike (goes_on s) next next' h is = h s is
   behind_alike (exits s) next next' h is = both_give (Leaves I) (exits s) is
   behind_alike (returns s) next next' h is = both_give (Leaves I) (returns s) is
@@ -231,8 +231,8 @@ module _ (env : Environment) (w : Scope) (u v : Units) (i j : StandIns) (I : Sto
 
   module _ (calls : (c : Context) (x : Identifier) (arguments : List Argument) (s : Store) → I s
       → wrong_statement env (placed c (invoke x arguments)) ≡ []
-      → RunsAlike (Leaves I) (exec (standing u i w) (resolved_stmt env.text env.unit (invoke x arguments)) s)
-      (exec (standing v j w) (resolved_stmt env.text env.unit (invoke x arguments)) s)) where
+      → RunsAlike (Leaves I) (exec (with_units u i w) (resolved_stmt env.text env.unit (invoke x arguments)) s)
+      (exec (with_units v j w) (resolved_stmt env.text env.unit (invoke x arguments)) s)) where
     mutual
       pub exec_alike : (c : Context) (x : Stmt) → wrong_statement env (placed c x) ≡ []
           → BodyRight env (statements_below c x)

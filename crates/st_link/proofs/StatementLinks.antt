@@ -32,7 +32,7 @@ use Rattle.st_rules.specs.Environments.{Environment, type_of_name, type_of_place
 use Rattle.st_rules.specs.Environments.{output_of}
 use Rattle.st_rules.specs.Demands.{condition, exactly}
 use Rattle.st_rules.specs.Typings.{kind_of, typing_of, typing_of_type, typing_of_variable, is_nothing}
-use Rattle.st_rules.specs.Typings.{is_untyped_typing, settled, meets}
+use Rattle.st_rules.specs.Typings.{is_untyped_typing, settled, allows}
 use Rattle.st_rules.specs.Nodes.{node, nodes_of_place}
 use Rattle.st_rules.specs.ExpressionRules.{wrong_node, wrong_expression}
 use Rattle.st_rules.specs.Statements.{Context, placed, in_loop, in_for, statements_below, statements_of}
@@ -47,7 +47,6 @@ use Rattle.layout.specs.Shapes.{plain}
 use Rattle.layout.proofs.LibraryLemmas.{instance_made}
 use Rattle.st_link.specs.Soundness.{IsKnown, of_variable}
 use Rattle.st_link.specs.StatementSoundness.{BodyRight}
-use Rattle.st_link.proofs.Alikes.{front_empty, back_empty}
 use Rattle.st_link.proofs.AssignmentLaw.{composite_refused, exact_kind, target_right}
 use Rattle.st_link.proofs.AssignmentLaw.{nodes_right}
 use Rattle.st_link.proofs.BodyRunLaw.{own_block}
@@ -66,18 +65,19 @@ use Rattle.slot_trees.specs.Tables.{Table, symbol_of, part_at}
 use Rattle.slot_trees.specs.Linking.{linked, linked_target}
 use Rattle.slot_trees.specs.LinkedStatements.{plain_anchor, control_of, instance_at, instance_of_symbol}
 use Rattle.slot_trees.specs.LinkedStatements.{plain_offset, offset_of, linked_argument, linked_arguments, linked_step}
-use Rattle.slot_trees.specs.LinkedStatements.{code_of, linked_call_of, linked_invocation, linked_stmt, linked_stmts}
+use Rattle.slot_trees.specs.LinkedStatements.{block_code_of, linked_call_of, linked_invocation, linked_stmt, linked_stmts}
 use Rattle.slot_trees.specs.LinkedStatements.{linked_arms, linked_case_arms}
 use Rattle.st_link.specs.Served.{IsLinked, HasSymbol, Serves, IsOrderly}
 use Rattle.st_link.proofs.ExpressionLinks.{LeadsTo, target_linked, expr_linked, selectors_linked}
 use Rattle.st_link.proofs.LinkedParts.{linked_and, linked_from, linked_map}
 use Rattle.st_link.proofs.TypeShapes.{has_part, plain_shape, HasMembers, has_members, members_in}
+use Rattle.st_types.proofs.ListLemmas.{append_first, append_second}
 
 module _ (env : Environment) (t : Table) (orderly : IsOrderly env) (serves : Serves env t) where
   abbrev tree : Option Kind → Expr → Expr
   tree k e = resolved_expr env.text env.unit k e
 
-  -- an expression of a type that a place asks for
+  -- an expression of the type that a place demands
   exact_linked : (k : Kind) (e : Expr) → wrong_expression env (exactly k) e ≡ [] → IsLinked (linked t (tree (Some k) e))
   exact_linked k e h =
       let within = inside env (exactly k) e h in
@@ -228,7 +228,7 @@ module _ (env : Environment) (t : Table) (orderly : IsOrderly env) (serves : Ser
 
     copied_linked : (y z : Identifier) (zs : Selectors) (s : VariableType) → output_of env x.name y.name ≡ Some s
         → IsTarget env z zs
-        → meets (demand_of_type env (output_of env x.name y.name)) (typing_of_variable env (variable z zs)) ≡ true
+        → allows (demand_of_type env (output_of env x.name y.name)) (typing_of_variable env (variable z zs)) ≡ true
         → flat_map (wrong_node env) (nodes_of_place env (variable z zs)) ≡ []
         → IsLinked (linked_argument t its.members
         (resolved_argument env.text env.unit x.name (text.copied y (variable z zs))))
@@ -237,9 +237,9 @@ module _ (env : Environment) (t : Table) (orderly : IsOrderly env) (serves : Ser
         let output = sym (output_is y.name) ∙ there in
         let kinds = demanded_kind (typing_of_type env.text (Some s)) (typing_of_type env.text (Some r))
         (orderly.outputs b y.name s output) (sym (untyped_declared env.text (Some s))) target.there.behind.known
-        (subst (λ (o : Option VariableType). meets (demand_of_type env (Some s)) (typing_of_type env.text o) ≡ true)
+        (subst (λ (o : Option VariableType). allows (demand_of_type env (Some s)) (typing_of_type env.text o) ≡ true)
         (type_there env z zs target.there)
-        (subst (λ (o : Option VariableType). meets (demand_of_type env o) (typing_of_variable env (variable z zs))
+        (subst (λ (o : Option VariableType). allows (demand_of_type env o) (typing_of_variable env (variable z zs))
         ≡ true) there right)) in
         let k = kinds.0 in
         let from : kind_among env.text.types s ≡ Some k = kind_of_declared env.text (Some s) ∙ ap kind_of kinds.1 in
@@ -292,12 +292,12 @@ module _ (env : Environment) (t : Table) (orderly : IsOrderly env) (serves : Ser
         sym (flat_map-append (wrong_node env) nodes other_nodes) ∙ parts in
         first_linked (text.copied y a) rest
         (copied_linked y z zs output.0 output.1
-        (target_is env orderly.known c z zs (front_empty target other_targets targets))
-        (unless_right WrongType _ z.place (front_empty copy other_copies copies))
-        (front_empty (flat_map (wrong_node env) nodes) (flat_map (wrong_node env) other_nodes) split))
-        (arguments_linked c (y.name ∷ before) rest right.1 (back_empty copy other_copies copies) roots
-        (back_empty target other_targets targets)
-        (back_empty (flat_map (wrong_node env) nodes) (flat_map (wrong_node env) other_nodes) split))
+        (target_is env orderly.known c z zs (append_first target other_targets targets))
+        (unless_right WrongType _ z.place (append_first copy other_copies copies))
+        (append_first (flat_map (wrong_node env) nodes) (flat_map (wrong_node env) other_nodes) split))
+        (arguments_linked c (y.name ∷ before) rest right.1 (append_second copy other_copies copies) roots
+        (append_second target other_targets targets)
+        (append_second (flat_map (wrong_node env) nodes) (flat_map (wrong_node env) other_nodes) split))
 
     instance_is : option_and_then instance_of_symbol (symbol_of t.symbols x.name)
         ≡ Some (record { anchor = symbol_is.symbol.anchor; members = its.members })
@@ -316,7 +316,7 @@ module _ (env : Environment) (t : Table) (orderly : IsOrderly env) (serves : Ser
         linked_from (linked_call_of t x.name (arguments_in arguments))
         (option_and_then instance_of_symbol (symbol_of t.symbols x.name))
         (record { anchor = a; members = its.members }) instance_is
-        (linked_and (λ code. option_map (invoke a code) zs) (code_of t x.name) (serves.instances x.name b named is)
+        (linked_and (λ code. option_map (invoke a code) zs) (block_code_of t x.name) (serves.instances x.name b named is)
         (λ code. linked_map (invoke a code) zs h))
 
   call_linked : (c : Context) (x : Identifier) (arguments : List Argument)
@@ -331,8 +331,8 @@ module _ (env : Environment) (t : Table) (orderly : IsOrderly env) (serves : Ser
       sym (flat_map-append (wrong_node env) roots parts) ∙ right.nodes in
       invocation_linked x call.block call.named call.is arguments
       (arguments_linked x call.block call.named call.is c [] arguments call.fit call.copies
-      (front_empty (flat_map (wrong_node env) roots) (flat_map (wrong_node env) parts) split) right.targets
-      (back_empty (flat_map (wrong_node env) roots) (flat_map (wrong_node env) parts) split))
+      (append_first (flat_map (wrong_node env) roots) (flat_map (wrong_node env) parts) split) right.targets
+      (append_second (flat_map (wrong_node env) roots) (flat_map (wrong_node env) parts) split))
 
   -- a loop with a control variable
   control_linked : (x : Identifier) (s : VariableType) (k : Kind) → type_of_name env x.name ≡ Some s

@@ -1,4 +1,4 @@
--- What follows for the parts of statements in which nothing is wrong.
+-- Consequences for the parts of statements in which nothing is wrong.
 use Rattle.std.proofs.Common.{◌≡◌, refl, sym, ◌∙◌, ℕ, Bool, true, false, ◌&&◌, not, List, [], ◌∷◌, ◌++◌, Option, Some, None}
 use Rattle.std.specs.List.{flat_map}
 use Rattle.std.proofs.lemmas.Bool.{and_parts}
@@ -27,9 +27,9 @@ use Rattle.st_rules.specs.LabelRules.{wrong_case}
 use Rattle.st_rules.specs.BodyRules.{wrong_exit, wrong_statement}
 use Rattle.st_link.specs.Soundness.{of_variable, AreKnown}
 use Rattle.st_link.specs.StatementSoundness.{BodyRight}
-use Rattle.st_link.proofs.Alikes.{front_empty, back_empty}
 use Rattle.st_link.proofs.ValueLaw.{met_kind}
-use Rattle.st_link.proofs.AssignmentLaw.{not_true}
+use Rattle.st_types.proofs.TestLemmas.{false_from_not}
+use Rattle.st_types.proofs.ListLemmas.{append_first, append_second}
 
 pub record StatementRight (env : Environment) (c : Context) (x : Stmt) : Type 0 where
   pub nodes : wrong_nodes env x ≡ []
@@ -45,14 +45,14 @@ statement_right env c x h =
     let v = wrong_invocation env x in
     let k = wrong_case env x in
     let f = wrong_for env c x in
-    let to_control = front_empty ((((n ++ t) ++ v) ++ k) ++ f) (wrong_exit c.in_loop x) h in
-    let to_invocation = front_empty ((n ++ t) ++ v) k (front_empty (((n ++ t) ++ v) ++ k) f to_control) in
-    let to_targets = front_empty (n ++ t) v to_invocation in
+    let to_control = append_first ((((n ++ t) ++ v) ++ k) ++ f) (wrong_exit c.in_loop x) h in
+    let to_invocation = append_first ((n ++ t) ++ v) k (append_first (((n ++ t) ++ v) ++ k) f to_control) in
+    let to_targets = append_first (n ++ t) v to_invocation in
     record {
-      nodes = front_empty n t to_targets;
-      targets = back_empty n t to_targets;
-      invocation = back_empty (n ++ t) v to_invocation;
-      control = back_empty (((n ++ t) ++ v) ++ k) f to_control;
+      nodes = append_first n t to_targets;
+      targets = append_second n t to_targets;
+      invocation = append_second (n ++ t) v to_invocation;
+      control = append_second (((n ++ t) ++ v) ++ k) f to_control;
     }
 
 -- statements
@@ -62,7 +62,7 @@ body_split env ps qs h =
     let both = sym (flat_map-append (wrong_statement env) ps qs) ∙ h in
     let one = flat_map (wrong_statement env) ps in
     let two = flat_map (wrong_statement env) qs in
-    (front_empty one two both, back_empty one two both)
+    (append_first one two both, append_second one two both)
 
 pub record FirstRight (env : Environment) (c : Context) (x : Stmt) (xs : Stmts) : Type 0 where
   pub itself : wrong_statement env (placed c x) ≡ []
@@ -75,7 +75,7 @@ first_right env c x xs h =
     let split = body_split env (placed c x ∷ statements_below c x) (statements_of c xs) h in
     let one = wrong_statement env (placed c x) in
     let two = flat_map (wrong_statement env) (statements_below c x) in
-    record { itself = front_empty one two split.0; below = back_empty one two split.0; rest = split.1 }
+    record { itself = append_first one two split.0; below = append_second one two split.0; rest = split.1 }
 
 -- expressions
 abbrev pub RootsRight : Environment → List Node → Type 0
@@ -85,7 +85,7 @@ pub roots_right : (env : Environment) (x : Stmt) → wrong_nodes env x ≡ [] �
 roots_right env x h =
     let rs = flat_map (nodes_of_root env) (roots_of env x) in
     let ts = flat_map (nodes_of_place env) (targets_of x) in
-    front_empty (flat_map (wrong_node env) rs) (flat_map (wrong_node env) ts)
+    append_first (flat_map (wrong_node env) rs) (flat_map (wrong_node env) ts)
     (sym (flat_map-append (wrong_node env) rs ts) ∙ h)
 
 pub first_root : (env : Environment) (d : Demand) (e : Expr) (rest : List Node) → RootsRight env (node d e ∷ rest)
@@ -94,8 +94,8 @@ first_root env d e rest h =
     let one = nodes_of env d e in
     let two = flat_map (nodes_of_root env) rest in
     let both = sym (flat_map-append (wrong_node env) one two) ∙ h in (
-      front_empty (flat_map (wrong_node env) one) (flat_map (wrong_node env) two) both,
-      back_empty (flat_map (wrong_node env) one) (flat_map (wrong_node env) two) both,
+      append_first (flat_map (wrong_node env) one) (flat_map (wrong_node env) two) both,
+      append_second (flat_map (wrong_node env) one) (flat_map (wrong_node env) two) both,
     )
 
 -- the control variable of a FOR
@@ -123,9 +123,9 @@ control_named env known c x None is h = absurd (cc)
 control_named env known c x (Some t) is h =
     let type_faults = breaking WrongType (unless (is_control env x t) x.place) in
     let target_faults = breaking NotAssignable (unless (is_assignable env c (variable x no_selectors)) x.place) in
-    let right = unless_right WrongType (is_control env x t) x.place (front_empty type_faults target_faults h) in
+    let right = unless_right WrongType (is_control env x t) x.place (append_first type_faults target_faults h) in
     let assignable = unless_right NotAssignable (is_assignable env c (variable x no_selectors)) x.place
-    (back_empty type_faults target_faults h) in
+    (append_second type_faults target_faults h) in
     let kind = met_kind None whole (typing_of_type env.text (Some t)) (and_parts (is_own (section_of env x.name)) _ right).1
     (known.types t (of_variable x.name is)) in
     let outer = (and_parts (not (is_fixed (section_of env x.name)) && _) _ assignable).0 in
@@ -135,7 +135,7 @@ control_named env known c x (Some t) is h =
       named = is;
       kind = kind.0;
       typed = kind.1;
-      free = not_true (is_fixed (section_of env x.name)) free;
+      free = false_from_not (is_fixed (section_of env x.name)) free;
     }
 
 pub control_right : (env : Environment) → AreKnown env → (c : Context) (x : Identifier)

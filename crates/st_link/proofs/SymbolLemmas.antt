@@ -13,7 +13,7 @@ use Rattle.symbols.specs.PlaceTypes.{place_type_view}
 use Rattle.symbols.specs.declared.index.Index.{Index}
 use Rattle.layout.specs.Shapes.{is_sound, size}
 use Rattle.layout.specs.Types.{is_within_depth, shape_of_type}
-use Rattle.layout.specs.Sizes.{cut}
+use Rattle.layout.specs.Sizes.{capped_size}
 use Rattle.slot_trees.specs.SlotTrees.{Anchor, absolute, own}
 use Rattle.slot_trees.specs.Tables.{Symbol, moved}
 use Rattle.slot_trees.specs.ExpressionViews.{anchor_view}
@@ -24,9 +24,13 @@ use Rattle.st_link.specs.declared.body_table.LinkSymbol.{LinkSymbol}
 use Rattle.st_link.specs.FirstSlots.{found_at, slots_taken, symbol_among, symbol_from, unless_found}
 use Rattle.st_link.specs.LinkVariables.{LinkVariable, are_whole, is_whole, variable_view}
 use Rattle.st_link.specs.declared.variables.Variable.{Variable}
-use Rattle.st_link.proofs.FirstSlotLemmas.{all_front, both_hold, found_append, taken_append}
+use Rattle.st_link.proofs.FirstSlotLemmas.{all_front, found_append, taken_append}
+use Rattle.std.proofs.lemmas.Bool.{and_parts}
+use Rattle.st_link.proofs.MemberLemmas.{or_found_twice}
+use Rattle.st_link.proofs.SourceLinks.{uncut}
+use Rattle.symbols.proofs.TextLemmas.{or_mapped}
 
--- what agrees in front and behind
+-- tables that agree in front and after
 pub agree_or : {T U : Type 0} (fits : T → U → Type 0) (f g : Option T) (p q : Option U) → Agree fits f p
     → Agree fits g q → Agree fits (or_found f g) (or_found p q)
 agree_or fits None g None q a b = b
@@ -34,21 +38,12 @@ agree_or fits (Some t) g (Some u) q a b = a
 agree_or fits None g (Some u) q a b = absurd a
 agree_or fits (Some t) g None q a b = absurd a
 
-or_or : {A : Type 0} (a b c : Option A) → or_found a (or_found b c) ≡ or_found (or_found a b) c
-or_or (Some x) b c = refl
-or_or None b c = refl
-
-map_or : {A B : Type 0} (f : A → B) (a b : Option A)
-    → option_map f (or_found a b) ≡ or_found (option_map f a) (option_map f b)
-map_or f (Some x) b = refl
-map_or f None b = refl
-
 unless_or : {A : Type 0} (c : Bool) (a b : Option A) → (if c then None else or_found a b)
     ≡ or_found (if c then None else a) (if c then None else b)
 unless_or true a b = refl
 unless_or false a b = refl
 
--- so many slots further
+-- a number of slots further
 moved_first : (base : Anchor) (n m : ℕ) → first_slot base + (n + m) ≤ MAX_PATHS
     → first_slot (moved base n) + m ≤ MAX_PATHS
 moved_first (own k) n m h = omega (arith, h)
@@ -93,7 +88,7 @@ module _ (text : Declared) (hidden : Index Bool) (base : Anchor) (x : Name) wher
       (found_at text (slots_taken text done) (variable_view v ∷ []) x) in
       let split : symbol_among text base (done ++ variable_view v ∷ []) x ≡ or_found here last =
       ap (option_map (symbol_from text base x)) (found_append text 0 done (variable_view v ∷ []) x)
-      ∙ map_or (symbol_from text base x) (found_at text 0 done x)
+      ∙ or_mapped (symbol_from text base x) (found_at text 0 done x)
       (found_at text (0 + slots_taken text done) (variable_view v ∷ []) x)
       ∙ ap (λ m. or_found here (option_map (symbol_from text base x) (found_at text m (variable_view v ∷ []) x)))
       (none (slots_taken text done)) in
@@ -101,7 +96,7 @@ module _ (text : Declared) (hidden : Index Bool) (base : Anchor) (x : Name) wher
       ≡ or_found (or_found o (unless_found hidden x here)) (unless_found hidden x last) =
       ap (λ y. or_found o (unless_found hidden x y)) split
       ∙ ap (or_found o) (unless_or (is_some (found hidden x)) here last)
-      ∙ or_or o (unless_found hidden x here) (unless_found hidden x last) in
+      ∙ or_found_twice o (unless_found hidden x here) (unless_found hidden x last) in
       subst (Agree (IsSymbol text) after) (sym whole)
       (subst (λ f. Agree (IsSymbol text) f
       (or_found (or_found o (unless_found hidden x here)) (unless_found hidden x last))) (sym added)
@@ -130,12 +125,12 @@ whole_one text xs i v below more h =
     last_whole : (ys : List Variable) → are_whole text (map variable_view (ys ++ v ∷ [])) ≡ true
         → IsExpanded text (place_type_view v.declared)
     last_whole [] g =
-        (both_hold (is_within_depth MAX_TYPE_DEPTH text (place_type_view v.declared))
+        (and_parts (is_within_depth MAX_TYPE_DEPTH text (place_type_view v.declared))
         (is_sound (shape_of_type text (place_type_view v.declared)))
-        (both_hold (is_whole text (variable_view v)) true g).0).0
+        (and_parts (is_whole text (variable_view v)) true g).0).0
     last_whole (y ∷ ys) g =
         last_whole ys
-        (both_hold (is_whole text (variable_view y)) (are_whole text (map variable_view (ys ++ v ∷ []))) g).1
+        (and_parts (is_whole text (variable_view y)) (are_whole text (map variable_view (ys ++ v ∷ []))) g).1
 
 -- before the first variable
 pub begin_symbols : (text : Declared) (hidden : Index Bool) (x : Name) (f : Option LinkSymbol) (o : Option Symbol)
@@ -155,22 +150,19 @@ pub more_taken : {A : Type 0} (xs : List A) (i : ℕ) (x : A) → i < length xs 
     → take (i + 1) xs ≡ take i xs ++ x ∷ []
 more_taken xs i x below is = take_more xs i x below ∙ ap (λ y. take i xs ++ y ∷ []) (sym is)
 
-more_cut : (a b s n r : ℕ) → a ≡ cut b → n ≡ cut s → r ≡ cut (a + n) → r ≡ cut (b + (s + 0))
+more_cut : (a b s n r : ℕ) → a ≡ capped_size b → n ≡ capped_size s → r ≡ capped_size (a + n) → r ≡ capped_size (b + (s + 0))
 more_cut a b s n r is one all = grind (arith)
 
 pub slots_more : (text : Declared) (xs : List Variable) (i : ℕ) (v : Variable) (a n r : ℕ)
     → take (i + 1) xs ≡ take i xs ++ v ∷ []
-    → a ≡ cut (slots_taken text (map variable_view (take i xs)))
-    → n ≡ cut (size (shape_of_type text (place_type_view v.declared))) → r ≡ cut (a + n)
-    → r ≡ cut (slots_taken text (map variable_view (take (i + 1) xs)))
+    → a ≡ capped_size (slots_taken text (map variable_view (take i xs)))
+    → n ≡ capped_size (size (shape_of_type text (place_type_view v.declared))) → r ≡ capped_size (a + n)
+    → r ≡ capped_size (slots_taken text (map variable_view (take (i + 1) xs)))
 slots_more text xs i v a n r more so_far one all =
     more_cut a (slots_taken text (map variable_view (take i xs)))
     (size (shape_of_type text (place_type_view v.declared))) n r so_far one all
-    ∙ ap cut (sym (taken_append text (map variable_view (take i xs)) (variable_view v ∷ []))
+    ∙ ap capped_size (sym (taken_append text (map variable_view (take i xs)) (variable_view v ∷ []))
     ∙ ap (slots_taken text) (sym (map-append variable_view (take i xs) (v ∷ [])) ∙ ap (map variable_view) (sym more)))
-
-uncut : (a n : ℕ) → a ≡ cut n → n ≤ MAX_PATHS → a ≡ n
-uncut a n is small = grind (arith)
 
 front_taken : (text : Declared) (base : Anchor) (xs : List Variable) (i : ℕ)
     → first_slot base + slots_taken text (map variable_view xs) ≤ MAX_PATHS
@@ -187,7 +179,7 @@ behind : (b n : ℕ) → b + n ≤ MAX_PATHS → n ≤ MAX_PATHS
 behind b n h = omega (arith, h)
 
 pub offset_is : (text : Declared) (base : Anchor) (xs : List Variable) (i a : ℕ)
-    → a ≡ cut (slots_taken text (map variable_view (take i xs)))
+    → a ≡ capped_size (slots_taken text (map variable_view (take i xs)))
     → first_slot base + slots_taken text (map variable_view xs) ≤ MAX_PATHS
     → a ≡ slots_taken text (map variable_view (take i xs))
 offset_is text base xs i a is room =
@@ -208,7 +200,7 @@ room_for text base xs i v more room =
     let b = front_taken text base xs (i + 1) room in
     omega (arith, a, b)
 
--- what is there and one variable more, over lists of the code
+-- the symbols so far and one variable more, over lists of the code
 pub symbols_more : (text : Declared) (hidden : Index Bool) (base : Anchor) (x : Name) (o : Option Symbol)
     (xs : List Variable) (i a : ℕ) (v : Variable) (s : LinkSymbol) (before after : Option LinkSymbol)
     → take (i + 1) xs ≡ take i xs ++ v ∷ []
@@ -230,7 +222,7 @@ symbols_more text hidden base x o xs i a v s before after more added anchor offs
 pub from_first : (n : ℕ) → n ≤ MAX_PATHS → 0 + n ≤ MAX_PATHS
 from_first n h = omega (arith, h)
 
--- where nothing is kept elsewhere
+-- if nothing is kept elsewhere
 pub all_shown : (text : Declared) (hidden : Index Bool) (x : Name) (f : Option LinkSymbol) (o : Option Symbol)
     → found hidden x ≡ None → Agree (IsSymbol text) f (or_found None (unless_found hidden x o))
     → Agree (IsSymbol text) f o

@@ -99,7 +99,7 @@ section_taken text [] x = refl
 section_taken text (b ∷ bs) x = ap₂ (λ c o. if c then Some b.section else o) (has_name_taken text b.declarations x)
     (section_taken text bs x)
 
--- a variable that is no external has a site of its own
+-- a variable that isn't an external has a site of its own
 external_is : (s r : Section) → Some s ≡ Some r → is_external r ≡ false → is_external s ≡ false
 external_is s r e h = let same : r ≡ s = cc in subst (λ (x : Section). is_external x ≡ false) same h
 

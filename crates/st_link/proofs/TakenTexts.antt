@@ -1,4 +1,4 @@
--- What a text declares differs from what it declares with its literals resolved in no name and in no place.
+-- A text's declarations and those with its literals resolved don't differ in names or places.
 use Rattle.std.proofs.Common.{◌≡◌, ℕ, ◌+◌, Bool, true, false, ◌&&◌, if◌then◌else◌, List, [], ◌∷◌, map, Option, Some}
 use Rattle.std.proofs.Common.{option_map, refl, sym, ap, ap₂, ◌∙◌}
 use Rattle.std.specs.Prelude.{bytes_eq}
@@ -20,12 +20,12 @@ use Rattle.layout.specs.Names.{are_different, names_of_sites, has_different_fiel
 use Rattle.layout.specs.Names.{has_different_variables, are_types_and_units_different, has_different_instances}
 use Rattle.layout.specs.Names.{is_configuration_different}
 use Rattle.layout.specs.Shapes.{size}
-use Rattle.layout.specs.Standing.{is_named_so, later, variable_at}
+use Rattle.layout.specs.VariableSlots.{is_variable, later, variable_at}
 use Rattle.layout.specs.TextLayouts.{variable_shape}
 use Rattle.layout.specs.Types.{NamedSite, sites_of_blocks, site_of_field}
-use Rattle.layout.proofs.ListLemmas.{map_some, some_is}
 use Rattle.layout.proofs.ResolvedLemmas.{Typed, typed, taking, blocks_typed, taken_text, Key, key}
 use Rattle.layout.proofs.ResolvedLemmas.{taking_key, IsTaken, taken_globals, taken_configuration}
+use Rattle.st_types.proofs.OptionLemmas.{some_is, map_some}
 
 -- names of variables
 first_names : (ds : List NamedSite) → names_of_sites ds ≡ map (λ e. e.0) (map typed ds)
@@ -104,7 +104,7 @@ module _ (text : Declared) where
   one_taken : (u w : Owned) (us ws : List Owned) → key u ≡ taking_key (key w) → (o : Option Owner) (x : Name) (k : ℕ)
       (v : Owned)
       → ((l : ℕ) (z : Owned) → variable_at text ws o x ≡ Some (l, z) → TakenVariable us o x z) → (b : Bool)
-      → is_named_so o x u ≡ b
+      → is_variable o x u ≡ b
       → (if b then Some (0, w) else option_map (later text w) (variable_at text ws o x)) ≡ Some (k, v)
       → TakenVariable (u ∷ us) o x v
   one_taken u w us ws same o x k v ih true e h =
@@ -129,7 +129,7 @@ module _ (text : Declared) where
   taken_variable (u ∷ us) (w ∷ ws) taken o x k v h =
       let same : key u ≡ taking_key (key w) = cc in
       let rest : map key us ≡ map taking_key (map key ws) = cc in
-      let test : is_named_so o x w ≡ is_named_so o x u =
+      let test : is_variable o x w ≡ is_variable o x u =
       ap (λ k. same_owner o k.0 && bytes_eq x k.1) (sym same) in
-      one_taken u w us ws same o x k v (λ l z g. taken_variable us ws rest o x l z g) (is_named_so o x u) refl
+      one_taken u w us ws same o x k v (λ l z g. taken_variable us ws rest o x l z g) (is_variable o x u) refl
       (ap (λ b. if b then Some (0, w) else option_map (later text w) (variable_at text ws o x)) (sym test) ∙ h)

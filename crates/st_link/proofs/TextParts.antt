@@ -1,4 +1,4 @@
--- What a text in which nothing is wrong gives: bodies in which nothing is wrong, and types that stand for something.
+-- Parts of a text in which nothing is wrong: bodies in which nothing is wrong, and types that are known.
 use Rattle.std.proofs.Common.{◌≡◌, refl, Bool, true, false, if◌then◌else◌, List, [], ◌++◌, Option}
 use Rattle.std.proofs.Common.{Some, None}
 use Rattle.std.specs.List.{flat_map}
@@ -23,8 +23,8 @@ use Rattle.st_rules.specs.BodyRules.{wrong_body}
 use Rattle.st_rules.specs.Rules.{environment}
 use Rattle.st_link.specs.Soundness.{IsKnown, of_variable, AreKnown}
 use Rattle.st_link.specs.StatementSoundness.{HasNoInstances}
-use Rattle.st_link.proofs.Alikes.{front_empty, back_empty}
 use Rattle.st_link.proofs.CallLaw.{places_none}
+use Rattle.st_types.proofs.ListLemmas.{append_first, append_second}
 
 pub record RightText (text : Declared) : Type 0 where
   pub bodies : (x : Name) (u : OrganisationUnit) → unit_named text.units x ≡ Some u
@@ -62,8 +62,8 @@ block_invoked env x arguments b true none named is not h =
       block = b;
       named = named;
       is = is;
-      fit = places_none WrongArguments (wrong_arguments env x.name [] arguments) (front_empty fit copies h);
-      copies = back_empty fit copies h;
+      fit = places_none WrongArguments (wrong_arguments env x.name [] arguments) (append_first fit copies h);
+      copies = append_second fit copies h;
     }
 block_invoked env x arguments b false true named is not h = absurd (cc)
 block_invoked env x arguments b false false named is not h = absurd (cc)

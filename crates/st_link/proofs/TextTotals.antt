@@ -1,4 +1,4 @@
--- A text that breaks no rule is linked, whole.
+-- A text that breaks no rule is linked as a whole.
 use Rattle.std.proofs.Common.{◌≡◌, true, ◌&&◌, List, [], ◌∷◌, map, Option, Some}
 use Rattle.std.proofs.Common.{None, option_map, refl, sym, ap, ap₂, ◌∙◌, subst}
 use Rattle.std.specs.List.{list_all}
@@ -20,9 +20,8 @@ use Rattle.layout.specs.LayoutVariables.{variables_of_configuration, configurati
 use Rattle.layout.specs.LayoutVariables.{declared_of, configuration_of}
 use Rattle.layout.specs.Names.{are_different, are_types_and_units_different, is_configuration_different}
 use Rattle.layout.specs.Names.{has_different_names}
-use Rattle.layout.specs.Standing.{are_declared_once}
+use Rattle.layout.specs.VariableSlots.{are_declared_once}
 use Rattle.layout.specs.Types.{sites_of_blocks}
-use Rattle.layout.proofs.ListLemmas.{both, both_are}
 use Rattle.layout.proofs.NameLemmas.{configuration_once}
 use Rattle.layout.proofs.ResolvedLemmas.{taken_text, same_unit_named, IsTaken, taken_layout, taken_configuration}
 use Rattle.layout.proofs.ResolvedLemmas.{configuration_taken}
@@ -47,6 +46,7 @@ use Rattle.st_link.proofs.FunctionServes.{unit_in_order, function_linked}
 use Rattle.st_link.proofs.LinkedParts.{linked_and, linked_map, linked_list}
 use Rattle.st_link.proofs.TakenTexts.{taken_differ, taken_configuration_differs}
 use Rattle.st_link.proofs.UnitServes.{differ, named_once, program_linked, block_linked}
+use Rattle.std.proofs.lemmas.Bool.{and_parts, and_from}
 
 module _ (source : Source) (h : IsWellTyped source) where
   abbrev text : Declared
@@ -63,7 +63,7 @@ module _ (source : Source) (h : IsWellTyped source) where
       → list_all (has_orderly_variables whole) (map (resolved text) us) ≡ true
   units_orderly [] units = refl
   units_orderly (u ∷ us) units =
-      both_are (has_orderly_variables whole (resolved text u))
+      and_from (has_orderly_variables whole (resolved text u))
       (list_all (has_orderly_variables whole) (map (resolved text) us))
       (unit_in_order source h u (units u here)) (units_orderly us (λ v among. units v (later among)))
 
@@ -118,7 +118,7 @@ module _ (source : Source) (h : IsWellTyped source) where
       names_differ : are_types_and_units_different whole ≡ true
       names_differ =
           taken_differ text
-          (both (are_different (map (λ t. t.name.name) text.types)) (are_types_and_units_different text)
+          (and_parts (are_different (map (λ t. t.name.name) text.types)) (are_types_and_units_different text)
           (differ source h)).1
 
       scopes_taken : is_configuration_different (Some (taken_configuration text c)) ≡ true
@@ -215,7 +215,7 @@ module _ (source : Source) (h : IsWellTyped source) where
       source_names =
           ap₂ (λ d o. are_types_and_units_different d && is_configuration_different o) (text_taken source)
           configuration_is
-          ∙ both_are (are_types_and_units_different whole)
+          ∙ and_from (are_types_and_units_different whole)
           (is_configuration_different (Some (taken_configuration text c))) names_differ scopes_taken
 
       source_orderly : are_units_orderly (declared_of source) ≡ true
@@ -232,6 +232,6 @@ module _ (source : Source) (h : IsWellTyped source) where
 pub known_source_linked : (source : Source) (c : Configuration) → IsWellTyped source → HaveFunctionsNoExternals source
     → only_configuration (configurations_in source) ≡ Some c → are_known (declared_in source) c ≡ true → HasLink source
 known_source_linked source c h none only known =
-    let b = both (list_all (has_known_externals (declared_in source) c.globals) (declared_in source).units)
+    let b = and_parts (list_all (has_known_externals (declared_in source) c.globals) (declared_in source).units)
     (list_all (is_known_resource (declared_in source) c.globals) c.resources) known in
     source_linked source h c only b.0 none

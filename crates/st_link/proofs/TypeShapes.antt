@@ -1,4 +1,4 @@
--- The shape of a type has what the type has: members, elements, or nothing but an elementary part.
+-- The shape of a type has the type's parts: members, elements, or nothing but an elementary part.
 use Rattle.std.proofs.Common.{◌≡◌, ℕ, zero, suc, ◌+◌, ◌*◌, ◌<◌, Bool, true, false, if◌then◌else◌, List, [], ◌∷◌}
 use Rattle.std.proofs.Common.{Some, None, refl, sym, ap, ◌∙◌, arith}
 use Rattle.std.specs.Prelude.{bytes_eq, nat_lt}
@@ -10,13 +10,16 @@ use Rattle.st_types.specs.declared.data_type.ArrayType.{ArrayType}
 use Rattle.st_types.specs.declared.data_type.VariableType.{VariableType}
 use Rattle.st_meaning.specs.NameTypes.{Declared, kind_among, definition_of}
 use Rattle.st_meaning.specs.Scopes.{Name}
-use Rattle.layout.specs.Shapes.{Whole, Shape, Parts, no_parts, plain, array, parts, size, sizes}
+use Rattle.st_rules.specs.TypeRules.{elements_of_array}
+use Rattle.layout.specs.Shapes.{PartsOwner, Shape, Parts, no_parts, plain, array, parts, size, sizes}
 use Rattle.layout.specs.Types.{Site, NamedSite, site_named, of_kind, of_parts, defined_composition}
-use Rattle.layout.specs.Types.{composition_of, lower_of, count_of, parts_of, composed_shape, shape_within}
+use Rattle.layout.specs.Types.{composition_of, lower_of, parts_of, composed_shape, shape_within}
 use Rattle.layout.specs.Types.{parts_within, is_within_depth}
-use Rattle.layout.proofs.ListLemmas.{both, some_is}
 use Rattle.st_link.proofs.SoundMembers.{IsPart, IsArray}
-use Rattle.slot_trees.specs.Tables.{Part, part_at, part_beyond}
+use Rattle.slot_trees.specs.Tables.{Part, part_at, part_after}
+use Rattle.st_types.proofs.TestLemmas.{above_zero}
+use Rattle.st_types.proofs.OptionLemmas.{some_is}
+use Rattle.std.proofs.lemmas.Bool.{and_parts}
 
 -- room for a part
 room_left : (a b : ℕ) → nat_lt 0 a ≡ true → nat_lt 0 (a + b) ≡ true
@@ -24,9 +27,6 @@ room_left a b h = grind (arith, nat_tests)
 
 room_right : (a b : ℕ) → nat_lt 0 b ≡ true → nat_lt 0 (a + b) ≡ true
 room_right a b h = grind (arith, nat_tests)
-
-above_zero : (a : ℕ) → nat_lt 0 a ≡ true → 0 < a
-above_zero a h = grind (arith, nat_tests)
 
 has_room : (a : ℕ) → 0 < a → nat_lt 0 a ≡ true
 has_room a h = grind (arith, nat_tests)
@@ -46,7 +46,7 @@ part_later : (shape : VariableType → Shape) (d : NamedSite) (ds : List NamedSi
 part_later shape d ds x s e i =
     let there = i.there in
     record {
-      part = part_beyond (size (shape d.site.declared)) i.part;
+      part = part_after (size (shape d.site.declared)) i.part;
       there = rw (e, there) refl;
       is = i.is;
       room = λ r. room_right (size (shape d.site.declared)) (sizes (parts_of shape ds)) (i.room r);
@@ -75,7 +75,7 @@ named_passes : (p : VariableType → Bool) (ds : List NamedSite) → list_all (�
     → (x : Name) (s : Site) → site_named ds x ≡ Some s → p s.declared ≡ true
 named_passes p [] all x s h = absurd (cc)
 named_passes p (d ∷ ds) all x s h =
-    let b = both (p d.site.declared) (list_all (λ d. p d.site.declared) ds) all in
+    let b = and_parts (p d.site.declared) (list_all (λ d. p d.site.declared) ds) all in
     by_test (bytes_eq x d.name) h b.0 (named_passes p ds b.1 x s)
   where
     by_test : (b : Bool) → (if b then Some d.site else site_named ds x) ≡ Some s → p d.site.declared ≡ true
@@ -85,7 +85,7 @@ named_passes p (d ∷ ds) all x s h =
 
 -- a part of a type is one of its shape
 pub record HasPart (text : Declared) (n : ℕ) (t : VariableType) (x : Name) (u : VariableType) : Type 0 where
-  pub whole : Whole
+  pub whole : PartsOwner
   pub members : Parts
   pub is : shape_within n text t ≡ parts whole members
   pub part : Part
@@ -119,7 +119,7 @@ has_part text (suc n) t x u within i =
 -- the elements of an array
 pub record HasElements (text : Declared) (n : ℕ) (t u : VariableType) (a : ArrayType) : Type 0 where
   pub depth : ℕ
-  pub is : shape_within n text t ≡ array (lower_of a) (count_of a) (shape_within depth text u)
+  pub is : shape_within n text t ≡ array (lower_of a) (elements_of_array a) (shape_within depth text u)
   pub within : is_within_depth depth text u ≡ true
 
 pub has_elements : (text : Declared) (n : ℕ) (t u : VariableType) → is_within_depth n text t ≡ true
@@ -129,7 +129,7 @@ has_elements text zero t u within i = absurd (cc)
 has_elements text (suc n) t u within i = record {
   depth = n;
   is = ap (composed_shape (shape_within n text)) i.composition
-      ∙ ap (λ s. array (lower_of i.array) (count_of i.array) (shape_within n text s)) i.element;
+      ∙ ap (λ s. array (lower_of i.array) (elements_of_array i.array) (shape_within n text s)) i.element;
   within = ap (is_within_depth n text) (sym i.element)
       ∙ ap (parts_within (is_within_depth n text)) (sym i.composition) ∙ within;
 }
@@ -145,11 +145,11 @@ plain_shape text (suc n) t k within h =
 
 -- a type that is made of parts
 pub record HasMembers (text : Declared) (n : ℕ) (t : VariableType) : Type 0 where
-  pub whole : Whole
+  pub whole : PartsOwner
   pub members : Parts
   pub is : shape_within n text t ≡ parts whole members
 
-pub has_members : (text : Declared) (n : ℕ) (t : VariableType) (w : Whole) (ds : List NamedSite)
+pub has_members : (text : Declared) (n : ℕ) (t : VariableType) (w : PartsOwner) (ds : List NamedSite)
     → is_within_depth n text t ≡ true → composition_of text t ≡ of_parts w ds → HasMembers text n t
 unfolding shape_within is_within_depth
 has_members text zero t w ds within h = absurd (cc)

@@ -1,4 +1,4 @@
--- Names that neither a type nor a unit of the text has: those of standard blocks, and those of nothing.
+-- Names that neither a type nor a unit of the text has: those of standard blocks, and unknown ones.
 use Rattle.std.proofs.Common.{◌≡◌, refl, sym, ap, subst, ◌∙◌, ℕ, ◌+◌, List, [], ◌∷◌, map, Bool, true, false}
 use Rattle.std.proofs.Common.{if◌then◌else◌, Option, Some, None}
 use Rattle.std.specs.Prelude.{bytes_eq, is_none, option_map}
@@ -16,35 +16,13 @@ use Rattle.layout.specs.Types.{own_block_type, block_type_named, shape_of_type, 
 use Rattle.layout.specs.Compositions.{named_type}
 use Rattle.layout.proofs.CompositionLemmas.{composed_by}
 use Rattle.st_link.specs.NamedMembers.{name_and_type}
-use Rattle.st_link.specs.Shapes.{HasParts, IsExpanded, IsUndeclared, IsWhole}
-use Rattle.st_link.specs.declared.wholes.Whole.{Whole}
+use Rattle.st_link.specs.Shapes.{HasParts, IsExpanded, IsUndeclared, IsAggregate}
+use Rattle.st_link.specs.declared.aggregates.Aggregate.{Aggregate}
 use Rattle.st_link.proofs.DepthLemmas.{composed_whole}
 use Rattle.st_link.proofs.WholeLemmas.{whole_parts}
+use Rattle.layout.proofs.LibraryLemmas.{no_enumeration}
 
-no_enumeration : (n : ℕ) (ts : List TypeDeclaration) (x : Name) → type_named ts x ≡ None
-    → enumeration_named (enumerations_from n ts) x ≡ None
-no_enumeration n [] x h = refl
-no_enumeration n (t ∷ ts) x h = by_name (λ m g. no_enumeration m ts x g) (bytes_eq x t.name.name) refl h
-  where
-    by_names : ((m : ℕ) → type_named ts x ≡ None → enumeration_named (enumerations_from m ts) x ≡ None)
-        → bytes_eq x t.name.name ≡ false → type_named ts x ≡ None → (o : Option (List Identifier))
-        → enumeration_named (elim o [
-          | Some names ↦ record { number = n; name = t.name.name; names = names } ∷ enumerations_from (n + 1) ts
-          | None ↦ enumerations_from n ts
-        ]) x ≡ None
-    by_names others is g None = others n g
-    by_names others is g (Some names) =
-        ap (λ b. if b then Some (record { number = n; name = t.name.name; names = names })
-        else enumeration_named (enumerations_from (n + 1) ts) x) is
-        ∙ others (n + 1) g
-
-    by_name : ((m : ℕ) → type_named ts x ≡ None → enumeration_named (enumerations_from m ts) x ≡ None) → (b : Bool)
-        → bytes_eq x t.name.name ≡ b → (if b then Some t.definition else type_named ts x) ≡ None
-        → enumeration_named (enumerations_from n (t ∷ ts)) x ≡ None
-    by_name others true is g = absurd (cc)
-    by_name others false is g = by_names others is g (enumerated_names t.definition)
-
--- what a standard block is made of, or nothing
+-- the composition of a standard block, or nothing
 abbrev standard_made : Option StandardBlock → Composition
 standard_made (Some b) = of_parts of_instance (map site_of_member (members_of b))
 standard_made None = nothing
@@ -64,9 +42,9 @@ undeclared_made text x at o u is =
     by_block (Some k) = refl
     by_block None = ap (λ v. instance_parts (own_block_type v)) u.no_unit
 
-pub undeclared_whole : (text : Declared) (x : Name) (at : ℕ) (b : StandardBlock) (w : Whole) → IsUndeclared text x
+pub undeclared_whole : (text : Declared) (x : Name) (at : ℕ) (b : StandardBlock) (w : Aggregate) → IsUndeclared text x
     → block_of x ≡ Some b → IsExpanded text (named_type x at)
-    → HasParts text (map name_and_type (map site_of_member (members_of b))) w → IsWhole text (named_type x at) w
+    → HasParts text (map name_and_type (map site_of_member (members_of b))) w → IsAggregate text (named_type x at) w
 undeclared_whole text x at b w u is h has =
     whole_parts text (named_type x at) (standard_made (Some b)) w (undeclared_made text x at (Some b) u is) tt h has
 

@@ -20,18 +20,19 @@ use Rattle.layout.specs.Types.{Site, sites_of_blocks, instance_of, shape_of_type
 use Rattle.layout.specs.Types.{shape_within}
 use Rattle.layout.specs.LayoutVariables.{Owned, owned_variable}
 use Rattle.layout.specs.TextLayouts.{variable_shape}
-use Rattle.layout.specs.Standing.{are_declared_once}
+use Rattle.layout.specs.VariableSlots.{are_declared_once}
 use Rattle.layout.specs.Libraries.{result_site}
 use Rattle.layout.proofs.LibraryLemmas.{instance_made}
 use Rattle.layout.proofs.ListLemmas.{same_name}
-use Rattle.st_link.specs.Homes.{IsHome, HasHomes, IsAmong, here, further_on, environment_of, IsGrounded, RunsIn}
+use Rattle.st_link.specs.Homes.{IsLayoutPart, HaveSlots, IsAmong, here, further_on, IsGrounded, RunsIn}
 use Rattle.st_link.proofs.ShapeLemmas.{behind_step}
 use Rattle.st_link.proofs.SoundMembers.{IsPart}
 use Rattle.st_link.proofs.AgreementLemmas.{behind_member}
 use Rattle.st_link.proofs.HomeLemmas.{among_map, found_at, own_site, site_among}
+use Rattle.st_rules.specs.Rules.{environment}
 
 moved : (text : Declared) (variables : List Owned) (p q : Path) (fixed : Bool) (t : VariableType) → p ≡ q
-    → IsHome text variables fixed q t → IsHome text variables fixed p t
+    → IsLayoutPart text variables fixed q t → IsLayoutPart text variables fixed p t
 moved text variables p q fixed t e i = record {
   owner = i.owner;
   name = i.name;
@@ -53,27 +54,27 @@ path_of u frame w runs x b e =
     ap₂ (λ f xs. if contains_name xs x then unowned x else own_path f x) runs.names_of runs.externals
     ∙ ap (λ c. if c then unowned x else own_path frame x) e
 
--- a home for each name, where its own variables have one
+-- a home for each name, if its own variables have one
 homes_of : (text : Declared) (variables : List Owned) (u : OrganisationUnit) (frame : Frame) (w : Scope)
     → RunsIn u frame w → IsGrounded text variables u
     → ((x : Name) (t : VariableType) → variable_type u x ≡ Some t → contains_name (externals_in u.blocks) x ≡ false
-    → IsHome text variables (is_fixed (section_of (environment_of text u) x)) (own_path frame x) t)
-    → HasHomes (environment_of text u) variables w
+    → IsLayoutPart text variables (is_fixed (section_of (environment text u) x)) (own_path frame x) t)
+    → HaveSlots (environment text u) variables w
 homes_of text variables u frame w runs grounded own x t h =
     by_test (contains_name (externals_in u.blocks) x) refl
   where
     by_test : (b : Bool) → contains_name (externals_in u.blocks) x ≡ b
-        → IsHome text variables (is_fixed (section_of (environment_of text u) x)) (path_in w.frame w.body x) t
+        → IsLayoutPart text variables (is_fixed (section_of (environment text u) x)) (path_in w.frame w.body x) t
     by_test true e = moved text variables (path_in w.frame w.body x) (unowned x)
-        (is_fixed (section_of (environment_of text u) x)) t (path_of u frame w runs x true e)
+        (is_fixed (section_of (environment text u) x)) t (path_of u frame w runs x true e)
         (grounded.externals x t e h)
     by_test false e = moved text variables (path_in w.frame w.body x) (own_path frame x)
-        (is_fixed (section_of (environment_of text u) x)) t (path_of u frame w runs x false e) (own x t h e)
+        (is_fixed (section_of (environment text u) x)) t (path_of u frame w runs x false e) (own x t h e)
 
 -- a member of an instance
 pub member_home : (text : Declared) (variables : List Owned) (at : Path) (t : VariableType) (x : Name) (s : VariableType)
-    (fixed : Bool) → IsPart text t x s → IsHome text variables false at t
-    → IsHome text variables fixed (member_at at x) s
+    (fixed : Bool) → IsPart text t x s → IsLayoutPart text variables false at t
+    → IsLayoutPart text variables fixed (member_at at x) s
 member_home text variables at t x s fixed part h =
     let b = behind_member text t x s part h.depth h.within in
     record {
@@ -94,8 +95,8 @@ member_home text variables at t x s fixed part h =
 pub block_homes : (text : Declared) (variables : List Owned) (u : OrganisationUnit) (t : VariableType) (at : Path)
     (w : Scope) → u.sort ≡ sorts.FunctionBlock
     → instance_of text t ≡ Some (record { name = u.name.name; members = sites_of_blocks u.blocks })
-    → IsHome text variables false at t → IsGrounded text variables u → RunsIn u (of_block at) w
-    → HasHomes (environment_of text u) variables w
+    → IsLayoutPart text variables false at t → IsGrounded text variables u → RunsIn u (of_block at) w
+    → HaveSlots (environment text u) variables w
 block_homes text variables u t at w sort instance home grounded runs =
     homes_of text variables u (of_block at) w runs grounded own
   where
@@ -109,10 +110,10 @@ block_homes text variables u t at w sort instance home grounded runs =
         by_test false g = g
 
     own : (x : Name) (s : VariableType) → variable_type u x ≡ Some s → contains_name (externals_in u.blocks) x ≡ false
-        → IsHome text variables (is_fixed (section_of (environment_of text u) x)) (own_path (of_block at) x) s
+        → IsLayoutPart text variables (is_fixed (section_of (environment text u) x)) (own_path (of_block at) x) s
     own x s h e =
         let d = own_site u.blocks x s (type_of_own x s h) e in
-        member_home text variables at t x s (is_fixed (section_of (environment_of text u) x)) (record {
+        member_home text variables at t x s (is_fixed (section_of (environment text u) x)) (record {
           whole = of_instance;
           sites = sites_of_blocks u.blocks;
           own = d.site;
@@ -127,19 +128,19 @@ pub function_homes : (text : Declared) (u : OrganisationUnit) (r : SimpleType) (
     → are_declared_once text (map (owned_variable None) (result_site r u.name.name ∷ sites_of_blocks u.blocks)) ≡ true
     → IsGrounded text (map (owned_variable None) (result_site r u.name.name ∷ sites_of_blocks u.blocks)) u
     → RunsIn u of_call w
-    → HasHomes (environment_of text u)
+    → HaveSlots (environment text u)
     (map (owned_variable None) (result_site r u.name.name ∷ sites_of_blocks u.blocks)) w
 function_homes text u r w sort once grounded runs =
     homes_of text (map (owned_variable None) (result_site r u.name.name ∷ sites_of_blocks u.blocks)) u of_call w runs
     grounded own
   where
     fixed : Name → Bool
-    fixed x = is_fixed (section_of (environment_of text u) x)
+    fixed x = is_fixed (section_of (environment text u) x)
 
     at_variable : (x : Name) (s : Site) (t : VariableType) → s.declared ≡ t → variable_type u x ≡ Some t
         → IsAmong (record { name = x; site = s }) (result_site r u.name.name ∷ sites_of_blocks u.blocks)
-        → IsHome text (map (owned_variable None) (result_site r u.name.name ∷ sites_of_blocks u.blocks))
-        (is_fixed (section_of (environment_of text u) x)) (unowned x) t
+        → IsLayoutPart text (map (owned_variable None) (result_site r u.name.name ∷ sites_of_blocks u.blocks))
+        (is_fixed (section_of (environment text u) x)) (unowned x) t
     at_variable x s t e h i =
         let f = found_at text (map (owned_variable None) (result_site r u.name.name ∷ sites_of_blocks u.blocks)) once
         (owned_variable None (record { name = x; site = s }))
@@ -159,8 +160,8 @@ function_homes text u r w sort once grounded runs =
         }
 
     own : (x : Name) (t : VariableType) → variable_type u x ≡ Some t → contains_name (externals_in u.blocks) x ≡ false
-        → IsHome text (map (owned_variable None) (result_site r u.name.name ∷ sites_of_blocks u.blocks))
-        (is_fixed (section_of (environment_of text u) x)) (unowned x) t
+        → IsLayoutPart text (map (owned_variable None) (result_site r u.name.name ∷ sites_of_blocks u.blocks))
+        (is_fixed (section_of (environment text u) x)) (unowned x) t
     own x t h e = by_test (is_named x u.name) refl h
       where
         result_among : (y : Name) → y ≡ u.name.name
@@ -170,8 +171,8 @@ function_homes text u r w sort once grounded runs =
 
         by_test : (b : Bool) → is_named x u.name ≡ b
             → (if b then result_type u.sort else type_in_blocks u.blocks x) ≡ Some t
-            → IsHome text (map (owned_variable None) (result_site r u.name.name ∷ sites_of_blocks u.blocks))
-            (is_fixed (section_of (environment_of text u) x)) (unowned x) t
+            → IsLayoutPart text (map (owned_variable None) (result_site r u.name.name ∷ sites_of_blocks u.blocks))
+            (is_fixed (section_of (environment text u) x)) (unowned x) t
         by_test true q g =
             let k : ◌≡◌ {A = Option VariableType} (Some (types.Simple r)) (Some t) = sym (ap result_type sort) ∙ g in
             let j : types.Simple r ≡ t = cc in

@@ -22,8 +22,9 @@ use Rattle.slot_trees.specs.StatementViews.{block_code_view}
 use Rattle.slot_trees.specs.declared.statement.BlockCode as code_block
 use Rattle.slot_trees.specs.declared.statement.BlockCode.TheVariants as blocks
 use Rattle.st_link.specs.LinkVariables.{LinkVariable, of_site}
-use Rattle.st_link.proofs.NumberLemmas.{block_numbered, named_unit}
+use Rattle.st_link.proofs.NumberLemmas.{block_numbered}
 use Rattle.st_link.specs.Tables.{IsCode, code_of_block, has_some, instances_in}
+use Rattle.slot_trees.proofs.InstanceLemmas.{unit_name}
 
 pub instances_seen : (text : Declared) (ds : List NamedSite)
     → instances_among text ds ≡ instances_in text (map of_site ds)
@@ -147,7 +148,7 @@ module _ (text : Declared) (x : Name) where
             ∙ ap is_some (sym all);
       }
 
--- whether some variable is an instance
+-- whether a variable is an instance
 pub has_then : (x : Name) (b : Option BlockType) (rest : List (Name × Name))
     → has_some (instance_then x b rest) ≡ (if is_some b then true else has_some rest)
 has_then x None rest = refl
@@ -176,7 +177,7 @@ own_code text x u n none named sort found =
     let b : BlockType = record { name = u.name.name; members = sites_of_blocks u.blocks } in
     let is : own_block_type (unit_named text.units x) ≡ Some b =
     ap own_block_type named ∙ ap (λ s. block_type_of s u) sort in
-    let own : block_of u.name.name ≡ None = ap block_of (sym (named_unit text.units x u named)) ∙ none in
+    let own : block_of u.name.name ≡ None = ap block_of (sym (unit_name text.units x u named)) ∙ none in
     subst (IsCode text (Some (blocks.Own n))) (sym is)
     (record {
       code = sym (ap (code_named text u.name.name) own ∙ ap (option_map own_block) found);
@@ -186,7 +187,7 @@ own_code text x u n none named sort found =
 pub numbered_somewhere : (text : Declared) (x : Name) (u : OrganisationUnit) → unit_named text.units x ≡ Some u
     → u.sort ≡ FunctionBlock → named_in (numbered_from 0 (block_names text.units)) u.name.name ≡ None → ⊥
 numbered_somewhere text x u named sort none =
-    let same = named_unit text.units x u named in
+    let same = unit_name text.units x u named in
     let there = block_numbered 0 text.units x u named sort in
     let absent : named_in (numbered_from 0 (block_names text.units)) x ≡ None =
     ap (named_in (numbered_from 0 (block_names text.units))) same ∙ none in

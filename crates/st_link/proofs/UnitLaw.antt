@@ -11,7 +11,7 @@ use Rattle.st_types.specs.declared.data_type.VariableType.TheVariants as types
 use Rattle.st_types.specs.declared.unit.UnitSort.TheVariants.{Function as function}
 use Rattle.st_types.specs.Statements.{Stmts, stmts_of}
 use Rattle.st_types.specs.Units.{OrganisationUnit}
-use Rattle.st_meaning.specs.Failures.{StandIns, ill_typed, or_failure}
+use Rattle.st_meaning.specs.Failures.{StuckFaults, ill_typed, or_failure}
 use Rattle.st_meaning.specs.Stores.{Store, get, assigned}
 use Rattle.st_meaning.specs.Ticks.{◌>>=◌, attempt}
 use Rattle.st_meaning.specs.StandardBlocks.{StandardBlock, block_of, members_of}
@@ -19,14 +19,14 @@ use Rattle.st_meaning.specs.Scopes.{Name, of_block, of_call, Body, Function, Blo
 use Rattle.st_meaning.specs.Scopes.{contains_name, own_path}
 use Rattle.st_meaning.specs.Execution.{exec_all}
 use Rattle.st_meaning.specs.NameTypes.{Declared, kind_among, result_type, type_in_blocks, input_kinds}
-use Rattle.st_meaning.specs.Runs.{store_of, begun, function_value, standard_call, block_call, function_call, instance_call}
+use Rattle.st_meaning.specs.Runs.{store_of, bound_inputs, function_value, standard_call, block_call, function_call, instance_call}
 use Rattle.st_meaning.specs.Runs.{units_within}
 use Rattle.st_rules.specs.Environments.{type_of_name, section_in, section_of}
 use Rattle.st_rules.specs.Statements.{outside}
 use Rattle.st_rules.specs.TargetRules.{is_fixed}
 use Rattle.st_rules.specs.Rules.{environment}
-use Rattle.st_link.specs.Soundness.{IsOf, HasKind, standing, root, Agrees, Keeps, AreOf, LeavesAgreeing}
-use Rattle.st_link.specs.UnitSoundness.{IsBodyOf, IsBlockOf, scope_of_run, AreStored, Stands, TakeInputs}
+use Rattle.st_link.specs.Soundness.{IsOf, HasKind, with_units, root, Agrees, Keeps, AreOf, LeavesAgreeing}
+use Rattle.st_link.specs.UnitSoundness.{IsBodyOf, IsBlockOf, scope_of_run, AreStored, PlacesAreTyped, TakeInputs}
 use Rattle.st_link.specs.UnitSoundness.{call_of, HasFunction, IsLibraryOf, AllUnitsAgree}
 use Rattle.st_link.proofs.Alikes.{Succeeds, succeeds_then}
 use Rattle.st_link.proofs.Keeping.{keeps_itself, keeps_on, agrees_kept}
@@ -49,7 +49,7 @@ takes_kept keeps (x ∷ xs) [] h = absurd h
 takes_kept keeps [] (k ∷ ks) h = absurd h
 
 begun_succeeds : (s : Store) (xs : List Name) (ks : List (Option Kind)) (vs : List Datum) → TakeInputs s xs ks
-    → AreOf ks vs → Succeeds (Keeps s) (begun s xs vs)
+    → AreOf ks vs → Succeeds (Keeps s) (bound_inputs s xs vs)
 begun_succeeds s [] [] [] h of = keeps_itself s
 begun_succeeds s [] [] (v ∷ vs) h of = absurd of
 begun_succeeds s [] (k ∷ ks) vs h of = absurd h
@@ -57,9 +57,9 @@ begun_succeeds s (x ∷ xs) [] vs h of = absurd h
 begun_succeeds s (x ∷ xs) (None ∷ ks) vs h of = absurd h
 begun_succeeds s (x ∷ xs) (Some k ∷ ks) [] h of = absurd of
 begun_succeeds s (x ∷ xs) (Some k ∷ ks) (v ∷ vs) h of =
-    proceeds (Keeps s) (Keeps s) (assigned s (unowned x) v) (λ t. begun t xs vs)
+    proceeds (Keeps s) (Keeps s) (assigned s (unowned x) v) (λ t. bound_inputs t xs vs)
     (assigned_succeeds s (unowned x) v k h.0 of.0)
-    (λ t keeps. succeeds_then (Keeps t) (Keeps s) (begun t xs vs) (λ z more. keeps_on keeps more)
+    (λ t keeps. succeeds_then (Keeps t) (Keeps s) (bound_inputs t xs vs) (λ z more. keeps_on keeps more)
     (begun_succeeds t xs ks vs (takes_kept keeps xs ks h.1) of.1))
 
 -- a function's result is the variable of its name
@@ -91,24 +91,24 @@ result_there text u t k f now s is among named agrees =
     (agrees.stored k (root u.name.name (result_named text u t is)) (result_free text u) among))
 
 -- calls of standard blocks at a moment end alike
-abbrev pub StandardCallsAgree : ℕ → StandIns → StandIns → Type 0
+abbrev pub StandardCallsAgree : ℕ → StuckFaults → StuckFaults → Type 0
 StandardCallsAgree now i j =
     (k : StandardBlock) (at : Path) (s : Store) → AreStored s at (members_of k)
     → RunsAlike (Keeps s) (standard_call i k now at s) (standard_call j k now at s)
 
-module _ (text : Declared) (library : Library) (image : Store) (now : ℕ) (i j : StandIns) (right : RightText text)
+module _ (text : Declared) (library : Library) (image : Store) (now : ℕ) (i j : StuckFaults) (right : RightText text)
     (of_text : IsLibraryOf text library) (standards : StandardCallsAgree now i j) where
   module _ (u v : Units) (units : AllUnitsAgree text library image now u v) where
     function_run : (f : Name) (inputs : List (Option Kind)) (k : Kind) (g : OwnFunction text f inputs (Some k))
         (has : HasFunction text library f g.unit) (s : Store) → Keeps has.value.fresh s
         → RunsAlike (LeavesAgreeing (environment text g.unit) (scope_of_run [] now (call_of g.unit has.value)))
-        (exec_all (standing u i (scope_of_run [] now (call_of g.unit has.value))) has.value.body.statements s)
-        (exec_all (standing v j (scope_of_run [] now (call_of g.unit has.value))) has.value.body.statements s)
+        (exec_all (with_units u i (scope_of_run [] now (call_of g.unit has.value))) has.value.body.statements s)
+        (exec_all (with_units v j (scope_of_run [] now (call_of g.unit has.value))) has.value.body.statements s)
     function_run f inputs k g has s keeps =
         let env = environment text g.unit in
         let w = scope_of_run [] now (call_of g.unit has.value) in
-        subst (λ (xs : Stmts). RunsAlike (LeavesAgreeing env w) (exec_all (standing u i w) xs s)
-        (exec_all (standing v j w) xs s)) (sym has.body.statements)
+        subst (λ (xs : Stmts). RunsAlike (LeavesAgreeing env w) (exec_all (with_units u i w) xs s)
+        (exec_all (with_units v j w) xs s)) (sym has.body.statements)
         (record {
           ends = λ b. statements_without_instances_are_sound env w s u v i j outside (stmts_of g.unit.body) b
               (agrees_kept (has.fresh now) keeps) (units.functions g.unit) (right.known f g.unit g.declared)
@@ -119,7 +119,7 @@ module _ (text : Declared) (library : Library) (image : Store) (now : ℕ) (i j 
         (has : HasFunction text library f g.unit) (vs : List Datum) → AreOf inputs vs
         → RunsAlike (IsOf k) (function_value i u now has.value vs) (function_value j v now has.value vs)
     function_valued f inputs k g has vs of =
-        both_then (both_attempt (Keeps has.value.fresh) i j (begun has.value.fresh has.value.inputs vs)
+        both_then (both_attempt (Keeps has.value.fresh) i j (bound_inputs has.value.fresh has.value.inputs vs)
         (begun_succeeds has.value.fresh has.value.inputs (input_kinds text g.unit.blocks) vs has.inputs
         (subst (λ (ks : List (Option Kind)). AreOf ks vs) (sym g.takes) of)))
         (λ s keeps. both_then (function_run f inputs k g has s keeps)
@@ -144,7 +144,7 @@ module _ (text : Declared) (library : Library) (image : Store) (now : ℕ) (i j 
         subst (λ (x : Block). IsBodyOf text d x.body) same has.body
 
     block_alike : (b : Name) (d : OrganisationUnit) (c : Block) (at : Path) (s : Store) → IsBlockOf text library b d c
-        → Stands text library image now (record { unit = d; frame = of_block at; body = c.body }) s
+        → PlacesAreTyped text library image now (record { unit = d; frame = of_block at; body = c.body }) s
         → RunsAlike (Keeps s) (instance_call i library image u now b (block_of b) at s)
         (instance_call j library image v now b (block_of b) at s)
     block_alike b d c at s is stands =

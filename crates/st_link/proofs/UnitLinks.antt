@@ -20,7 +20,7 @@ use Rattle.layout.specs.Instances as layouts
 use Rattle.layout.specs.Libraries.{body_of_unit}
 use Rattle.layout.specs.Shapes.{size, sizes}
 use Rattle.layout.specs.Types.{NamedSite, parts_of, shape_of_type, sites_of_blocks}
-use Rattle.layout.specs.Sizes.{cut}
+use Rattle.layout.specs.Sizes.{capped_size}
 use Rattle.slot_trees.specs.SlotTrees.{Anchor, SlotStmts, absolute, own}
 use Rattle.slot_trees.specs.LinkedTexts.{table_of}
 use Rattle.slot_trees.specs.Tables.{Table}
@@ -37,12 +37,12 @@ use Rattle.st_link.specs.Linked.{programs_by, programs_of}
 use Rattle.st_link.specs.Orderly.{instances_of}
 use Rattle.st_link.specs.LinkVariables.{LinkVariable, of_site, result_of, variables_of_blocks}
 use Rattle.st_link.specs.Tables.{AreGlobals, BeginAt, IsUnitTable}
-use Rattle.st_link.proofs.FirstSlotLemmas.{both_hold_back}
 use Rattle.st_link.proofs.UnitInstances.{instances_seen}
 use Rattle.st_link.proofs.SiteLemmas.{sites_seen}
 use Rattle.st_link.proofs.UnitSymbols.{block_symbols_are, function_symbols_are, program_symbols_are}
 use Rattle.st_link.specs.Tables.{instances_in}
 use Rattle.layout.specs.Libraries.{instances_among}
+use Rattle.std.proofs.lemmas.Bool.{and_from}
 
 pub unit_instances : (text : Declared) (u : OrganisationUnit)
     → instances_among text (sites_of_blocks u.blocks) ≡ instances_in text (variables_of_blocks u.blocks)
@@ -112,18 +112,7 @@ block_small text u h =
     ap (λ n. not (nat_lt MAX_PATHS n)) (members_taken text u)
     ∙ ap not (not_too_many (slots_taken text (variables_of_blocks u.blocks)) h)
 
--- a function that is called and has room is linked, and no other
-pub linked_there : (a b : Bool) → a ≡ true → b ≡ true → (a && b) ≡ true
-linked_there a b h k = both_hold_back a b h k
-
-pub not_called : (a b : Bool) → a ≡ false → (a && b) ≡ false
-not_called a b h = ap (λ c. c && b) h
-
-pub no_room : (a b : Bool) → b ≡ false → (a && b) ≡ false
-no_room true b h = h
-no_room false b h = refl
-
--- what is kept
+-- the units that are kept
 pub kept_there : {A : Type 0} (b : Bool) (o : Option A) (x : A) → b ≡ true → o ≡ Some x → kept_if b o ≡ Some (Some x)
 kept_there b o x h is = ap (λ c. kept_if c o) h ∙ ap (λ p. option_map (λ y. Some y) p) is
 
@@ -219,8 +208,8 @@ table_seen text globals base t exts es vs ws ms is e v o table =
     (subst (λ xs. IsUnitTable text globals es base xs ms t) (sym v)
     (subst (λ xs. IsUnitTable text globals es base ws xs t) (sym o) table))
 
-pub cut_small : (s n : ℕ) → s ≡ cut n → s ≤ MAX_PATHS → n ≤ MAX_PATHS
+pub cut_small : (s n : ℕ) → s ≡ capped_size n → s ≤ MAX_PATHS → n ≤ MAX_PATHS
 cut_small s n is small = grind (arith)
 
-pub cut_large : (s n : ℕ) → s ≡ cut n → MAX_PATHS < s → MAX_PATHS + 1 ≤ n
+pub cut_large : (s n : ℕ) → s ≡ capped_size n → MAX_PATHS < s → MAX_PATHS + 1 ≤ n
 cut_large s n is large = grind (arith)

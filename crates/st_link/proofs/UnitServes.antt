@@ -36,10 +36,10 @@ use Rattle.layout.specs.LayoutVariables.{only_configuration}
 use Rattle.layout.specs.Libraries.{instances_among, program_of_unit}
 use Rattle.layout.specs.Names.{are_different, are_types_and_units_different, is_configuration_different}
 use Rattle.layout.specs.Shapes.{Parts}
-use Rattle.layout.specs.Standing.{variable_at}
+use Rattle.layout.specs.VariableSlots.{variable_at}
 use Rattle.layout.specs.TextLayouts.{variable_shape}
 use Rattle.layout.specs.Types.{sites_of_blocks, site_named, shape_within, shape_of_type, is_within_depth}
-use Rattle.layout.proofs.ListLemmas.{both, some_is, name_itself, name_turned}
+use Rattle.layout.proofs.ListLemmas.{name_itself, name_turned}
 use Rattle.layout.proofs.NameLemmas.{configuration_once}
 use Rattle.layout.proofs.ResolvedLemmas.{taken_text, same_shape, IsTaken}
 use Rattle.st_link.proofs.Among.{Among, here, later, in_flat, none_of}
@@ -49,7 +49,7 @@ use Rattle.st_link.proofs.FoundFunctions.{own_function}
 use Rattle.st_link.proofs.FoundNames.{unit_in}
 use Rattle.st_link.proofs.InstanceSections.{instances_are_free}
 use Rattle.st_link.proofs.WellTypedTexts.{PartsRight, parts_right, text_right}
-use Rattle.st_link.specs.Homes.{are_names_different, IsHome, shape_behind}
+use Rattle.st_link.specs.Homes.{are_names_different, IsLayoutPart, shape_at_steps}
 use Rattle.st_link.proofs.DifferentNames.{names_differ, scopes_differ}
 use Rattle.st_link.proofs.GlobalHomes.{externals_stand}
 use Rattle.st_link.proofs.HomeLemmas.{own_site}
@@ -78,6 +78,8 @@ use Rattle.st_link.proofs.LinkedParts.{linked_from, linked_map, linked_as}
 use Rattle.st_link.proofs.StatementLinks.{stmts_linked}
 use Rattle.st_link.proofs.TakenTexts.{taken_variable}
 use Rattle.st_link.proofs.TypeShapes.{named_part}
+use Rattle.st_types.proofs.OptionLemmas.{some_is}
+use Rattle.std.proofs.lemmas.Bool.{and_parts}
 
 -- a unit of a text without repeated names is found by its name
 pub unit_once : (source : Source) → repeats (names_of_text source) ≡ [] → (u : OrganisationUnit)
@@ -297,7 +299,7 @@ module _ (source : Source) (h : IsWellTyped source) where
         (same : IsTaken vs (variables_of_configuration (declared_in source) (Some c))) where
       units_differ : are_types_and_units_different text ≡ true
       units_differ =
-          (both (are_different (map (λ t. t.name.name) text.types)) (are_types_and_units_different text) differ).1
+          (and_parts (are_different (map (λ t. t.name.name) text.types)) (are_types_and_units_different text) differ).1
 
       scopes : is_configuration_different (Some c) ≡ true
       scopes = subst (λ o. is_configuration_different o ≡ true) only (scopes_differ source right.names.all)
@@ -312,7 +314,7 @@ module _ (source : Source) (h : IsWellTyped source) where
         pub within : is_within_depth depth text s ≡ true
         pub shape : variable_shape whole variable ≡ shape_within depth text s
 
-      global_of : (x : Name) (s : VariableType) (i : IsHome text (variables_of_configuration text (Some c))
+      global_of : (x : Name) (s : VariableType) (i : IsLayoutPart text (variables_of_configuration text (Some c))
           (is_fixed (section_of env x)) (unowned x) s) → IsGlobal x s
       global_of x s i =
           let nobody : i.owner ≡ None = sym (ap (λ p. p.owner) i.path) in
@@ -326,7 +328,7 @@ module _ (source : Source) (h : IsWellTyped source) where
           let declared : t.variable.site.declared ≡ resolved_type i.variable.site.declared = ap (λ k. k.2) t.is in
           let input : t.variable.is_input ≡ i.variable.is_input = ap (λ k. k.3) t.is in
           let shape : variable_shape text i.variable ≡ shape_within i.depth text s =
-          some_is (ap (shape_behind (variable_shape text i.variable)) (sym steps) ∙ i.shape) in
+          some_is (ap (shape_at_steps (variable_shape text i.variable)) (sym steps) ∙ i.shape) in
           record {
             first = t.first;
             variable = t.variable;

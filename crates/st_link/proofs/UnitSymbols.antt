@@ -15,10 +15,10 @@ use Rattle.st_meaning.specs.Scopes.{Name, contains_name}
 use Rattle.layout.specs.LayoutVariables.{Owned, owned_variable}
 use Rattle.layout.specs.Libraries.{program_of_unit}
 use Rattle.layout.specs.Shapes.{size}
-use Rattle.layout.specs.Standing.{variable_at}
+use Rattle.layout.specs.VariableSlots.{variable_at}
 use Rattle.layout.specs.Types.{NamedSite, parts_of, shape_of_type, sites_of_blocks}
 use Rattle.slot_trees.specs.SlotTrees.{own, absolute}
-use Rattle.slot_trees.specs.Tables.{Part, part_at, part_beyond, symbol_of}
+use Rattle.slot_trees.specs.Tables.{Part, part_at, part_after, symbol_of}
 use Rattle.slot_trees.specs.ProgramTables.{symbol_at}
 use Rattle.slot_trees.specs.BlockTables.{part_symbol}
 use Rattle.slot_trees.specs.FunctionTables.{call_symbol}
@@ -27,13 +27,17 @@ use Rattle.slot_trees.specs.TextLinks.{symbols_of_program}
 use Rattle.slot_trees.specs.TextNumbers.{members_of_block}
 use Rattle.slot_trees.proofs.LookedUp.{block_looked_up, call_looked_up, program_looked_up}
 use Rattle.st_link.specs.FirstSlots.{found_at, slots_taken, symbol_among, symbol_from, unit_symbol}
-use Rattle.st_link.specs.LinkVariables.{LinkVariable, named_so, of_site, result_of, variables_in}
+use Rattle.st_link.specs.LinkVariables.{LinkVariable, named_so, of_site, result_of, link_variables}
 use Rattle.st_link.specs.LinkVariables.{variables_of_blocks}
 use Rattle.st_link.specs.Tables.{AreGlobals, BeginAt, seen_at}
 use Rattle.st_link.proofs.FirstSlotLemmas.{found_append, shifted_first}
 use Rattle.st_link.proofs.LayoutPlaces.{all_owned, owned_at, seen_first, sites_owned}
 use Rattle.st_link.proofs.SiteLemmas.{sites_seen}
 use Rattle.symbols.specs.Found.{or_found}
+use Rattle.std.proofs.lemmas.List.Folds.{list_any-append}
+use Rattle.st_types.proofs.OptionLemmas.{is_some_mapped}
+use Rattle.st_decl.proofs.GraphDepths.{none_plus}
+use Rattle.st_link.proofs.SeenLemmas.{or_between}
 
 -- names and the variables that they name
 or_some : {A : Type 0} (a b : Option A) → is_some (or_found a b) ≡ (is_some a || is_some b)
@@ -43,16 +47,6 @@ or_some (Some x) b = refl
 or_assoc : (a b c : Bool) → (a || b || c) ≡ (a || (b || c))
 or_assoc true b c = refl
 or_assoc false b c = refl
-
-or_turned : (a b c : Bool) → (a || (b || c)) ≡ (b || (a || c))
-or_turned true true c = refl
-or_turned true false c = refl
-or_turned false b c = refl
-
-any_append : {A : Type 0} (p : A → Bool) (xs ys : List A) → list_any p (xs ++ ys) ≡ (list_any p xs || list_any p ys)
-any_append p [] ys = refl
-any_append p (x ∷ xs) ys =
-    ap (λ b. p x || b) (any_append p xs ys) ∙ sym (or_assoc (p x) (list_any p xs) (list_any p ys))
 
 module _ (text : Declared) (x : Name) where
   abbrev has : ℕ → List LinkVariable → Bool
@@ -73,19 +67,19 @@ module _ (text : Declared) (x : Name) where
       by_test true ih = refl
       by_test false ih = ih
 
-  declared_have : (n : ℕ) (ds : List Declaration) → has n (variables_in ds) ≡ contains_name (declared_names ds) x
+  declared_have : (n : ℕ) (ds : List Declaration) → has n (link_variables ds) ≡ contains_name (declared_names ds) x
   declared_have n [] = refl
   declared_have n (d ∷ ds) =
-      has_append n (map (named_so d.declared) d.names) (variables_in ds)
+      has_append n (map (named_so d.declared) d.names) (link_variables ds)
       ∙ ap₂ (λ a b. a || b) (names_have n d.declared d.names)
       (declared_have (n + slots_taken text (map (named_so d.declared) d.names)) ds)
-      ∙ sym (any_append (λ y. bytes_eq x y) (names_of d.names) (declared_names ds))
+      ∙ sym (list_any-append (λ y. bytes_eq x y) (names_of d.names) (declared_names ds))
 
   pub names_are : (n : ℕ) (bs : List VariableBlock)
       → contains_name (names_in bs) x ≡ (contains_name (externals_in bs) x || has n (variables_of_blocks bs))
   names_are n [] = refl
   names_are n (b ∷ bs) =
-      any_append (λ y. bytes_eq x y) (declared_names b.declarations) (names_in bs)
+      list_any-append (λ y. bytes_eq x y) (declared_names b.declarations) (names_in bs)
       ∙ by_test (is_external b.section) (λ m. names_are m bs)
     where
       by_test : (e : Bool)
@@ -93,25 +87,25 @@ module _ (text : Declared) (x : Name) where
           ≡ (contains_name (externals_in bs) x || has m (variables_of_blocks bs)))
           → (contains_name (declared_names b.declarations) x || contains_name (names_in bs) x)
           ≡ (contains_name (if e then declared_names b.declarations ++ externals_in bs else externals_in bs) x
-          || has n (if e then variables_of_blocks bs else variables_in b.declarations ++ variables_of_blocks bs))
+          || has n (if e then variables_of_blocks bs else link_variables b.declarations ++ variables_of_blocks bs))
       by_test true ih =
           ap (λ c. contains_name (declared_names b.declarations) x || c) (ih n)
           ∙ sym (or_assoc (contains_name (declared_names b.declarations) x) (contains_name (externals_in bs) x)
           (has n (variables_of_blocks bs)))
           ∙ ap (λ c. c || has n (variables_of_blocks bs))
-          (sym (any_append (λ y. bytes_eq x y) (declared_names b.declarations) (externals_in bs)))
+          (sym (list_any-append (λ y. bytes_eq x y) (declared_names b.declarations) (externals_in bs)))
       by_test false ih =
           ap (λ c. contains_name (declared_names b.declarations) x || c)
-          (ih (n + slots_taken text (variables_in b.declarations)))
-          ∙ or_turned (contains_name (declared_names b.declarations) x) (contains_name (externals_in bs) x)
-          (has (n + slots_taken text (variables_in b.declarations)) (variables_of_blocks bs))
+          (ih (n + slots_taken text (link_variables b.declarations)))
+          ∙ or_between (contains_name (declared_names b.declarations) x) (contains_name (externals_in bs) x)
+          (has (n + slots_taken text (link_variables b.declarations)) (variables_of_blocks bs))
           ∙ ap (λ c. contains_name (externals_in bs) x
-          || (c || has (n + slots_taken text (variables_in b.declarations)) (variables_of_blocks bs)))
+          || (c || has (n + slots_taken text (link_variables b.declarations)) (variables_of_blocks bs)))
           (sym (declared_have n b.declarations))
           ∙ ap (λ c. contains_name (externals_in bs) x || c)
-          (sym (has_append n (variables_in b.declarations) (variables_of_blocks bs)))
+          (sym (has_append n (link_variables b.declarations) (variables_of_blocks bs)))
 
--- a name that is none of the unit has no symbol
+-- a name that isn't one of the unit's has no symbol
 unnamed : {A : Type 0} (named external : Bool) (g o : Option A) → named ≡ (external || is_some o)
     → ◌≡◌ {A = Option A} (if named then (if external then g else o) else None) (if external then g else o)
 unnamed true external g o h = refl
@@ -130,19 +124,12 @@ or_true : (b : Bool) → true ≡ (b || true)
 or_true true = refl
 or_true false = refl
 
-still_some : {A B : Type 0} (f : A → B) (o : Option A) → is_some o ≡ is_some (option_map f o)
-still_some f None = refl
-still_some f (Some a) = refl
-
-zero_first : (n : ℕ) → 0 + n ≡ n
-zero_first n = omega arith
-
 -- a symbol of the layout
 layout_symbol : (text : Declared) (x : Name) (o : Option (ℕ × Owned))
     → option_map (symbol_at text x) o ≡ option_map (symbol_from text (absolute 0) x) (seen_at o)
 layout_symbol text x None = refl
 layout_symbol text x (Some e) =
-    ap (λ k. Some (record (symbol_at text x e) { anchor = absolute k })) (sym (zero_first e.0))
+    ap (λ k. Some (record (symbol_at text x e) { anchor = absolute k })) (sym (none_plus e.0))
 
 global_symbol : (text : Declared) (vs : List Owned) (globals : List LinkVariable) (x : Name)
     → AreGlobals text vs globals
@@ -152,7 +139,7 @@ global_symbol text vs globals x are =
 
 -- members of a block
 member_symbol : (text : Declared) (x : Name) (n : ℕ) (ds : List NamedSite)
-    → option_map (λ e. part_symbol x (part_beyond n e)) (part_at (parts_of (shape_of_type text) ds) x)
+    → option_map (λ e. part_symbol x (part_after n e)) (part_at (parts_of (shape_of_type text) ds) x)
     ≡ option_map (symbol_from text (own 0) x) (found_at text n (map of_site ds) x)
 member_symbol text x n [] = refl
 member_symbol text x n (d ∷ ds) =
@@ -164,22 +151,22 @@ member_symbol text x n (d ∷ ds) =
     further : (a b c : ℕ) → a + (b + c) ≡ (a + b) + c
     further a b c = omega arith
 
-    beyond : (o : Option Part) → option_map (λ e. part_symbol x (part_beyond n e))
-        (option_map (part_beyond (size (shape_of_type text d.site.declared))) o)
-        ≡ option_map (λ e. part_symbol x (part_beyond (n + size (shape_of_type text d.site.declared)) e)) o
+    beyond : (o : Option Part) → option_map (λ e. part_symbol x (part_after n e))
+        (option_map (part_after (size (shape_of_type text d.site.declared))) o)
+        ≡ option_map (λ e. part_symbol x (part_after (n + size (shape_of_type text d.site.declared)) e)) o
     beyond None = refl
     beyond (Some e) =
         ap (λ k. Some (record { name = x; anchor = own k; is_input = false; shape = e.shape }))
         (further n (size (shape_of_type text d.site.declared)) e.offset)
 
     by_test : (b : Bool)
-        → option_map (λ e. part_symbol x (part_beyond (n + size (shape_of_type text d.site.declared)) e))
+        → option_map (λ e. part_symbol x (part_after (n + size (shape_of_type text d.site.declared)) e))
         (part_at (parts_of (shape_of_type text) ds) x)
         ≡ option_map (symbol_from text (own 0) x)
         (found_at text (n + size (shape_of_type text d.site.declared)) (map of_site ds) x)
-        → option_map (λ e. part_symbol x (part_beyond n e))
+        → option_map (λ e. part_symbol x (part_after n e))
         (if b then Some (record { offset = 0; shape = shape_of_type text d.site.declared })
-        else option_map (part_beyond (size (shape_of_type text d.site.declared)))
+        else option_map (part_after (size (shape_of_type text d.site.declared)))
         (part_at (parts_of (shape_of_type text) ds) x))
         ≡ option_map (symbol_from text (own 0) x) (if b then Some (n, of_site d)
         else found_at text (n + size (shape_of_type text d.site.declared)) (map of_site ds) x)
@@ -194,10 +181,10 @@ member_first text x ds =
     none_before (part_at (parts_of (shape_of_type text) ds) x) ∙ member_symbol text x 0 ds
   where
     none_before : (o : Option Part)
-        → option_map (part_symbol x) o ≡ option_map (λ e. part_symbol x (part_beyond 0 e)) o
+        → option_map (part_symbol x) o ≡ option_map (λ e. part_symbol x (part_after 0 e)) o
     none_before None = refl
     none_before (Some e) =
-        ap (λ k. Some (part_symbol x (record { offset = k; shape = e.shape }))) (sym (zero_first e.offset))
+        ap (λ k. Some (part_symbol x (record { offset = k; shape = e.shape }))) (sym (none_plus e.offset))
 
 -- a block's
 pub block_symbols_are : (text : Declared) (vs : List Owned) (globals : List LinkVariable) (u : OrganisationUnit)
@@ -214,7 +201,7 @@ block_symbols_are text vs globals u x are =
     ∙ ap (λ ws. symbol_among text (own 0) ws x) (sites_seen u.blocks))
     ∙ unnamed (contains_name (names_in u.blocks) x) external (symbol_among text (absolute 0) globals x) mine
     (names_are text x 0 u.blocks ∙ ap (λ b. external || b)
-    (still_some (symbol_from text (own 0) x) (found_at text 0 (variables_of_blocks u.blocks) x)))
+    (is_some_mapped (symbol_from text (own 0) x) (found_at text 0 (variables_of_blocks u.blocks) x)))
 
 -- a program's
 from_first : (text : Declared) (x : Name) (first : ℕ) (o : Option (ℕ × LinkVariable))
@@ -222,7 +209,7 @@ from_first : (text : Declared) (x : Name) (first : ℕ) (o : Option (ℕ × Link
     ≡ option_map (symbol_from text (absolute first) x) o
 from_first text x first None = refl
 from_first text x first (Some e) =
-    ap (λ k. Some (record (symbol_from text (absolute first) x e) { anchor = absolute k })) (zero_first (first + e.0))
+    ap (λ k. Some (record (symbol_from text (absolute first) x e) { anchor = absolute k })) (none_plus (first + e.0))
 
 owned_symbol : (text : Declared) (vs : List Owned) (owner : Owner) (first : ℕ) (ws : List LinkVariable) (x : Name)
     → BeginAt text vs owner first ws
@@ -245,7 +232,7 @@ program_symbols_are text vs globals owner first u x are begin =
     (global_symbol text vs globals x are) (owned_symbol text vs owner first (variables_of_blocks u.blocks) x begin)
     ∙ unnamed (contains_name (names_in u.blocks) x) external (symbol_among text (absolute 0) globals x) mine
     (names_are text x 0 u.blocks ∙ ap (λ b. external || b)
-    (still_some (symbol_from text (absolute first) x) (found_at text 0 (variables_of_blocks u.blocks) x)))
+    (is_some_mapped (symbol_from text (absolute first) x) (found_at text 0 (variables_of_blocks u.blocks) x)))
   where
     by_external : (b : Bool) → option_map (symbol_at text x) (variable_at text vs (if b then None else Some owner) x)
         ≡ (if b then option_map (symbol_at text x) (variable_at text vs None x)
@@ -258,7 +245,7 @@ call_symbol_first : (text : Declared) (x : Name) (o : Option (ℕ × Owned))
     → option_map (call_symbol text x) o ≡ option_map (symbol_from text (own 0) x) (seen_at o)
 call_symbol_first text x None = refl
 call_symbol_first text x (Some e) =
-    ap (λ k. Some (record (call_symbol text x e) { anchor = own k })) (sym (zero_first e.0))
+    ap (λ k. Some (record (call_symbol text x e) { anchor = own k })) (sym (none_plus e.0))
 
 pub sites_of_function : (t : SimpleType) (u : OrganisationUnit)
     → map of_site (sites_of_call t u) ≡ result_of u.name.name t ∷ variables_of_blocks u.blocks
@@ -275,7 +262,7 @@ call_seen text t u x =
     ∙ owned_at text None 0 (map (owned_variable None) ds) x (all_owned None ds refl)
     ∙ ap (λ vs. found_at text 0 vs x) (sites_owned None ds ∙ sites_of_function t u))
 
--- externals are names of a function, but of none of its variables
+-- externals are names of a function, but not of its variables
 pub function_symbols_are : (text : Declared) (globals : List LinkVariable) (t : SimpleType) (u : OrganisationUnit)
     (x : Name) → symbol_of (symbols_of_function text t u) x
     ≡ unit_symbol text globals [] (own 0) (result_of u.name.name t ∷ variables_of_blocks u.blocks) x
@@ -285,7 +272,7 @@ function_symbols_are text globals t u x =
     call_looked_up text (sites_of_call t u) (u.name.name ∷ names_in u.blocks) x
     ∙ ap (λ o. if contains_name (u.name.name ∷ names_in u.blocks) x then o else None) (call_seen text t u x)
     ∙ unnamed_call (contains_name (u.name.name ∷ names_in u.blocks) x) external (symbol_among text (own 0) vs x)
-    (named ∙ ap (λ b. external || b) (still_some (symbol_from text (own 0) x) (found_at text 0 vs x)))
+    (named ∙ ap (λ b. external || b) (is_some_mapped (symbol_from text (own 0) x) (found_at text 0 vs x)))
   where
     named : contains_name (u.name.name ∷ names_in u.blocks) x ≡ (contains_name (externals_in u.blocks) x
         || is_some (found_at text 0 (result_of u.name.name t ∷ variables_of_blocks u.blocks) x))

@@ -1,4 +1,4 @@
--- How many values calls begin with, unit by unit.
+-- The number of values at the beginning of calls, unit by unit.
 use Rattle.std.proofs.Common.{◌≡◌, refl, sym, ap, subst, ◌∙◌, arith, ℕ, ◌+◌, ◌-◌, ◌^◌, ◌<◌, ◌≤◌, Bool, true, false}
 use Rattle.std.proofs.Common.{List, [], ◌∷◌, ◌++◌, map, take, drop, length, if◌then◌else◌, slice_index_or}
 use Rattle.std.specs.Prelude.{min, nat_lt}
@@ -10,12 +10,13 @@ use Rattle.st_types.specs.declared.unit.UnitSort.TheVariants.{Function, Function
 use Rattle.st_types.specs.Units.{OrganisationUnit}
 use Rattle.st_meaning.specs.NameTypes.{Declared}
 use Rattle.st_meaning.specs.Scopes.{Name}
-use Rattle.layout.specs.Sizes.{cut}
+use Rattle.layout.specs.Sizes.{capped_size}
 use Rattle.st_link.specs.CalledFunctions.{if_room, values_by, values_of_call, values_of_unit, values_of_units}
-use Rattle.st_link.proofs.FirstSlotLemmas.{all_front, both_hold}
+use Rattle.st_link.proofs.FirstSlotLemmas.{all_front}
+use Rattle.std.proofs.lemmas.Bool.{and_parts}
 
--- a size that is cut off has no room either
-pub room_cut : (a n : ℕ) → a ≡ cut n → if_room a ≡ if_room n
+-- a size that is capped has no room either
+pub room_cut : (a n : ℕ) → a ≡ capped_size n → if_room a ≡ if_room n
 room_cut a n is = by_room (nat_lt MAX_PATHS n) refl
   where
     by_room : (b : Bool) → nat_lt MAX_PATHS n ≡ b → if_room a ≡ if_room n
@@ -52,7 +53,7 @@ values_more f called text xs i x v n r more so_far one sum =
     ∙ ap (λ us. min (values_of_units called text us) (2 ^ 64 - 1))
     (sym (map-append f (take i xs) (x ∷ [])) ∙ ap (map f) (sym more))
 
--- what holds of all units holds of the one at hand
+-- a property of all units holds for the one at hand
 pub holds_of : {A B : Type 0} (f : A → B) (p : B → Bool) (xs : List A) (i : ℕ) (x : A)
     → take (i + 1) xs ≡ take i xs ++ x ∷ [] → list_all p (map f xs) ≡ true → p (f x) ≡ true
 holds_of {A = A} {B = B} f p xs i x more h =
@@ -62,5 +63,5 @@ holds_of {A = A} {B = B} f p xs i x more h =
     ∙ ap (map f) (take-append-drop (i + 1) xs)) ∙ h))
   where
     last_one : (ys : List A) → list_all p (map f (ys ++ x ∷ [])) ≡ true → p (f x) ≡ true
-    last_one [] g = (both_hold (p (f x)) true g).0
-    last_one (y ∷ ys) g = last_one ys (both_hold (p (f y)) (list_all p (map f (ys ++ x ∷ []))) g).1
+    last_one [] g = (and_parts (p (f x)) true g).0
+    last_one (y ∷ ys) g = last_one ys (and_parts (p (f y)) (list_all p (map f (ys ++ x ∷ []))) g).1

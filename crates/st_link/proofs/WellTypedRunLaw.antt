@@ -1,4 +1,4 @@
--- Over the slots of its layout a run of a program of a text that breaks no rule stands, and so ends alike.
+-- Over the slots of its layout a run of a program of a text that breaks no rule has values, and so ends alike.
 use Rattle.std.proofs.Common.{◌≡◌, ℕ, true, List, [], map, Some, refl, sym, ap, ◌∙◌, subst}
 use Rattle.std.specs.List.{list_all}
 use Rattle.st_types.specs.declared.path.Owner.{Owner}
@@ -11,24 +11,23 @@ use Rattle.st_types.specs.Sources.{Source}
 use Rattle.st_meaning.specs.Bodies.{externals_in}
 use Rattle.st_meaning.specs.NameTypes.{Declared, declared_in, unit_named}
 use Rattle.st_meaning.specs.Scopes.{Name, contains_name}
-use Rattle.st_meaning.specs.Slots.{Slot, variables_in, inputs_in}
+use Rattle.st_meaning.specs.Slots.{Slot, variables_with, inputs_in}
 use Rattle.st_rules.specs.ConfigurationRules.{has_known_externals}
 use Rattle.st_rules.specs.Rules.{IsWellTyped}
-use Rattle.st_link.specs.UnitSoundness.{IsLibraryOf, BodyRun, scope_of_run, Stands, run_of_program}
+use Rattle.st_link.specs.UnitSoundness.{IsLibraryOf, BodyRun, scope_of_run, PlacesAreTyped, run_of_program}
 use Rattle.st_link.proofs.FoundNames.{unit_found}
 use Rattle.st_link.proofs.TextLaw.{programs_are_sound}
 use Rattle.st_link.proofs.WellTypedTexts.{PartsRight, parts_right, unit_there}
 use Rattle.layout.specs.LayoutVariables.{Owned, variables_of_configuration}
 use Rattle.layout.specs.Libraries.{library_of_text}
 use Rattle.layout.specs.Names.{are_different, are_types_and_units_different, is_configuration_different}
-use Rattle.layout.specs.Standing.{are_declared_once}
+use Rattle.layout.specs.VariableSlots.{are_declared_once}
 use Rattle.layout.specs.TextLayouts.{slots_of, slots_of_text}
-use Rattle.layout.proofs.ListLemmas.{both}
 use Rattle.layout.proofs.NameLemmas.{configuration_once}
 use Rattle.layout.proofs.ResolvedLemmas.{slots_taken}
 use Rattle.st_link.specs.Homes.{are_names_different, AreValuesOf, IsGrounded}
 use Rattle.st_link.specs.WellTypedRuns.{call_variables, HaveFunctionsNoExternals, LibrariesAreOfTexts}
-use Rattle.st_link.specs.WellTypedRuns.{program_given, IsWellTypedRun, RunsStand, RunsAreSound}
+use Rattle.st_link.specs.WellTypedRuns.{program_given, IsWellTypedRun, RunsAreTyped, RunsAreSound}
 use Rattle.st_link.proofs.DifferentNames.{names_differ, scopes_differ}
 use Rattle.st_link.proofs.GlobalHomes.{externals_stand}
 use Rattle.st_link.proofs.ListTests.{all_at}
@@ -38,6 +37,7 @@ use Rattle.st_link.proofs.LibraryBodies.{body_taken, has_block}
 use Rattle.st_link.proofs.LibraryFunctions.{has_function}
 use Rattle.st_link.proofs.RunHomes.{run_stands}
 use Rattle.st_link.proofs.TakenBodies.{externals_taken}
+use Rattle.std.proofs.lemmas.Bool.{and_parts}
 
 no_external : (xs : List Name) (x : Name) → xs ≡ [] → contains_name xs x ≡ true → ⊥
 no_external xs x none h =
@@ -105,11 +105,11 @@ module _ (source : Source) (owner : Owner) (u : OrganisationUnit) (vs : List Dat
       (scopes_differ source (parts_right source run.well_typed).names.all)
 
   over_slots : AreValuesOf layout vs
-      → Stands this (library_of_text source) (inputs_in layout vs) now run_of (variables_in layout vs)
+      → PlacesAreTyped this (library_of_text source) (inputs_in layout vs) now run_of (variables_with layout vs)
   over_slots values =
       let right = parts_right source run.well_typed in
       let names = differ source run.well_typed in
-      let units = (both (are_different (map (λ t. t.name.name) this.types)) (are_types_and_units_different this) names).1
+      let units = (and_parts (are_different (map (λ t. t.name.name) this.types)) (are_types_and_units_different this) names).1
       in
       let once = configuration_once this units (Some run.configuration) scopes in
       let name = run.instance.instance.program.name in
@@ -126,14 +126,14 @@ module _ (source : Source) (owner : Owner) (u : OrganisationUnit) (vs : List Dat
   layout_is = slots_taken source ∙ ap (λ c. slots_of this (variables_of_configuration this c)) run.only
 
   stand : AreValuesOf (slots_of_text source) vs
-      → Stands this (library_of_text source) (inputs_in (slots_of_text source) vs) now run_of
-      (variables_in (slots_of_text source) vs)
+      → PlacesAreTyped this (library_of_text source) (inputs_in (slots_of_text source) vs) now run_of
+      (variables_with (slots_of_text source) vs)
   stand values =
       subst
-      (λ (ls : List Slot). Stands this (library_of_text source) (inputs_in ls vs) now run_of (variables_in ls vs))
+      (λ (ls : List Slot). PlacesAreTyped this (library_of_text source) (inputs_in ls vs) now run_of (variables_with ls vs))
       (sym layout_is) (over_slots (subst (λ (ls : List Slot). AreValuesOf ls vs) layout_is values))
 
-pub runs_stand : RunsStand
+pub runs_stand : RunsAreTyped
 runs_stand source owner u vs now values run = stand source owner u vs now run values
 
 pub runs_are_sound : RunsAreSound
@@ -141,7 +141,7 @@ runs_are_sound source owner u vs now budget i j values run =
     let name = run.instance.instance.program.name in
     let right = parts_right source run.well_typed in
     programs_are_sound source name u (program_given source owner u) (inputs_in (slots_of_text source) vs) now budget
-    (variables_in (slots_of_text source) vs) i j run.well_typed (library source owner u vs now run) run.moment
+    (variables_with (slots_of_text source) vs) i j run.well_typed (library source owner u vs now run) run.moment
     run.instance.named
     (body_taken source right.types right.names u (unit_there source name u run.instance.named))
     (stand source owner u vs now run values)

@@ -1,4 +1,4 @@
--- What a text that breaks no rule gives.
+-- Consequences of a text breaking no rule.
 use Rattle.std.proofs.Common.{◌≡◌, subst, true, List, [], ◌++◌, Option, Some}
 use Rattle.std.specs.Prelude.{is_some, IsSome}
 use Rattle.std.specs.List.{flat_map, list_all}
@@ -23,7 +23,6 @@ use Rattle.st_rules.specs.BodyRules.{wrong_body}
 use Rattle.st_rules.specs.Rules.{environment, starts_in, wrong_declarations, wrong_types, wrong_starts, wrong_bodies}
 use Rattle.st_rules.specs.Rules.{IsWellTyped}
 use Rattle.st_link.specs.Soundness.{AreKnown}
-use Rattle.st_link.proofs.Alikes.{front_empty, back_empty}
 use Rattle.st_link.proofs.Among.{Among, none_of}
 use Rattle.st_link.proofs.FoundNames.{unit_found, unit_in}
 use Rattle.st_link.proofs.FoundFunctions.{own_function}
@@ -33,8 +32,9 @@ use Rattle.st_link.proofs.KnownFunctions.{inputs_have_kinds, result_has_kind}
 use Rattle.st_link.proofs.ApartNames.{NamesRight, names_right}
 use Rattle.st_link.proofs.NoInstances.{functions_have_none}
 use Rattle.st_link.proofs.TextParts.{RightText}
+use Rattle.st_types.proofs.ListLemmas.{append_first, append_second}
 
--- what the first rules on declarations give
+-- consequences of the first rules on declarations
 record DeclarationsRight (source : Source) : Type 0 where
   pub names : NamesRight source
   pub deep : too_deep source ≡ []
@@ -46,12 +46,12 @@ declarations_right source h =
     let bounds = breaking WrongBounds (flat_map wrong_bounds (arrays_in source)) in
     let long = breaking WrongBounds (flat_map (too_long (declared_in source)) (starts_in source)) in
     let addresses = breaking RetainedAddress (flat_map retained_addresses_of source) in
-    let front = front_empty (twice ++ deep) bounds (front_empty ((twice ++ deep) ++ bounds) long
-    (front_empty (((twice ++ deep) ++ bounds) ++ long) addresses h)) in
+    let front = append_first (twice ++ deep) bounds (append_first ((twice ++ deep) ++ bounds) long
+    (append_first (((twice ++ deep) ++ bounds) ++ long) addresses h)) in
     record {
       names = names_right source
-          (places_none DeclaredTwice (twice_declared source) (front_empty twice deep front));
-      deep = places_none TooDeep (too_deep source) (back_empty twice deep front);
+          (places_none DeclaredTwice (twice_declared source) (append_first twice deep front));
+      deep = places_none TooDeep (too_deep source) (append_second twice deep front);
     }
 
 types_right : (source : Source) → wrong_types source ≡ [] → TypesRight source
@@ -63,13 +63,13 @@ types_right source h =
     let results = flat_map (wrong_result text) (results_in source) in
     let bounds = flat_map wrong_bound_numbers (arrays_in source) in
     let priorities = breaking OutOfRange (flat_map wrong_priorities_of source) in
-    let to_bounds = front_empty ((((names ++ declarings) ++ elements) ++ results) ++ bounds) priorities h in
-    let to_results = front_empty (((names ++ declarings) ++ elements) ++ results) bounds to_bounds in
-    let to_elements = front_empty ((names ++ declarings) ++ elements) results to_results in
+    let to_bounds = append_first ((((names ++ declarings) ++ elements) ++ results) ++ bounds) priorities h in
+    let to_results = append_first (((names ++ declarings) ++ elements) ++ results) bounds to_bounds in
+    let to_elements = append_first ((names ++ declarings) ++ elements) results to_results in
     record {
-      declarings = back_empty names declarings (front_empty (names ++ declarings) elements to_elements);
-      elements = back_empty (names ++ declarings) elements to_elements;
-      results = back_empty ((names ++ declarings) ++ elements) results to_results;
+      declarings = append_second names declarings (append_first (names ++ declarings) elements to_elements);
+      elements = append_second (names ++ declarings) elements to_elements;
+      results = append_second ((names ++ declarings) ++ elements) results to_results;
     }
 
 -- the parts of a text that breaks no rule
@@ -85,13 +85,13 @@ parts_right source h =
     let b = wrong_types source in
     let c = wrong_starts source in
     let d = wrong_bodies source in
-    let front = front_empty (a ++ b) c (front_empty ((a ++ b) ++ c) d h) in
-    let declarations = declarations_right source (front_empty a b front) in
+    let front = append_first (a ++ b) c (append_first ((a ++ b) ++ c) d h) in
+    let declarations = declarations_right source (append_first a b front) in
     record {
       names = declarations.names;
       deep = declarations.deep;
-      types = types_right source (back_empty a b front);
-      bodies = back_empty ((a ++ b) ++ c) d h;
+      types = types_right source (append_second a b front);
+      bodies = append_second ((a ++ b) ++ c) d h;
     }
 
 pub unit_there : (source : Source) (x : Name) (u : OrganisationUnit) → unit_named (declared_in source).units x ≡ Some u

@@ -1,4 +1,4 @@
--- What is kept of a type, by what it is made of.
+-- The entry of a type, by its composition.
 use Rattle.std.proofs.Common.{◌≡◌, refl, sym, ap, ap₂, subst, ◌∙◌, arith, ℕ, zero, suc, ◌*◌, List, [], ◌∷◌, ◌++◌, map}
 use Rattle.std.proofs.Common.{Bool, true, false, ◌&&◌, if◌then◌else◌, Option, Some, None}
 use Rattle.std.specs.Prelude.{bytes_eq}
@@ -13,26 +13,27 @@ use Rattle.st_meaning.specs.Scopes.{Name}
 use Rattle.symbols.specs.Agreeing.{Agree}
 use Rattle.layout.specs.Shapes.{Shape, Parts, array, part_then, size, sizes}
 use Rattle.layout.specs.Types.{NamedSite, Composition, of_kind, of_elements, of_parts, composition_of, element_of}
-use Rattle.layout.specs.Types.{lower_of, composed_shape, count_of}
+use Rattle.layout.specs.Types.{lower_of, composed_shape}
 use Rattle.layout.specs.Types.{is_within_depth, parts_of, parts_within, shape_of_type}
 use Rattle.layout.specs.Compositions.{composition_view}
-use Rattle.layout.specs.Sizes.{cut}
+use Rattle.layout.specs.Sizes.{capped_size}
 use Rattle.layout.specs.declared.compositions.Composition as code
 use Rattle.layout.specs.declared.compositions.Composition.TheVariants.{Kind as Elementary, Elements, Fields, Block}
 use Rattle.layout.specs.declared.compositions.Composition.TheVariants.{Standard, Nothing}
 use Rattle.slot_trees.specs.Tables.{part_at}
 use Rattle.st_link.specs.Members.{member_found}
 use Rattle.st_link.specs.NamedMembers.{NamedType, members_in, name_and_type}
-use Rattle.st_link.specs.Shapes.{AreExpanded, HasParts, IsExpanded, IsMemberPlace, IsWhole, member_of, typed_parts}
+use Rattle.st_link.specs.Shapes.{AreExpanded, HasParts, IsExpanded, IsMemberPlace, IsAggregate, member_of, typed_parts}
 use Rattle.st_link.specs.Shapes.{has_parts, is_array, is_plain}
-use Rattle.st_link.specs.declared.wholes.Whole.{Whole}
+use Rattle.st_link.specs.declared.aggregates.Aggregate.{Aggregate}
 use Rattle.symbols.specs.Found.{found, or_found}
 use Rattle.symbols.specs.declared.index.Index.{Index}
 use Rattle.std.proofs.lemmas.Slice.Eq.{bytes_eq-Decides}
-use Rattle.layout.proofs.ListLemmas.{both}
+use Rattle.st_rules.specs.TypeRules.{elements_of_array}
 use Rattle.layout.specs.Compositions.{named_type}
-use Rattle.st_link.specs.Shapes.{KnowsWholes}
+use Rattle.st_link.specs.Shapes.{KnowsAggregates}
 use Rattle.st_link.proofs.DepthLemmas.{composed_whole, parts_expanded}
+use Rattle.std.proofs.lemmas.Bool.{and_parts}
 
 -- the shapes of members by their sites
 typed_sites : (text : Declared) (ds : List NamedSite)
@@ -64,7 +65,7 @@ pub expanded_element : (text : Declared) (t : VariableType) (a : ArrayType) → 
     → IsExpanded text t → IsExpanded text (element_of a)
 expanded_element text t a is h = parts_expanded MAX_TYPE_DEPTH text t (of_elements a) is h
 
--- what is neither elementary nor an array
+-- a composition that is neither elementary nor an array
 abbrev pub HasMembers : Composition → Type 0
 HasMembers (of_kind k) = ⊥
 HasMembers (of_elements a) = ⊥
@@ -80,54 +81,54 @@ has_members (Standard b) g h = tt
 has_members Nothing g h = tt
 
 -- by its shape
-whole_by : (text : Declared) (t : VariableType) (sh : Shape) (w : Whole) → shape_of_type text t ≡ sh
-    → w.size ≡ cut (size sh)
-    → ((x : Name) → Agree (IsMemberPlace text 0) (member_found w.members x) (member_of sh x)) → IsWhole text t w
+whole_by : (text : Declared) (t : VariableType) (sh : Shape) (w : Aggregate) → shape_of_type text t ≡ sh
+    → w.size ≡ capped_size (size sh)
+    → ((x : Name) → Agree (IsMemberPlace text 0) (member_found w.members x) (member_of sh x)) → IsAggregate text t w
 whole_by text t sh w is slots members = record {
-  slots = slots ∙ ap (λ s. cut (size s)) (sym is);
+  slots = slots ∙ ap (λ s. capped_size (size s)) (sym is);
   members = λ x.
       subst (λ s. Agree (IsMemberPlace text 0) (member_found w.members x) (member_of s x)) (sym is) (members x);
 }
 
-pub whole_kind : (text : Declared) (t : VariableType) (k : Kind) (w : Whole) → composition_of text t ≡ of_kind k
-    → IsExpanded text t → w.size ≡ 1 → ((x : Name) → member_found w.members x ≡ None) → IsWhole text t w
+pub whole_kind : (text : Declared) (t : VariableType) (k : Kind) (w : Aggregate) → composition_of text t ≡ of_kind k
+    → IsExpanded text t → w.size ≡ 1 → ((x : Name) → member_found w.members x ≡ None) → IsAggregate text t w
 whole_kind text t k w is h one none =
     whole_by text t _ w (composed_whole MAX_TYPE_DEPTH text t (of_kind k) is h) (one ∙ grind (arith))
     (λ x. subst (λ o. Agree (IsMemberPlace text 0) o None) (sym (none x)) tt)
 
-pub whole_elements : (text : Declared) (t : VariableType) (a : ArrayType) (n : ℕ) (w : Whole)
-    → composition_of text t ≡ of_elements a → IsExpanded text t → n ≡ cut (size (shape_of_type text (element_of a)))
-    → w.size ≡ cut (count_of a * n) → ((x : Name) → member_found w.members x ≡ None) → IsWhole text t w
+pub whole_elements : (text : Declared) (t : VariableType) (a : ArrayType) (n : ℕ) (w : Aggregate)
+    → composition_of text t ≡ of_elements a → IsExpanded text t → n ≡ capped_size (size (shape_of_type text (element_of a)))
+    → w.size ≡ capped_size (elements_of_array a * n) → ((x : Name) → member_found w.members x ≡ None) → IsAggregate text t w
 whole_elements text t a n w is h one all none =
     whole_by text t _ w (composed_whole MAX_TYPE_DEPTH text t (of_elements a) is h)
-    (all ∙ ap (λ m. cut (count_of a * m)) one ∙ product (count_of a) (size (shape_of_type text (element_of a))))
+    (all ∙ ap (λ m. capped_size (elements_of_array a * m)) one ∙ product (elements_of_array a) (size (shape_of_type text (element_of a))))
     (λ x. subst (λ o. Agree (IsMemberPlace text 0) o None) (sym (none x)) tt)
   where
-    product : (c m : ℕ) → cut (c * cut m) ≡ cut (c * m)
+    product : (c m : ℕ) → capped_size (c * capped_size m) ≡ capped_size (c * m)
     product c m = grind (arith)
 
 -- how many slots an array takes
 pub array_size : (text : Declared) (t : VariableType) (a : ArrayType) (n : ℕ) → composition_of text t ≡ of_elements a
-    → IsExpanded text t → n ≡ cut (size (shape_of_type text (element_of a)))
-    → cut (count_of a * n) ≡ cut (size (shape_of_type text t))
+    → IsExpanded text t → n ≡ capped_size (size (shape_of_type text (element_of a)))
+    → capped_size (elements_of_array a * n) ≡ capped_size (size (shape_of_type text t))
 array_size text t a n is h one =
-    ap (λ m. cut (count_of a * m)) one ∙ product (count_of a) (size (shape_of_type text (element_of a)))
-    ∙ sym (ap (λ sh. cut (size sh)) (composed_whole MAX_TYPE_DEPTH text t (of_elements a) is h))
+    ap (λ m. capped_size (elements_of_array a * m)) one ∙ product (elements_of_array a) (size (shape_of_type text (element_of a)))
+    ∙ sym (ap (λ sh. capped_size (size sh)) (composed_whole MAX_TYPE_DEPTH text t (of_elements a) is h))
   where
-    product : (c m : ℕ) → cut (c * cut m) ≡ cut (c * m)
+    product : (c m : ℕ) → capped_size (c * capped_size m) ≡ capped_size (c * m)
     product c m = grind (arith)
 
-pub whole_parts : (text : Declared) (t : VariableType) (c : Composition) (w : Whole) → composition_of text t ≡ c
-    → HasMembers c → IsExpanded text t → HasParts text (members_in c) w → IsWhole text t w
+pub whole_parts : (text : Declared) (t : VariableType) (c : Composition) (w : Aggregate) → composition_of text t ≡ c
+    → HasMembers c → IsExpanded text t → HasParts text (members_in c) w → IsAggregate text t w
 whole_parts text t (of_kind k) w is some h g = absurd some
 whole_parts text t (of_elements a) w is some h g = absurd some
 whole_parts text t (of_parts o ds) w is some h g =
     whole_by text t _ w (composed_whole MAX_TYPE_DEPTH text t (of_parts o ds) is h)
-    (g.slots ∙ ap (λ ps. cut (sizes ps)) (sym (typed_sites text ds)))
+    (g.slots ∙ ap (λ ps. capped_size (sizes ps)) (sym (typed_sites text ds)))
     (λ x. subst (λ ps. Agree (IsMemberPlace text 0) (member_found w.members x) (part_at ps x))
     (sym (typed_sites text ds)) (g.members x))
 
--- what a shape is, by what the type is made of
+-- the form of a shape, by the type's composition
 abbrev pub plain_made : Composition → Bool
 plain_made (of_kind k) = true
 plain_made (of_elements a) = false
@@ -196,15 +197,15 @@ with_parts Nothing g h = refl
 
 -- an array with its elements
 pub elements_shape : (text : Declared) (t : VariableType) (a : ArrayType) → of_elements a ≡ composition_of text t
-    → IsExpanded text t → shape_of_type text t ≡ array (lower_of a) (count_of a) (shape_of_type text (element_of a))
+    → IsExpanded text t → shape_of_type text t ≡ array (lower_of a) (elements_of_array a) (shape_of_type text (element_of a))
 elements_shape text t a is h = composed_whole MAX_TYPE_DEPTH text t (of_elements a) (sym is) h
 
 -- an elementary variable takes one slot
 pub kind_size : (text : Declared) (t : VariableType) (k : Kind) → composition_of text t ≡ of_kind k
-    → IsExpanded text t → 1 ≡ cut (size (shape_of_type text t))
-kind_size text t k is h = sym (ap (λ sh. cut (size sh)) (composed_whole MAX_TYPE_DEPTH text t (of_kind k) is h))
+    → IsExpanded text t → 1 ≡ capped_size (size (shape_of_type text t))
+kind_size text t k is h = sym (ap (λ sh. capped_size (size sh)) (composed_whole MAX_TYPE_DEPTH text t (of_kind k) is h))
 
--- what is neither a structure nor an instance has no members
+-- a type that is neither a structure nor an instance has no members
 pub no_members : (text : Declared) (t : VariableType) (c : Composition) (x : Name) → composition_of text t ≡ c
     → parts_made c ≡ false → IsExpanded text t
     → Agree (IsMemberPlace text 0) None (member_of (shape_of_type text t) x)
@@ -219,25 +220,25 @@ no_members text t (of_parts w ds) x is none h = absurd (cc)
 pub first_expanded : (text : Declared) (e : NamedType) (es : List NamedType) → AreExpanded text (e ∷ es)
     → IsExpanded text e.1
 first_expanded text e es h =
-    (both (is_within_depth MAX_TYPE_DEPTH text e.1) (list_all (λ f. is_within_depth MAX_TYPE_DEPTH text f.1) es) h).0
+    (and_parts (is_within_depth MAX_TYPE_DEPTH text e.1) (list_all (λ f. is_within_depth MAX_TYPE_DEPTH text f.1) es) h).0
 
--- one whole more that is kept
-pub knows_more : (text : Declared) (old new : Index Whole) (x : Name) (w : Whole) → KnowsWholes text old
+-- one more whole with an entry
+pub knows_more : (text : Declared) (old new : Index Aggregate) (x : Name) (w : Aggregate) → KnowsAggregates text old
     → ((q : Name) → found new q ≡ or_found (found old q) (if bytes_eq q x then Some w else None))
-    → ((at : ℕ) → IsExpanded text (named_type x at) → IsWhole text (named_type x at) w) → KnowsWholes text new
+    → ((at : ℕ) → IsExpanded text (named_type x at) → IsAggregate text (named_type x at) w) → KnowsAggregates text new
 knows_more text old new x w knows added one q v is at h = by_found (found old q) refl (sym (added q) ∙ is)
   where
-    by_name : (b : Bool) → bytes_eq q x ≡ b → (if b then Some w else None) ≡ Some v → IsWhole text (named_type q at) v
+    by_name : (b : Bool) → bytes_eq q x ≡ b → (if b then Some w else None) ≡ Some v → IsAggregate text (named_type q at) v
     by_name true e g =
         let same = (bytes_eq-Decides q x).0 e in
         let kept : w ≡ v = cc in
-        subst (IsWhole text (named_type q at)) kept
-        (subst (λ y. IsWhole text (named_type y at) w) (sym same)
+        subst (IsAggregate text (named_type q at)) kept
+        (subst (λ y. IsAggregate text (named_type y at) w) (sym same)
         (one at (subst (λ y. IsExpanded text (named_type y at)) same h)))
     by_name false e g = absurd (cc)
 
-    by_found : (o : Option Whole) → found old q ≡ o → or_found o (if bytes_eq q x then Some w else None) ≡ Some v
-        → IsWhole text (named_type q at) v
+    by_found : (o : Option Aggregate) → found old q ≡ o → or_found o (if bytes_eq q x then Some w else None) ≡ Some v
+        → IsAggregate text (named_type q at) v
     by_found (Some u) e g =
         let kept : u ≡ v = cc in knows q v (e ∙ ap Some kept) at h
     by_found None e g = by_name (bytes_eq q x) refl g

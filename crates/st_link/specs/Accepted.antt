@@ -19,8 +19,8 @@ pub record IsAccepted (source : Source) : Type 0 where
   pub only : only_configuration (configurations_in source) ≡ Some configuration
   pub known : are_known (declared_in source) configuration ≡ true
 
--- This is the text's linked form, in which a function is left out exactly where it is none of those that are called or
--- its own variables are more than any layout has room for, and a block exactly where its variables are.
+-- This is the text's linked form, in which a function is left out exactly when it isn't called or its own variables
+-- are more than any layout has room for, and a block exactly when its variables are.
 pub record IsLinked (source : Source) (called : Name → Bool) (kept : KeptText) : Type 0 where
   pub is : kept_source called source ≡ Some kept
   pub whole : LinkedText

@@ -1,4 +1,4 @@
--- Arms of IF and CASE, each linked by itself.
+-- Arms of IF and CASE, each linked separately.
 use Rattle.std.specs.Prelude.{Option, option_and_then, option_map}
 use Rattle.st_types.specs.Statements as text
 use Rattle.slot_trees.specs.Linking.{linked}

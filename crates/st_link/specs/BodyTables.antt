@@ -1,4 +1,4 @@
--- Tables of a body that are those of the definitions.
+-- Tables of a body that agree with the definitions.
 use Rattle.std.specs.Prelude.{◌≡◌, ◌+◌, ◌≤◌, option_map}
 use Rattle.st_types.specs.declared.limits.TheConstants.{MAX_PATHS}
 use Rattle.st_meaning.specs.NameTypes.{Declared}
@@ -8,7 +8,7 @@ use Rattle.symbols.specs.Found.{found}
 use Rattle.symbols.specs.PlaceTypes.{place_type_view}
 use Rattle.layout.specs.Shapes.{size}
 use Rattle.layout.specs.Types.{shape_of_type}
-use Rattle.slot_trees.specs.LinkedStatements.{code_of}
+use Rattle.slot_trees.specs.LinkedStatements.{block_code_of}
 use Rattle.slot_trees.specs.Tables.{Symbol, Table, named_in, symbol_of}
 use Rattle.slot_trees.specs.ExpressionViews.{anchor_view}
 use Rattle.slot_trees.specs.StatementViews.{block_code_view}
@@ -17,7 +17,7 @@ use Rattle.st_link.specs.Rooms.{first_slot}
 use Rattle.st_link.specs.declared.body_table.BodyTable.{BodyTable}
 use Rattle.st_link.specs.declared.body_table.LinkSymbol.{LinkSymbol}
 
--- A variable begins where the table says, has the shape of the type that it is declared with, and has room in a layout.
+-- A variable begins at the place in the table, has the shape of its declared type, and has room in a layout.
 pub record IsSymbol (text : Declared) (s : LinkSymbol) (y : Symbol) : Type 0 where
   pub anchor : anchor_view s.anchor ≡ y.anchor
   pub input : s.is_input ≡ y.is_input
@@ -28,5 +28,5 @@ pub record IsSymbol (text : Declared) (s : LinkSymbol) (y : Symbol) : Type 0 whe
 pub record ServesBody (b : BodyTable) (text : Declared) (t : Table) : Type 0 where
   pub shapes : ServesShapes b.shapes.now text
   pub symbols : (x : Name) → Agree (IsSymbol text) (found b.symbols x) (symbol_of t.symbols x)
-  pub codes : (x : Name) → option_map block_code_view (found b.codes x) ≡ code_of t x
+  pub codes : (x : Name) → option_map block_code_view (found b.codes x) ≡ block_code_of t x
   pub functions : (x : Name) → found b.functions.now x ≡ named_in t.functions x

@@ -57,11 +57,11 @@ abbrev pub block_called : List LinkVariable → Stmt → List Name
 block_called vs (invoke x arguments) = names_or_none (block_among vs x.name)
 block_called vs _ = []
 
--- the functions that a unit calls, and the blocks, wherever the calls stand in its body
+-- the functions and the blocks that a unit calls, wherever the calls are in its body
 abbrev pub callees_of : OrganisationUnit → List Name
 callees_of u = calls_of u ++ flat_map (block_called (variables_of_blocks u.blocks)) (all_in (stmts_of u.body))
 
--- A unit runs where these programs do: it is one of them, or a unit that runs so calls it.
+-- A unit runs for these programs: it is one of them, or a unit that runs for them calls it.
 pub data IsReached (text : Declared) (programs : List Name) : Name → Type 0 where
   program : {x : Name} → IsAmong x programs → IsReached text programs x
   callee : {x y : Name} {u : OrganisationUnit} → IsReached text programs y → unit_named text.units y ≡ Some u
@@ -74,7 +74,7 @@ programs_among ps = map (λ p. p.1) ps
 abbrev pub IsCalled : Source → Name → Type 0
 IsCalled source x = IsReached (declared_in source) (programs_among (instances_of (configuration_in source))) x
 
--- a call begins with so many values; a function is left out where no layout has room for them
+-- the number of values at the beginning of a call; a function is left out if no layout has room for them
 abbrev pub if_room : ℕ → ℕ
 if_room n = if nat_lt MAX_PATHS n then 0 else n
 
@@ -94,6 +94,6 @@ abbrev pub values_of_units : (Name → Bool) → Declared → List OrganisationU
 values_of_units called text [] = 0
 values_of_units called text (u ∷ us) = values_of_unit called text u + values_of_units called text us
 
--- with how many values one call of each of these functions begins, taken together
+-- the number of values at the beginning of one call of each of these functions, taken together
 abbrev pub values_called : (Name → Bool) → Source → ℕ
 values_called called source = values_of_units called (declared_in source) (declared_in source).units

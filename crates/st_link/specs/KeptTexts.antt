@@ -1,5 +1,5 @@
--- The linked form of a text for programs that call these functions: another function is left out, and so is a function
--- or a block whose own variables are more than any layout has room for.
+-- The linked form of a text for programs that call these functions: another function is left out, and so is a
+-- function or a block whose own variables are more than any layout has room for.
 use Rattle.std.specs.Prelude.{◌≡◌, nat_lt, List, [], ◌∷◌, map, Bool, true, false, not, ◌&&◌, Option, Some, None}
 use Rattle.std.specs.Prelude.{option_map, option_and_then}
 use Rattle.st_types.specs.declared.limits.TheConstants.{MAX_PATHS}
@@ -27,11 +27,11 @@ function_fits text t u = not (is_too_large text (map (owned_variable None) (site
 abbrev pub block_fits : Declared → OrganisationUnit → Bool
 block_fits text u = not (nat_lt MAX_PATHS (sizes (members_of_block text u)))
 
--- a function is linked where it is called and has room
+-- a function is linked if it is called and has room
 abbrev pub is_linked : (Name → Bool) → Declared → SimpleType → OrganisationUnit → Bool
 is_linked called text t u = called u.name.name && function_fits text t u
 
--- what is not linked is left out
+-- a unit that is not linked is left out
 abbrev pub kept_if : {A : Type 0} → Bool → Option A → Option (Option A)
 kept_if true o = option_map (λ x. Some x) o
 kept_if false o = Some None
@@ -70,7 +70,7 @@ kept_library called text vs =
     option_and_then (λ functions. option_map (kept_library_with functions) (kept_blocks text vs text.units))
     (kept_functions called text text.units)
 
--- a linked text, of which what has no room is left out
+-- a linked text, without the units that have no room
 pub record KeptText : Type 0 where
   pub library : KeptLibrary
   pub programs : List SlotStmts
@@ -83,12 +83,12 @@ kept_text called text vs c =
     option_and_then (λ library. option_map (kept_text_with library) (linked_programs text vs c))
     (kept_library called text vs)
 
--- of a text, all of it over the literals as they are resolved
+-- of a text whose literals are all resolved
 abbrev pub kept_source : (Name → Bool) → Source → Option KeptText
 kept_source called source =
     kept_text called (declared_of source) (layout_variables source) (configuration_of source)
 
--- It is the text's linked form, but for what is left out.
+-- It is the text's linked form, except for the units that are left out.
 pub record IsKeptLink (kept : KeptText) (linked : LinkedText) : Type 0 where
   pub library : IsKeptOf kept.library linked.library
   pub programs : kept.programs ≡ linked.programs

@@ -1,4 +1,4 @@
--- Variables by what linking needs of their declarations.
+-- Variables by the parts of their declarations that linking needs.
 use Rattle.std.specs.Prelude.{List, [], ◌∷◌, ◌++◌, map, Bool, false, ◌&&◌, if◌then◌else◌}
 use Rattle.std.specs.List.{list_all}
 use Rattle.st_types.specs.declared.identifier.Identifier.{Identifier}
@@ -40,15 +40,15 @@ of_site d = record { name = d.name; declared = d.site.declared; is_input = false
 abbrev pub named_so : VariableType → Identifier → LinkVariable
 named_so t x = record { name = x.name; declared = t; is_input = false }
 
-abbrev pub variables_in : List Declaration → List LinkVariable
-variables_in [] = []
-variables_in (d ∷ ds) = map (named_so d.declared) d.names ++ variables_in ds
+abbrev pub link_variables : List Declaration → List LinkVariable
+link_variables [] = []
+link_variables (d ∷ ds) = map (named_so d.declared) d.names ++ link_variables ds
 
--- the variables of a unit, in order; externals are no variables of its own
+-- the variables of a unit, in order; externals aren't variables of its own
 abbrev pub variables_of_blocks : List VariableBlock → List LinkVariable
 variables_of_blocks [] = []
 variables_of_blocks (b ∷ bs) =
-    if is_external b.section then variables_of_blocks bs else variables_in b.declarations ++ variables_of_blocks bs
+    if is_external b.section then variables_of_blocks bs else link_variables b.declarations ++ variables_of_blocks bs
 
 -- the result of a function, whose name is the function's
 abbrev pub result_of : Name → SimpleType → LinkVariable
@@ -74,7 +74,7 @@ variables_by_sort (Function t) u = result_of u.name.name t ∷ variables_of_bloc
 variables_by_sort FunctionBlock u = variables_of_blocks u.blocks
 variables_by_sort Program u = variables_of_blocks u.blocks
 
--- Its type is expanded whole, and no two parts of one whole have one name.
+-- Its type is expanded whole, and no two parts of one whole have the same name.
 abbrev pub is_whole : Declared → LinkVariable → Bool
 is_whole text v = is_within_depth MAX_TYPE_DEPTH text v.declared && is_sound (shape_of_type text v.declared)
 

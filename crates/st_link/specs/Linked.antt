@@ -1,4 +1,4 @@
--- What units and instances of programs add to a linked text.
+-- The additions of units and of programs' instances to a linked text.
 use Rattle.std.specs.Prelude.{◌≡◌, ℕ, ◌+◌, ◌≤◌, List, [], ◌∷◌, ◌++◌, map, Bool, true, not, ◌&&◌, Option, Some, None}
 use Rattle.std.specs.Prelude.{is_none, option_and_then, option_map}
 use Rattle.std.specs.List.{list_all, list_any}
@@ -33,7 +33,7 @@ linked_text_view l = record {
   programs = map (λ b. slot_stmts_view b.items) l.programs.items;
 }
 
--- the slots of a function's inputs and of its result, and its body, by what the names in it stand for
+-- the slots of a function's inputs and of its result, and its body, by the meanings of its names
 abbrev pub function_parts : Table → OrganisationUnit → Option (List ℕ × ℕ × SlotStmts)
 function_parts t u =
     option_and_then (λ inputs. option_and_then (λ result. option_map (λ body. (inputs, result, body))
@@ -60,7 +60,7 @@ blocks_by text vs units.Program u = Some []
 abbrev pub blocks_of : Declared → List Owned → OrganisationUnit → Option (List (Option SlotStmts))
 blocks_of text vs u = blocks_by text vs u.sort u
 
--- the unit, where it is a program
+-- the unit, if it is a program
 abbrev pub if_program : UnitSort → OrganisationUnit → Option OrganisationUnit
 if_program units.Program u = Some u
 if_program units.FunctionBlock u = None
@@ -91,13 +91,13 @@ abbrev pub slots_of_instances : Declared → List OwnedProgram → ℕ
 slots_of_instances text [] = 0
 slots_of_instances text (p ∷ ps) = slots_taken text (variables_of_instance text p) + slots_of_instances text ps
 
--- no two instances have one owner
+-- no two instances have the same owner
 abbrev pub are_owners_different : List OwnedProgram → Bool
 are_owners_different [] = true
 are_owners_different (p ∷ ps) =
     not (list_any (λ q. same_owner (Some p.0) (Some q.0)) ps) && are_owners_different ps
 
--- A layout is of these globals and these instances, each of which has an owner of its own, and has room.
+-- A layout of these globals and these instances, each of which has an owner of its own, and it has room.
 pub record IsLayoutBy (text : Declared) (globals : List Owned) (ps : List OwnedProgram)
     (layout : List Owned) : Type 0 where
   pub is : layout ≡ globals ++ variables_of_programs text ps

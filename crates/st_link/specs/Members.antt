@@ -1,4 +1,4 @@
--- Members by their names, as tables tell them.
+-- Members by their names, as tables list them.
 use Rattle.std.specs.Prelude.{ℕ, List, Option}
 use Rattle.std.specs.Ordering.{nat_cmp}
 use Rattle.std.specs.Cmp.Lexicographic.{slice_cmp}

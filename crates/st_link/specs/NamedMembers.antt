@@ -19,7 +19,7 @@ name_and_type d = (d.name, d.site.declared)
 abbrev pub named_member_view : NamedMember → NamedType
 named_member_view m = (m.name.now, place_type_view m.declared)
 
--- a part, where it has a name, before others
+-- a part, if it has a name, before others
 abbrev pub named_part_then : PartStep → VariableType → List NamedType → List NamedType
 named_part_then (Member x) t rest = (x.now, t) ∷ rest
 named_part_then (Element z) t rest = rest
@@ -29,7 +29,7 @@ abbrev pub named_parts : List Part → List NamedType
 named_parts [] = []
 named_parts (p ∷ ps) = named_part_then p.step (place_type_view p.site.declared) (named_parts ps)
 
--- the members of what is made so
+-- the members of this composition
 abbrev pub members_in : Composition → List NamedType
 members_in (of_kind k) = []
 members_in (of_elements a) = []

@@ -1,4 +1,4 @@
--- What is asked of a text in which each literal has its type, so that its tables are those of the definitions.
+-- The conditions on a text with typed literals that make its tables agree with the definitions.
 use Rattle.std.specs.Prelude.{◌≡◌, ◌≤◌, List, [], Bool, true, Option, Some, None}
 use Rattle.std.specs.List.{list_all}
 use Rattle.st_types.specs.declared.limits.TheConstants.{MAX_PATHS}
@@ -31,8 +31,8 @@ layout_of source = variables_of_configuration (declared_in source) (configuratio
 abbrev pub kept_of : (Name → Bool) → Source → Option KeptText
 kept_of called source = kept_text called (declared_in source) (layout_of source) (configuration_in source)
 
--- Types of variables are expanded whole, no two parts of one whole have one name, no two instances of programs have one
--- owner, and the layout has room.
+-- Types of variables are expanded whole, no two parts of one whole have the same name, no two instances of programs
+-- have the same owner, and the layout has room.
 pub record IsOrderlySource (source : Source) : Type 0 where
   pub units : list_all (is_whole_unit (declared_in source)) (declared_in source).units ≡ true
   pub globals : are_whole (declared_in source) (globals_in (configuration_in source)) ≡ true

@@ -40,12 +40,12 @@ pub record Waits (text : Declared) (waiting : List OrganisationUnit) (x : Name) 
   pub named : unit_named text.units x ≡ Some unit
   pub among : IsAmong unit waiting
 
--- A unit stands in the text under its name, and is reached.
+-- A unit is in the text under its name, and is reached.
 pub record IsReachedUnit (text : Declared) (has : Name → Bool) (u : OrganisationUnit) : Type 0 where
   pub named : unit_named text.units u.name.name ≡ Some u
   pub reached : has u.name.name ≡ true
 
--- The units of these names were added, each of which waits where it is new. No unit is reached twice.
+-- The units of these names were added, each of which waits if it is new. No unit is reached twice.
 pub record Adds (text : Declared) (names : List Name) (old new : Worklist) : Type 0 where
   pub kept : (x : Name) → old.has x ≡ true → new.has x ≡ true
   pub there : (x : Name) → IsAmong x names → is_some (unit_named text.units x) ≡ true → new.has x ≡ true
@@ -59,7 +59,7 @@ pub record Adds (text : Declared) (names : List Name) (old new : Worklist) : Typ
 pub record IsFollowed (text : Declared) (has : Name → Bool) (u : OrganisationUnit) : Type 0 where
   pub all : (x : Name) → IsAmong x (callees_of u) → is_some (unit_named text.units x) ≡ true → has x ≡ true
 
--- What is reached is right, what does not wait is followed, and turns are left for all that still comes.
+-- The reached units are right, those that don't wait are followed, and turns are left for all that still come.
 pub record Follows (text : Declared) (programs : List Name) (turns : ℕ) (w : Worklist) : Type 0 where
   pub only : (x : Name) → w.has x ≡ true → IsReached text programs x
   pub roots : (x : Name) → IsAmong x programs → is_some (unit_named text.units x) ≡ true → w.has x ≡ true
@@ -68,12 +68,12 @@ pub record Follows (text : Declared) (programs : List Name) (turns : ℕ) (w : W
       → IsAmong u w.waiting ⊎ IsFollowed text w.has u
   pub room : number_left w.has text.units + length w.waiting ≤ turns
 
--- Just the units are found that these programs reach.
+-- Exactly the units that these programs reach are found.
 pub record FindsReached (text : Declared) (programs : List Name) (has : Name → Bool) : Type 0 where
   pub only : (x : Name) → has x ≡ true → IsReached text programs x
   pub each : (x : Name) → IsReached text programs x → is_some (unit_named text.units x) ≡ true → has x ≡ true
 
--- So are functions.
+-- Exactly the functions that they reach are found.
 pub record FindsFunctions (text : Declared) (programs : List Name) (has : Name → Bool) : Type 0 where
   pub only : (x : Name) → has x ≡ true → IsReached text programs x
   pub each : (x : Name) → IsReached text programs x → is_function text x ≡ true → has x ≡ true

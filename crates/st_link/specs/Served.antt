@@ -11,18 +11,19 @@ use Rattle.st_meaning.specs.Scopes.{Name}
 use Rattle.st_meaning.specs.StandardBlocks.{inputs_of, outputs_of}
 use Rattle.st_rules.specs.Environments.{Environment, own, type_of_name, section_of, callee_of, is_block}
 use Rattle.st_rules.specs.TargetRules.{is_fixed}
+use Rattle.st_rules.specs.TypeRules.{elements_of_array}
 use Rattle.st_link.specs.Soundness.{IsKnown, AreKnown, IsTypeIn}
-use Rattle.layout.specs.Types.{of_elements, composition_of, count_of, shape_within, is_within_depth}
+use Rattle.layout.specs.Types.{of_elements, composition_of, shape_within, is_within_depth}
 use Rattle.st_link.specs.Homes.{are_names_different}
 use Rattle.slot_trees.specs.Tables.{Symbol, Table, symbol_of, named_in}
-use Rattle.slot_trees.specs.LinkedStatements.{code_of}
+use Rattle.slot_trees.specs.LinkedStatements.{block_code_of}
 
--- it is there
+-- it exists
 pub record IsLinked {A : Type 0} (o : Option A) : Type 0 where
   pub value : A
   pub is : o ≡ Some value
 
--- the symbol of a variable has the shape of its type, and is no input of the plant where it is not fixed
+-- the symbol of a variable has the shape of its type, and isn't an input of the plant unless it is fixed
 pub record HasSymbol (env : Environment) (symbols : List Symbol) (x : Name) (t : VariableType) : Type 0 where
   pub symbol : Symbol
   pub there : symbol_of symbols x ≡ Some symbol
@@ -32,13 +33,13 @@ pub record HasSymbol (env : Environment) (symbols : List Symbol) (x : Name) (t :
   pub shape : symbol.shape ≡ shape_within depth env.text t
 
 -- each variable has a symbol, each function of the text that may be called a number, and each instance a block; an
--- instance is not fixed
+-- instance isn't fixed
 pub record Serves (env : Environment) (t : Table) : Type 0 where
   pub symbols : (x : Name) (s : VariableType) → type_of_name env x ≡ Some s → HasSymbol env t.symbols x s
   pub functions : (f : Name) (inputs : List (Option Kind)) (result : Option Kind)
       → callee_of env f ≡ Some (own inputs result) → IsLinked (named_in t.functions f)
   pub instances : (x : Name) (b : Identifier) → type_of_name env x ≡ Some (types.Simple (Named b))
-      → is_block env.text b.name ≡ true → IsLinked (code_of t x)
+      → is_block env.text b.name ≡ true → IsLinked (block_code_of t x)
   pub free : (x : Name) (b : Identifier) → type_of_name env x ≡ Some (types.Simple (Named b))
       → is_block env.text b.name ≡ true → is_fixed (section_of env x) ≡ false
 
@@ -46,11 +47,11 @@ pub record Serves (env : Environment) (t : Table) : Type 0 where
 abbrev pub AreBounded : Environment → Type 0
 AreBounded env =
     (s : VariableType) → IsTypeIn env s → (a : ArrayType) → composition_of env.text s ≡ of_elements a
-    → nat_lt 0 (count_of a) ≡ true
+    → nat_lt 0 (elements_of_array a) ≡ true
 
--- What a unit of a text that breaks no rule has: names differ, and no block bears the name of a type; the types of its
--- variables and of their parts stand for something, and so do those of inputs and outputs of blocks; its arrays have
--- elements.
+-- The properties of a unit of a text that breaks no rule: names differ, and no block has the name of a type; the
+-- types of its variables and of their parts are known, and so are those of inputs and outputs of blocks; its arrays
+-- have elements.
 pub record IsOrderly (env : Environment) : Type 0 where
   pub names : are_names_different env.text ≡ true
   pub apart : (b : Name) → is_block env.text b ≡ true → type_named env.text.types b ≡ None

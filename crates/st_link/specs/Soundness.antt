@@ -1,4 +1,4 @@
--- What the values of well-typed expressions are, and that no fault of theirs stands for what is ill typed.
+-- The values of well-typed expressions, and that none of their faults is a stand-in for an ill-typed case.
 use Rattle.std.specs.Prelude.{◌≡◌, ℕ, ℤ, List, [], ◌∷◌, ◌||◌, true, false, Option, Some, Result, Ok, Err, IsSome}
 use Rattle.std.specs.Prelude.{is_some}
 use Rattle.std.specs.List.{list_all}
@@ -10,7 +10,7 @@ use Rattle.st_types.specs.Paths.{Path}
 use Rattle.st_types.specs.declared.data_type.VariableType.{VariableType}
 use Rattle.st_types.specs.Expressions.{Expr, Variable, Selector}
 use Rattle.st_types.specs.Statements.{assign}
-use Rattle.st_meaning.specs.Failures.{StandIns}
+use Rattle.st_meaning.specs.Failures.{StuckFaults}
 use Rattle.st_meaning.specs.Stores.{Store, get, has_part}
 use Rattle.st_meaning.specs.Scopes.{Name, Units, Scope, path_in, member_at, seen}
 use Rattle.st_meaning.specs.Evaluation.{value, known, element_at}
@@ -30,30 +30,29 @@ use Rattle.st_rules.specs.Statements.{Context, placed}
 use Rattle.st_rules.specs.TargetRules.{is_fixed}
 use Rattle.st_rules.specs.BodyRules.{wrong_statement}
 
--- a value of the type, and one that the type holds
+-- a value of the type, in the type's range
 pub record IsOf (k : Kind) (d : Datum) : Type 0 where
   pub kind : d.kind ≡ k
   pub held : holds d.kind d.number ≡ true
 
--- such a value is there
+-- there is such a value
 pub record HasKind (o : Option Datum) (k : Kind) : Type 0 where
   pub datum : Datum
   pub there : o ≡ Some datum
   pub is_of : IsOf k datum
 
--- Two runs end alike: with one fault, or with one result, which has a property, and as many ticks left.
-abbrev pub Alike : {A : Type 0} → (A → Type 0) → Result (A × ℕ) Fault → Result (A × ℕ) Fault → Type 0
-Alike P (Ok r) (Ok q) = (r ≡ q) × P r.0
-Alike P (Err e) (Err f) = e ≡ f
-Alike P (Ok r) (Err f) = ⊥
-Alike P (Err e) (Ok q) = ⊥
+-- Two runs end alike: with the same fault, or with the same result, which has a property, and as many ticks left.
+abbrev pub EndsAlikeIn : {A : Type 0} → (A → Type 0) → Result (A × ℕ) Fault → Result (A × ℕ) Fault → Type 0
+EndsAlikeIn P (Ok r) (Ok q) = (r ≡ q) × P r.0
+EndsAlikeIn P (Err e) (Err f) = e ≡ f
+EndsAlikeIn P (Ok r) (Err f) = ⊥
+EndsAlikeIn P (Err e) (Ok q) = ⊥
 
--- where a body runs, with other units and other faults for what no well-typed text meets
-abbrev pub standing : Units → StandIns → Scope → Scope
-standing u i w = record w { units = u; stand_ins = i }
+-- a body's scope, with other units and other faults for the cases that no well-typed text meets
+abbrev pub with_units : Units → StuckFaults → Scope → Scope
+with_units u i w = record w { units = u; stuck_faults = i }
 
--- A place that is reached from a variable of the unit by members and by elements that are there, with its declared
--- type.
+-- A place that is reached from a variable of the unit by members and by elements that exist, with its declared type.
 pub data IsPlace (env : Environment) (w : Scope) (s : Store) : Name → Path → VariableType → Type 0 where
   root : {t : VariableType} (x : Name) → type_of_name env x ≡ Some t → IsPlace env w s x (path_in w.frame w.body x) t
   part : {x : Name} {p : Path} {t u : VariableType} (y : Name) → IsPlace env w s x p t
@@ -62,16 +61,15 @@ pub data IsPlace (env : Environment) (w : Scope) (s : Store) : Name → Path →
       → element_type (definition_of env.text t) ≡ Some u
       → (has_part w.image (element_at p z) || has_part s (element_at p z)) ≡ true → IsPlace env w s x (element_at p z) u
 
--- Each place of an elementary or enumerated type has a value of that type, and one that may be assigned has it among
--- the
--- variables.
+-- Each place of an elementary or enumerated type has a value of that type, and a place that may be assigned has it
+-- among the variables.
 pub record Agrees (env : Environment) (w : Scope) (s : Store) : Type 0 where
   pub values : {x : Name} {p : Path} {t : VariableType} (k : Kind) → IsPlace env w s x p t
       → kind_among env.text.types t ≡ Some k → HasKind (known (seen w.image s p)) k
   pub stored : {x : Name} {p : Path} {t : VariableType} (k : Kind) → IsPlace env w s x p t
       → is_fixed (section_of env x) ≡ false → kind_among env.text.types t ≡ Some k → HasKind (get s p) k
 
--- What is left of a store has the same parts, and a value of each type where it had one.
+-- The store after a run has the same parts, and a value of each type where it had one.
 pub record Keeps (s t : Store) : Type 0 where
   pub parts : (p : Path) → has_part t p ≡ has_part s p
   pub kinds : (p : Path) (k : Kind) → HasKind (get s p) k → HasKind (get t p) k
@@ -87,9 +85,9 @@ abbrev pub UnitsAgree : Environment → Units → Units → Type 0
 UnitsAgree env u v =
     (f : Name) (inputs : List (Option Kind)) (k : Kind) (vs : List Datum) (budget : ℕ)
     → callee_of env f ≡ Some (own inputs (Some k)) → AreOf inputs vs
-    → Alike (IsOf k) (u.functions f vs budget) (v.functions f vs budget)
+    → EndsAlikeIn (IsOf k) (u.functions f vs budget) (v.functions f vs budget)
 
--- a type that stands for something
+-- a type that is known
 abbrev pub IsKnown : Declared → VariableType → Type 0
 IsKnown text t = is_nothing (typing_of_type text (Some t)) ≡ false
 
@@ -99,8 +97,7 @@ pub data IsTypeIn (env : Environment) : VariableType → Type 0 where
   of_part : {t u : VariableType} (x : Selector) → IsTypeIn env t → selected_type env.text t x ≡ Some u
       → IsTypeIn env u
 
--- The types of the unit's variables and of their parts stand for something, and so do the inputs and results of
--- functions.
+-- The types of the unit's variables and of their parts are known, and so are the inputs and results of functions.
 pub record AreKnown (env : Environment) : Type 0 where
   pub types : (t : VariableType) → IsTypeIn env t → IsKnown env.text t
   pub inputs : (f : Name) (inputs : List (Option Kind)) (result : Option Kind)
@@ -111,22 +108,22 @@ pub record AreKnown (env : Environment) : Type 0 where
 -- The law of expressions. Units and stand-ins of the two runs may differ.
 abbrev pub ValuesAreSound : Type 0
 ValuesAreSound =
-    (env : Environment) (w : Scope) (s : Store) (u v : Units) (i j : StandIns) (d : Demand) (e : Expr) (k : Kind)
+    (env : Environment) (w : Scope) (s : Store) (u v : Units) (i j : StuckFaults) (d : Demand) (e : Expr) (k : Kind)
     (budget : ℕ)
     → Agrees env w s → UnitsAgree env u v → AreKnown env → wrong_expression env d e ≡ []
     → settled (expected_of d) (typing_of env e) ≡ Elementary k
-    → Alike (IsOf k) (value (standing u i w) s (resolved_expr env.text env.unit (expected_of d) e) budget)
-    (value (standing v j w) s (resolved_expr env.text env.unit (expected_of d) e) budget)
+    → EndsAlikeIn (IsOf k) (value (with_units u i w) s (resolved_expr env.text env.unit (expected_of d) e) budget)
+    (value (with_units v j w) s (resolved_expr env.text env.unit (expected_of d) e) budget)
 
--- what is left agrees
+-- the store after a run agrees
 abbrev pub LeavesAgreeing : Environment → Scope → End → Type 0
 LeavesAgreeing env w e = Agrees env w (store_of e)
 
--- The law of assignments. The store that one leaves agrees as the one before it did.
+-- The law of assignments. The store after one agrees as the one before it did.
 abbrev pub AssignmentsAreSound : Type 0
 AssignmentsAreSound =
-    (env : Environment) (w : Scope) (s : Store) (u v : Units) (i j : StandIns) (c : Context) (x : Variable) (e : Expr)
+    (env : Environment) (w : Scope) (s : Store) (u v : Units) (i j : StuckFaults) (c : Context) (x : Variable) (e : Expr)
     (budget : ℕ)
     → Agrees env w s → UnitsAgree env u v → AreKnown env → wrong_statement env (placed c (assign x e)) ≡ []
-    → Alike (LeavesAgreeing env w) (exec (standing u i w) (resolved_stmt env.text env.unit (assign x e)) s budget)
-    (exec (standing v j w) (resolved_stmt env.text env.unit (assign x e)) s budget)
+    → EndsAlikeIn (LeavesAgreeing env w) (exec (with_units u i w) (resolved_stmt env.text env.unit (assign x e)) s budget)
+    (exec (with_units v j w) (resolved_stmt env.text env.unit (assign x e)) s budget)

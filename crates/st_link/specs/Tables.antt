@@ -1,4 +1,4 @@
--- Tables of a text that are those of the definitions.
+-- Tables of a text that agree with the definitions.
 use Rattle.std.specs.Prelude.{◌≡◌, ℕ, List, [], ◌∷◌, Bool, true, false, Option, Some, None, option_and_then}
 use Rattle.std.specs.Prelude.{option_map, is_some}
 use Rattle.st_types.specs.declared.path.Owner.{Owner}
@@ -10,7 +10,7 @@ use Rattle.symbols.specs.Found.{found}
 use Rattle.symbols.specs.Texts.{ServesText}
 use Rattle.layout.specs.LayoutVariables.{Owned}
 use Rattle.layout.specs.Libraries.{instance_then}
-use Rattle.layout.specs.Standing.{variable_at}
+use Rattle.layout.specs.VariableSlots.{variable_at}
 use Rattle.layout.specs.Types.{BlockType, instance_of}
 use Rattle.layout.specs.Compositions.{ServesTypes}
 use Rattle.slot_trees.specs.StatementViews.{block_code_view}
@@ -34,11 +34,11 @@ pub record ServesLinks (t : TextTables) (text : Declared) (gs : List LinkVariabl
   pub globals : (x : Name)
       → Agree (IsSymbol text) (found t.globals x) (symbol_among text (absolute 0) gs x)
 
--- the block of a variable's type, where it is an instance
+-- the block of a variable's type, if it is an instance
 abbrev pub code_of_block : Declared → BlockType → Option BlockCode
 code_of_block text b = code_named text b.name (block_of b.name)
 
--- The code is the block's, where there is a block.
+-- The code is the block's, if there is a block.
 pub record IsCode (text : Declared) (c : Option code_block.BlockCode) (b : Option BlockType) : Type 0 where
   pub code : option_map block_code_view c ≡ option_and_then (code_of_block text) b
   pub there : is_some c ≡ is_some b
@@ -52,7 +52,7 @@ abbrev pub has_some : {A : Type 0} → List A → Bool
 has_some [] = false
 has_some (x ∷ xs) = true
 
--- A table of a body is that of these names: externals, and own variables that begin there; and of these instances.
+-- A table of a body has these names: externals, and own variables that begin there; and these instances.
 pub record IsUnitTable (text : Declared) (globals : List LinkVariable) (externals : List Name) (base : Anchor)
     (vs own : List LinkVariable) (t : Table) : Type 0 where
   pub symbols : (x : Name) → symbol_of t.symbols x ≡ unit_symbol text globals externals base vs x

@@ -7,7 +7,7 @@ ghost use Rattle.st_types.specs.UnitViews.{unit_view};
 ghost use Rattle.st_meaning.specs.Bodies.{externals_in};
 ghost use Rattle.st_meaning.specs.NameTypes.{Declared};
 ghost use Rattle.layout.specs.LayoutVariables.{Owned};
-ghost use Rattle.layout.specs.Sizes.{cut};
+ghost use Rattle.layout.specs.Sizes.{capped_size};
 ghost use Rattle.slot_trees.specs.Tables.{Table};
 ghost use Rattle.slot_trees.specs.TextLinks.{linked_program};
 ghost use Rattle.slot_trees.specs.ExpressionViews.{anchor_view};
@@ -30,7 +30,7 @@ use st_types::Unit;
 use st_types::limits::MAX_PATHS;
 use std::alloc::{AllocError, Global};
 
-/// The table of the body of a block or a program, whose own variables begin there.
+/// The table of the body of a block or a program, whose own variables begin at `base`.
 fn own_table<'t, 'a>(
     alloc: Global,
     tables: &'t TextTables<'a>,
@@ -41,7 +41,7 @@ fn own_table<'t, 'a>(
     ensures slots { IfOk result (λ made. (text : Declared) (globals : List LinkVariable)
         → ServesLinks tables.now text globals
         → are_whole text (variables_of_blocks (unit_view unit.now).blocks) ≡ true
-        → made.slots ≡ cut (slots_taken text (variables_of_blocks (unit_view unit.now).blocks))) }
+        → made.slots ≡ capped_size (slots_taken text (variables_of_blocks (unit_view unit.now).blocks))) }
     ensures serves { IfOk result (λ made. (text : Declared) (globals : List LinkVariable) (t : Table)
         → ServesLinks tables.now text globals
         → are_whole text (variables_of_blocks (unit_view unit.now).blocks) ≡ true → first_slot (anchor_view base)
@@ -55,7 +55,7 @@ fn own_table<'t, 'a>(
     unit_table(alloc, tables, &externals, base, &variables, &variables)
 }
 
-/// A function block; None where its members are more than a layout has room for.
+/// A function block; None if its members are more than a layout has room for.
 pub fn link_block<'a>(
     alloc: Global,
     tables: &TextTables<'a>,
@@ -77,7 +77,7 @@ pub fn link_block<'a>(
     Ok(Some(link_statements(alloc, &made.table, &unit.body)?))
 }
 
-/// A program's body, and how many slots its variables take; 4,097 where they are more than 4,096.
+/// A program's body, and how many slots its variables take; 4,097 if they are more than 4,096.
 #[derive(Drop)]
 pub struct LinkedProgram {
     pub body: Vec<SlotStmt>,
@@ -95,7 +95,7 @@ pub fn link_program<'a>(
     ensures slots { IfOk result (λ program. (text : Declared) (globals : List LinkVariable)
         → ServesLinks tables.now text globals
         → are_whole text (variables_of_blocks (unit_view unit.now).blocks) ≡ true
-        → program.slots ≡ cut (slots_taken text (variables_of_blocks (unit_view unit.now).blocks))) }
+        → program.slots ≡ capped_size (slots_taken text (variables_of_blocks (unit_view unit.now).blocks))) }
     ensures linked { IfOk result (λ program. (text : Declared) (globals : List LinkVariable) (layout : List Owned)
         (owner : Owner) → ServesLinks tables.now text globals → AreGlobals text layout globals
         → are_whole text (variables_of_blocks (unit_view unit.now).blocks) ≡ true

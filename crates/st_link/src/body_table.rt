@@ -1,10 +1,10 @@
-//! What the names of a body stand for.
+//! The meanings of the names of a body.
 
 ghost use Rattle.std.specs.Prelude.{◌≡◌, option_map};
 ghost use Rattle.st_meaning.specs.NameTypes.{Declared};
 ghost use Rattle.symbols.specs.Agreeing.{Agree};
 ghost use Rattle.slot_trees.specs.StatementViews.{block_code_view};
-ghost use Rattle.slot_trees.specs.LinkedStatements.{code_of};
+ghost use Rattle.slot_trees.specs.LinkedStatements.{block_code_of};
 ghost use Rattle.slot_trees.specs.Tables.{Table, named_in, symbol_of};
 ghost use Rattle.st_link.specs.BodyTables.{IsSymbol, ServesBody};
 
@@ -13,7 +13,7 @@ use slot_trees::{Anchor, BlockCode};
 use st_types::Name;
 use symbols::{Index, PlaceType};
 
-/// A variable: where it begins, whether it is an input of the plant, and how it is declared.
+/// A variable: where it begins, whether it is an input of the plant, and its declared type.
 #[derive(Clone, Copy)]
 pub struct LinkSymbol<'a> {
     pub anchor: Anchor,
@@ -21,7 +21,7 @@ pub struct LinkSymbol<'a> {
     pub declared: PlaceType<'a>,
 }
 
-/// What the names of a body stand for: its variables, the blocks of its instances, and the functions of the text by
+/// The meanings of the names of a body: its variables, the blocks of its instances, and the functions of the text by
 /// their numbers.
 pub struct BodyTable<'t, 'a> {
     pub shapes: &'t ShapeTables<'a>,
@@ -53,7 +53,7 @@ impl<'t, 'a> BodyTable<'t, 'a> {
     /// The block of an instance.
     pub fn code(&self, name: &Name) -> Option<BlockCode>
         ensures { (text : Declared) (t : Table) → ServesBody self.now text t
-            → option_map block_code_view result ≡ code_of t name.now }
+            → option_map block_code_view result ≡ block_code_of t name.now }
     {
         self.codes.find(name)
     }

@@ -1,4 +1,4 @@
-//! The functions that programs call, directly or through what they call.
+//! The functions that programs call, directly or through other units.
 
 ghost use Rattle.std.specs.Prelude.{◌≡◌, ◌++◌, ◌∷◌, ◌^◌, ◌-◌, [], List, length, map, min, option_map, is_some};
 ghost use Rattle.std.specs.Prelude.{true, ℕ, IfOk, OnOk};
@@ -15,7 +15,7 @@ ghost use Rattle.layout.specs.Shapes.{size};
 ghost use Rattle.layout.specs.Types.{is_within_depth, shape_of_type};
 ghost use Rattle.layout.specs.Compositions.{ServesTypes};
 ghost use Rattle.layout.specs.Instances.{instance_view};
-ghost use Rattle.layout.specs.Sizes.{ServesSizes, cut};
+ghost use Rattle.layout.specs.Sizes.{ServesSizes, capped_size};
 ghost use Rattle.st_link.specs.CalledFunctions.{IsCalled, block_among, block_called, callees_of, if_room, is_called};
 ghost use Rattle.st_link.specs.CalledFunctions.{name_of_type, program_count, programs_among, value_count};
 ghost use Rattle.st_link.specs.CalledFunctions.{values_called, values_of_call};
@@ -60,7 +60,7 @@ struct Reached<'a> {
 }
 
 impl<'a> Reached<'a> {
-    /// Adds a unit, where it is there and new.
+    /// Adds a unit, if it exists and is new.
     fn add(&mut self, unit: Option<&'a Unit>) -> Result<(), AllocError>
         ensures { OnOk result ((text : Declared) (x : List ℕ)
             → option_map (λ u. unit_view u.now) unit.entry ≡ unit_named text.units x
@@ -246,7 +246,7 @@ fn has_functions(units: &[&Unit]) -> bool
     false
 }
 
-/// The units that the programs of these instances reach; of a text without functions nothing is walked.
+/// The units that the programs of these instances reach; for a text without functions nothing is walked.
 fn called_from<'a>(
     alloc: Global,
     types: &Types<'a>,
@@ -277,7 +277,7 @@ fn instances_of<'a>(
     }
 }
 
-/// How many slots a variable of the type takes; 4,097 where it takes more than 4,096.
+/// How many slots a variable of the type takes; 4,097 if it takes more than 4,096.
 fn slots_of<'a>(
     alloc: Global,
     sizes: &mut Sizes<'a>,
@@ -286,7 +286,7 @@ fn slots_of<'a>(
     ensures serves { OnOk result ((text : Declared) → ServesSizes sizes.old text → ServesSizes sizes.new text) }
     ensures slots { IfOk result (λ n. (text : Declared) → ServesSizes sizes.old text
         → is_within_depth MAX_TYPE_DEPTH text (place_type_view declared.entry) ≡ true
-        → n ≡ cut (size (shape_of_type text (place_type_view declared.entry)))) }
+        → n ≡ capped_size (size (shape_of_type text (place_type_view declared.entry)))) }
 {
     match sizes.size_of(alloc, declared)? {
         Some(size) => Ok(size),
@@ -294,7 +294,7 @@ fn slots_of<'a>(
     }
 }
 
-/// How many slots variables take; 4,097 where they take more than 4,096.
+/// How many slots variables take; 4,097 if they take more than 4,096.
 fn slots_of_all<'a>(
     alloc: Global,
     sizes: &mut Sizes<'a>,
@@ -303,7 +303,7 @@ fn slots_of_all<'a>(
     ensures serves { OnOk result ((text : Declared) → ServesSizes sizes.old text → ServesSizes sizes.new text) }
     ensures slots { IfOk result (λ n. (text : Declared) → ServesSizes sizes.old text
         → are_whole text (map variable_view variables.now) ≡ true
-        → n ≡ cut (slots_taken text (map variable_view variables.now))) }
+        → n ≡ capped_size (slots_taken text (map variable_view variables.now))) }
 {
     let mut slots = 0;
     for variable in variables {
@@ -313,14 +313,14 @@ fn slots_of_all<'a>(
     Ok(slots)
 }
 
-/// So many values; 0 where a layout has no room for them.
+/// The number of values; 0 if a layout has no room for them.
 fn if_room(values: usize) -> usize
     ensures { result ≡ if_room values }
 {
     if values > MAX_PATHS { 0 } else { values }
 }
 
-/// How many values a call of a function begins with; 0 where a layout has no room for them.
+/// The number of values at the beginning of a call of a function; 0 if a layout has no room for them.
 fn values_of_call<'a>(
     alloc: Global,
     sizes: &mut Sizes<'a>,
@@ -337,7 +337,7 @@ fn values_of_call<'a>(
     Ok(if_room(slots))
 }
 
-/// The same of a unit; 0 where it is no function, or one that is not called.
+/// The same for a unit; 0 if it isn't a function, or one that is not called.
 fn values_of_unit<'a>(
     alloc: Global,
     sizes: &mut Sizes<'a>,
@@ -362,7 +362,7 @@ fn values_of_unit<'a>(
     }
 }
 
-/// How many values one call of each of the functions begins with, taken together; at most what a `usize` holds.
+/// The number of values at the beginning of one call of each of the functions, in total; at most the greatest `usize`.
 fn values_of_all<'a>(
     alloc: Global,
     sizes: &mut Sizes<'a>,
@@ -416,7 +416,7 @@ impl<'a> CalledFunctions<'a> {
         self.units.get(function).is_some()
     }
 
-    /// How many values one call of each of the functions begins with, taken together.
+    /// The number of values at the beginning of one call of each of the functions, in total.
     pub fn values(&self) -> usize
         ensures { result ≡ value_count self.now }
     {

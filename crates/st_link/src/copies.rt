@@ -24,7 +24,7 @@ fn copied_value(alloc: Global, value: &EnumeratedValue) -> Result<EnumeratedValu
     })
 }
 
-/// Another literal, written alike.
+/// Another literal with the same spelling.
 pub fn copied_literal(alloc: Global, literal: &Literal) -> Result<Literal, AllocError>
     ensures { IfOk result (λ l. l ≡ literal.now) }
 {

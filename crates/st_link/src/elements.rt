@@ -2,8 +2,8 @@
 
 use symbols::PlaceType;
 
-/// The elements of an array: their bounds, how many slots each takes, 4,097 where they are more than 4,096, and how
-/// each is declared.
+/// The elements of an array: their bounds, how many slots each takes, 4,097 if they are more than 4,096, and the
+/// declared type of each.
 #[derive(Clone, Copy)]
 pub struct Elements<'a> {
     pub lower: i128,

@@ -111,7 +111,7 @@ fn link_variable(alloc: Global, table: &BodyTable, variable: &Variable) -> Resul
     placed(table.shapes, symbol.anchor, reached)
 }
 
-/// Where selectors lead from a variable that is declared so.
+/// Where selectors lead from a variable of this declared type.
 #[cycle(link)]
 fn link_selectors<'a>(
     alloc: Global,

@@ -64,7 +64,7 @@ fn link_slots(
     Ok(slots)
 }
 
-/// The table of a function's body, whose variables begin at its call's first slot; an error where one is an instance.
+/// The table of a function's body, whose variables begin at its call's first slot; an error if one is an instance.
 fn function_table<'t, 'a>(
     alloc: Global,
     tables: &'t TextTables<'a>,
@@ -100,7 +100,7 @@ struct Parts {
     body: Vec<SlotStmt>,
 }
 
-/// What of a function the names of its body are needed for.
+/// The parts of a function that need the names of its body.
 fn link_parts(alloc: Global, table: &BodyTable, unit: &Unit) -> Result<Parts, LinkError>
     ensures linked { IfOk result (λ parts. (text : Declared) (t : Table) → ServesBody table.now text t
         → function_parts t (unit_view unit.now)
@@ -154,7 +154,7 @@ fn link_with<'a>(
     })
 }
 
-/// A function; None where it is not called, or its variables are more than a layout has room for.
+/// A function; None if it is not called, or its variables are more than a layout has room for.
 pub fn link_function<'a>(
     alloc: Global,
     tables: &TextTables<'a>,

@@ -20,7 +20,7 @@ use st_types::{Argument, Identifier};
 use std::alloc::Global;
 use symbols::PlaceType;
 
-/// Where an elementary member of an instance stands: so many slots behind the first one.
+/// The offset of an elementary member of an instance from its first slot.
 fn member_offset<'a>(
     table: &BodyTable<'_, 'a>,
     instance: PlaceType<'a>,
@@ -45,7 +45,7 @@ fn member_offset<'a>(
     Ok(member.offset)
 }
 
-/// An argument of a call of an instance that is declared so.
+/// An argument of a call of an instance of this declared type.
 fn link_argument<'a>(
     alloc: Global,
     table: &BodyTable<'_, 'a>,

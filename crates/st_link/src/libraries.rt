@@ -23,7 +23,7 @@ use slot_trees::{SlotFunction, SlotLibrary, SlotStmt};
 use st_types::{Unit, UnitSort};
 use std::alloc::Global;
 
-/// Appends a unit, where it is a function.
+/// Appends a unit, if it is a function.
 fn push_function<'a>(
     alloc: Global,
     tables: &TextTables<'a>,
@@ -69,7 +69,7 @@ fn link_functions<'a>(
     Ok(functions)
 }
 
-/// Appends a unit, where it is a function block.
+/// Appends a unit, if it is a function block.
 fn push_block<'a>(
     alloc: Global,
     tables: &TextTables<'a>,

@@ -9,11 +9,11 @@ use thiserror::Error;
 /// Why a body is not linked.
 #[derive(Clone, Copy, Debug, PartialEq, Eq, Error)]
 pub enum LinkError {
-    /// A name stands for nothing, or it leads to no elementary variable, or an input is assigned; or a variable takes
+    /// A name is unknown, or it doesn't lead to an elementary variable, or an input is assigned; or a variable takes
     /// more slots than a layout has room for.
     #[error("not there")]
     NotThere,
-    /// Memory ran out.
+    /// An allocation failed.
     #[error("M3")]
     OutOfMemory,
 }

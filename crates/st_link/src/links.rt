@@ -1,4 +1,4 @@
-//! Laws of what is linked.
+//! Laws of linked texts.
 
 ghost use Rattle.std.specs.Prelude.{◌≡◌, ℕ, [], Some, true, slice_get};
 ghost use Rattle.st_types.specs.declared.kind.Kind.{Kind};

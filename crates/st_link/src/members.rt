@@ -9,14 +9,14 @@ use std::alloc::{AllocError, Global};
 use std::collections::BTreeMap;
 use symbols::PlaceType;
 
-/// A member: how many slots stand before it, 4,097 where they are more than 4,096, and how it is declared.
+/// A member: how many slots come before it, 4,097 if they are more than 4,096, and its declared type.
 #[derive(Clone, Copy)]
 pub struct MemberPlace<'a> {
     pub offset: usize,
     pub declared: PlaceType<'a>,
 }
 
-/// The members of one whole; of several of one name the first.
+/// The members of one whole; if several have the same name, the first.
 pub struct Members<'a> {
     map: BTreeMap<&'a [u8], MemberPlace<'a>>,
 }
@@ -43,7 +43,7 @@ impl<'a> Members<'a> {
         self.map.get(name.as_slice()).copied()
     }
 
-    /// Adds a member behind the others.
+    /// Adds a member after the others.
     pub fn add(&mut self, name: &'a [u8], place: MemberPlace<'a>) -> Result<(), AllocError>
         ensures { OnOk result ((x : List ℕ) → member_found self.new x
             ≡ or_found (member_found self.old x) (if bytes_eq x name.now then Some place.entry else None)) }

@@ -16,7 +16,7 @@ pub struct NamedMember<'a> {
     pub declared: PlaceType<'a>,
 }
 
-/// Appends a part, where it has a name.
+/// Appends a part, if it has a name.
 fn push_part<'a>(members: &mut Vec<NamedMember<'a>>, part: Part<'a>) -> Result<(), AllocError>
     ensures { IfOk result (λ done. map named_member_view members.new.items
         ≡ map named_member_view members.old.items ++ named_parts (part.entry ∷ [])) }
@@ -41,7 +41,7 @@ fn named_parts<'a>(alloc: Global, parts: &[Part<'a>]) -> Result<Vec<NamedMember<
     Ok(members)
 }
 
-/// The members of what is made so, with their types; an array has none.
+/// The members of a composition, with their types; an array has none.
 pub fn members_of<'a>(
     alloc: Global,
     composed: Composition<'a>,
@@ -52,7 +52,7 @@ pub fn members_of<'a>(
     if let Composition::Elements(_) = composed {
         return Ok(Vec::new(alloc));
     }
-    // Their names and types hang on nothing that is said of the whole.
+    // Their names and types don't depend on the facts about the whole.
     let whole = Site {
         declared: PlaceType::Standard(Kind::Bool),
         initial: None,

@@ -47,7 +47,7 @@ fn block_names<'a>(alloc: Global, units: &[&'a Unit]) -> Result<Vec<&'a Name>, A
     Ok(names)
 }
 
-/// The position of each name; of several of one name the first.
+/// The position of each name; if several are the same, that of the first.
 fn numbered<'a>(alloc: Global, names: &[&'a Name]) -> Result<Index<'a, usize>, AllocError>
     ensures { IfOk result (λ numbers. (x : List ℕ) → found numbers x
         ≡ named_in (numbered_from 0 (map (λ y. y.now) names.now)) x) }

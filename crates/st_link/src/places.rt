@@ -24,8 +24,8 @@ use st_types::Identifier;
 use st_types::limits::MAX_PATHS;
 use symbols::PlaceType;
 
-/// What selectors lead to: so many slots further, 4,097 where they are more than 4,096, by these subscripts, to what is
-/// declared so.
+/// The target of selectors: a number of slots further, 4,097 if they are more than 4,096, by these subscripts, a part
+/// of this declared type.
 #[derive(Drop)]
 pub struct Reached<'a> {
     pub offset: usize,
@@ -33,7 +33,7 @@ pub struct Reached<'a> {
     pub declared: PlaceType<'a>,
 }
 
-/// A member of what was reached.
+/// A member of the part that was reached.
 pub fn at_member<'a>(
     shapes: &ShapeTables<'a>,
     reached: Reached<'a>,
@@ -56,7 +56,7 @@ pub fn at_member<'a>(
     })
 }
 
-/// The elements of what was reached, which take room.
+/// The elements of the part that was reached, which take room.
 pub fn elements_at<'a>(
     shapes: &ShapeTables<'a>,
     declared: PlaceType<'a>,
@@ -89,7 +89,7 @@ pub fn elements_at<'a>(
     Ok(elements)
 }
 
-/// An element of what was reached.
+/// An element of the part that was reached.
 pub fn at_element<'a>(
     reached: Reached<'a>,
     elements: Elements<'a>,
@@ -121,7 +121,7 @@ pub fn at_element<'a>(
     })
 }
 
-/// So many slots further.
+/// An anchor moved on by a number of slots.
 fn moved(anchor: Anchor, offset: usize) -> Option<Anchor>
     ensures there { IfSome result (λ a. anchor_view a ≡ moved (anchor_view anchor) offset) }
     ensures none { IfNone result (2 ^ 64 ≤ first_slot (anchor_view anchor) + offset) }

@@ -7,7 +7,7 @@ ghost use Rattle.st_types.specs.UnitViews.{unit_view};
 ghost use Rattle.st_meaning.specs.NameTypes.{Declared, unit_named};
 ghost use Rattle.layout.specs.LayoutVariables.{Owned};
 ghost use Rattle.layout.specs.Instances.{instance_view};
-ghost use Rattle.layout.specs.Sizes.{cut};
+ghost use Rattle.layout.specs.Sizes.{capped_size};
 ghost use Rattle.slot_trees.specs.StatementViews.{slot_stmts_view};
 ghost use Rattle.st_link.specs.FirstSlots.{slots_taken};
 ghost use Rattle.st_link.specs.Gathered.{IsAppended, gathered};
@@ -36,8 +36,8 @@ fn program_named<'a>(tables: &TextTables<'a>, name: &Name) -> Option<&'a Unit>
     }
 }
 
-/// Appends the program of an instance whose variables begin at this slot. Answers the slot behind them; 4,097 where
-/// there is no room for them.
+/// Appends the program of an instance whose variables begin at this slot. Answers the slot after them; 4,097 if they
+/// have no room.
 fn push_program<'a>(
     alloc: Global,
     tables: &TextTables<'a>,
@@ -48,7 +48,7 @@ fn push_program<'a>(
     requires { first ≤ MAX_PATHS + 1 }
     ensures next { IfOk result (λ next. (text : Declared) (globals : List LinkVariable)
         → ServesLinks tables.now text globals → list_all (is_whole_unit text) text.units ≡ true
-        → next ≡ cut (first + slots_taken text (variables_of_instance text (instance_view instance.entry)))) }
+        → next ≡ capped_size (first + slots_taken text (variables_of_instance text (instance_view instance.entry)))) }
     ensures small { IfOk result (λ next. next ≤ MAX_PATHS + 1) }
     ensures linked { OnOk result ((text : Declared) (globals : List LinkVariable) (layout : List Owned)
         → ServesLinks tables.now text globals → AreGlobals text layout globals
@@ -76,7 +76,7 @@ fn push_program<'a>(
     Ok(next)
 }
 
-/// The programs of instances, in order, where these variables stand behind the globals.
+/// The programs of instances, in order, if their variables come after the globals.
 pub fn link_programs<'a>(
     alloc: Global,
     tables: &TextTables<'a>,

@@ -9,16 +9,16 @@ ghost use Rattle.symbols.specs.PlaceTypes.{place_type_view};
 ghost use Rattle.layout.specs.Shapes.{no_parts, of_structure, parts, size};
 ghost use Rattle.layout.specs.Types.{shape_of_type};
 ghost use Rattle.layout.specs.Compositions.{named_type};
-ghost use Rattle.layout.specs.Sizes.{cut};
-ghost use Rattle.st_link.specs.Shapes.{AreElements, IsExpanded, IsMemberPlace, IsWhole, has_parts};
+ghost use Rattle.layout.specs.Sizes.{capped_size};
+ghost use Rattle.st_link.specs.Shapes.{AreElements, IsExpanded, IsMemberPlace, IsAggregate, has_parts};
 ghost use Rattle.st_link.specs.Shapes.{ServesShapes, is_array, is_plain, member_of};
 
+use crate::aggregates::{Aggregate, add_types, add_units};
 use crate::elements::Elements;
 use crate::members::MemberPlace;
 use crate::standards::Standards;
-use crate::wholes::{Whole, add_types, add_units};
-use layout::{Composition, Sizes, Types, count_of, product};
-use st_decl::{types_in, units_in};
+use layout::{Composition, Sizes, Types, product};
+use st_decl::{elements_of_array, types_in, units_in};
 use st_meaning::number_of;
 use st_types::{Name, SimpleType, Source};
 use std::alloc::{AllocError, Global};
@@ -27,7 +27,7 @@ use symbols::{Index, PlaceType, standard_block};
 /// The types and blocks of a text, with their sizes and members.
 pub struct ShapeTables<'a> {
     types: Types<'a>,
-    wholes: Index<'a, Whole<'a>>,
+    wholes: Index<'a, Aggregate<'a>>,
     standards: Standards<'a>,
 }
 
@@ -57,25 +57,25 @@ impl<'a> ShapeTables<'a> {
         })
     }
 
-    /// What is kept of the type or the block of this name; nothing where there is none.
-    fn kept(&self, name: &Name) -> Option<&Whole<'a>>
+    /// The entry of the type or the block of this name; nothing if there is none.
+    fn kept(&self, name: &Name) -> Option<&Aggregate<'a>>
         ensures { (text : Declared) (at : ℕ) → ServesShapes self.now text → IsExpanded text (named_type name.now at)
             → MatchOption result (shape_of_type text (named_type name.now at) ≡ parts of_structure no_parts)
-            (λ whole. IsWhole text (named_type name.now at) whole.now) }
+            (λ whole. IsAggregate text (named_type name.now at) whole.now) }
     {
         if let Some(whole) = self.wholes.get(name) {
             return Some(whole);
         }
         match standard_block(name) {
-            Some(block) => Some(self.standards.whole(block)),
+            Some(block) => Some(self.standards.aggregate(block)),
             None => None,
         }
     }
 
-    /// How many slots a variable of a type or a block of this name takes, cut off.
+    /// How many slots a variable of a type or a block of this name takes, capped.
     fn size_named(&self, name: &Name) -> usize
         ensures { (text : Declared) (at : ℕ) → ServesShapes self.now text → IsExpanded text (named_type name.now at)
-            → result ≡ cut (size (shape_of_type text (named_type name.now at))) }
+            → result ≡ capped_size (size (shape_of_type text (named_type name.now at))) }
     {
         match self.kept(name) {
             Some(whole) => whole.size,
@@ -83,10 +83,10 @@ impl<'a> ShapeTables<'a> {
         }
     }
 
-    /// How many slots a variable of a type takes, cut off.
+    /// How many slots a variable of a type takes, capped.
     fn size_of_simple(&self, declared: &SimpleType) -> usize
         ensures { (text : Declared) → ServesShapes self.now text → IsExpanded text (types.Simple declared.now)
-            → result ≡ cut (size (shape_of_type text (types.Simple declared.now))) }
+            → result ≡ capped_size (size (shape_of_type text (types.Simple declared.now))) }
     {
         match declared {
             SimpleType::Elementary(_, _) => 1,
@@ -94,22 +94,22 @@ impl<'a> ShapeTables<'a> {
         }
     }
 
-    /// How many slots a variable of a type takes; 4,097 where they are more than 4,096.
+    /// How many slots a variable of a type takes; 4,097 if they are more than 4,096.
     pub fn size(&self, declared: PlaceType<'a>) -> usize
         ensures { (text : Declared) → ServesShapes self.now text → IsExpanded text (place_type_view declared.entry)
-            → result ≡ cut (size (shape_of_type text (place_type_view declared.entry))) }
+            → result ≡ capped_size (size (shape_of_type text (place_type_view declared.entry))) }
     {
         match declared {
             PlaceType::Simple(simple) => self.size_of_simple(simple),
             PlaceType::Array(array) => {
                 let stride = self.size_of_simple(&array.element);
-                product(count_of(array), stride)
+                product(elements_of_array(array), stride)
             }
             PlaceType::Standard(_) => 1,
         }
     }
 
-    /// A member of what has the type or the block of this name.
+    /// A member of a variable with the type or the block of this name.
     fn member_named(&self, whole: &Name, name: &Name) -> Option<MemberPlace<'a>>
         ensures { (text : Declared) (at : ℕ) → ServesShapes self.now text → IsExpanded text (named_type whole.now at)
             → Agree (IsMemberPlace text 0) result
@@ -121,7 +121,7 @@ impl<'a> ShapeTables<'a> {
         }
     }
 
-    /// A member of what has a type of one word.
+    /// A member of a variable whose type is one word.
     fn member_of_simple(&self, declared: &SimpleType, name: &Name) -> Option<MemberPlace<'a>>
         ensures { (text : Declared) → ServesShapes self.now text → IsExpanded text (types.Simple declared.now)
             → Agree (IsMemberPlace text 0) result
@@ -133,7 +133,7 @@ impl<'a> ShapeTables<'a> {
         }
     }
 
-    /// A member of a structure or of a block's instance; none of what has no members.
+    /// A member of a structure or of a block's instance; none if the type has no members.
     pub fn member(&self, declared: PlaceType<'a>, name: &Name) -> Option<MemberPlace<'a>>
         ensures { (text : Declared) → ServesShapes self.now text → IsExpanded text (place_type_view declared.entry)
             → Agree (IsMemberPlace text 0) result
@@ -146,7 +146,7 @@ impl<'a> ShapeTables<'a> {
         }
     }
 
-    /// The elements of an array; none of what is no array.
+    /// The elements of an array; none if the type isn't an array.
     pub fn elements(&self, declared: PlaceType<'a>) -> Option<Elements<'a>>
         ensures { (text : Declared) → ServesShapes self.now text → IsExpanded text (place_type_view declared.entry)
             → MatchOption result (is_array (shape_of_type text (place_type_view declared.entry)) ≡ false)
@@ -157,7 +157,7 @@ impl<'a> ShapeTables<'a> {
         };
         Some(Elements {
             lower: number_of(&array.lower),
-            count: count_of(array),
+            count: elements_of_array(array),
             stride: self.size_of_simple(&array.element),
             declared: PlaceType::Simple(&array.element),
         })

@@ -1,24 +1,24 @@
-//! What is kept of the standard blocks.
+//! The entries of the standard blocks.
 
 ghost use Rattle.std.specs.Prelude.{◌≡◌, IfOk};
 ghost use Rattle.st_link.specs.Shapes.{AreStandards, standard_kept};
 
-use crate::wholes::{Whole, standard_whole};
+use crate::aggregates::{Aggregate, standard_aggregate};
 use std::alloc::{AllocError, Global};
 use symbols::StandardBlock;
 
 /// The standard blocks, each taken apart once.
 pub struct Standards<'a> {
-    sr: Whole<'a>,
-    rs: Whole<'a>,
-    r_trig: Whole<'a>,
-    f_trig: Whole<'a>,
-    ctu: Whole<'a>,
-    ctd: Whole<'a>,
-    ctud: Whole<'a>,
-    ton: Whole<'a>,
-    tof: Whole<'a>,
-    tp: Whole<'a>,
+    sr: Aggregate<'a>,
+    rs: Aggregate<'a>,
+    r_trig: Aggregate<'a>,
+    f_trig: Aggregate<'a>,
+    ctu: Aggregate<'a>,
+    ctd: Aggregate<'a>,
+    ctud: Aggregate<'a>,
+    ton: Aggregate<'a>,
+    tof: Aggregate<'a>,
+    tp: Aggregate<'a>,
 }
 
 impl Drop for Standards<'_> {
@@ -44,21 +44,21 @@ impl<'a> Standards<'a> {
         ensures { IfOk result AreStandards }
     {
         Ok(Standards {
-            sr: standard_whole(alloc, StandardBlock::Sr)?,
-            rs: standard_whole(alloc, StandardBlock::Rs)?,
-            r_trig: standard_whole(alloc, StandardBlock::RTrig)?,
-            f_trig: standard_whole(alloc, StandardBlock::FTrig)?,
-            ctu: standard_whole(alloc, StandardBlock::Ctu)?,
-            ctd: standard_whole(alloc, StandardBlock::Ctd)?,
-            ctud: standard_whole(alloc, StandardBlock::Ctud)?,
-            ton: standard_whole(alloc, StandardBlock::Ton)?,
-            tof: standard_whole(alloc, StandardBlock::Tof)?,
-            tp: standard_whole(alloc, StandardBlock::Tp)?,
+            sr: standard_aggregate(alloc, StandardBlock::Sr)?,
+            rs: standard_aggregate(alloc, StandardBlock::Rs)?,
+            r_trig: standard_aggregate(alloc, StandardBlock::RTrig)?,
+            f_trig: standard_aggregate(alloc, StandardBlock::FTrig)?,
+            ctu: standard_aggregate(alloc, StandardBlock::Ctu)?,
+            ctd: standard_aggregate(alloc, StandardBlock::Ctd)?,
+            ctud: standard_aggregate(alloc, StandardBlock::Ctud)?,
+            ton: standard_aggregate(alloc, StandardBlock::Ton)?,
+            tof: standard_aggregate(alloc, StandardBlock::Tof)?,
+            tp: standard_aggregate(alloc, StandardBlock::Tp)?,
         })
     }
 
-    /// What is kept of a block.
-    pub fn whole(&self, block: StandardBlock) -> &Whole<'a>
+    /// The entry of a block.
+    pub fn aggregate(&self, block: StandardBlock) -> &Aggregate<'a>
         ensures { result.now ≡ standard_kept self.now block }
     {
         match block {

@@ -24,7 +24,7 @@ use slot_trees::{Anchor, SlotArm, SlotCaseArm, SlotExpr, SlotStmt};
 use st_types::{Arm, CaseArm, Expr, Identifier, Stmt};
 use std::alloc::Global;
 
-/// The slot of a variable that is elementary and no input: of a control variable, or of what a call fills.
+/// The slot of a variable that is elementary and isn't an input: of a control variable, or of a function's input or result.
 pub fn link_control(table: &BodyTable, name: &Identifier) -> Result<Anchor, LinkError>
     ensures linked { IfOk result (λ a. (text : Declared) (t : Table) → ServesBody table.now text t
         → option_and_then control_of (symbol_of t.symbols name.now.name) ≡ Some (anchor_view a)) }
@@ -44,7 +44,7 @@ pub fn link_control(table: &BodyTable, name: &Identifier) -> Result<Anchor, Link
     Ok(symbol.anchor)
 }
 
-/// What stands after BY.
+/// The expression after BY.
 fn link_step(
     alloc: Global,
     table: &BodyTable,

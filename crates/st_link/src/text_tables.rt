@@ -1,4 +1,4 @@
-//! What the names of a text stand for, whatever unit has them.
+//! The meanings of the names of a text, whatever unit has them.
 
 ghost use Rattle.std.specs.Prelude.{◌≡◌, ◌≤◌, List, ℕ, map, None, option_and_then, option_map, IfOk, true};
 ghost use Rattle.st_types.specs.declared.limits.TheConstants.{MAX_PATHS};
@@ -12,7 +12,7 @@ ghost use Rattle.symbols.specs.Agreeing.{Agree};
 ghost use Rattle.symbols.specs.Found.{found};
 ghost use Rattle.symbols.specs.PlaceTypes.{place_type_view};
 ghost use Rattle.layout.specs.Types.{instance_of, own_block_type};
-ghost use Rattle.layout.specs.Sizes.{cut};
+ghost use Rattle.layout.specs.Sizes.{capped_size};
 ghost use Rattle.slot_trees.specs.SlotTrees.{absolute};
 ghost use Rattle.slot_trees.specs.Tables.{named_in};
 ghost use Rattle.slot_trees.specs.TextNumbers.{numbers_of};
@@ -42,7 +42,7 @@ pub struct TextTables<'a> {
     pub functions: Index<'a, usize>,
     pub blocks: Index<'a, usize>,
     pub globals: Index<'a, LinkSymbol<'a>>,
-    /// How many slots the globals take; 4,097 where they are more than 4,096.
+    /// How many slots the globals take; 4,097 if they are more than 4,096.
     pub global_slots: usize,
 }
 
@@ -60,13 +60,13 @@ impl Drop for TextTables<'_> {
     }
 }
 
-/// What the names of globals stand for, and how many slots the globals take; 4,097 where they are more than 4,096.
+/// The meanings of the names of globals, and how many slots the globals take; 4,097 if they are more than 4,096.
 struct Globals<'a> {
     symbols: Index<'a, LinkSymbol<'a>>,
     slots: usize,
 }
 
-/// The globals of a text, which stand at the front of its layout.
+/// The globals of a text, which are at the front of its layout.
 fn globals_at<'a>(
     alloc: Global,
     shapes: &ShapeTables<'a>,
@@ -78,7 +78,7 @@ fn globals_at<'a>(
         (found globals.symbols x) (symbol_among text (absolute 0) (map variable_view variables.now) x)) }
     ensures slots { IfOk result (λ globals. (text : Declared) → ServesShapes shapes.now text
         → are_whole text (map variable_view variables.now) ≡ true
-        → globals.slots ≡ cut (slots_taken text (map variable_view variables.now))) }
+        → globals.slots ≡ capped_size (slots_taken text (map variable_view variables.now))) }
 {
     let mut symbols = Index::new(alloc);
     let hidden = Index::new(alloc);
@@ -101,7 +101,7 @@ impl<'a> TextTables<'a> {
         ensures slots { IfOk result (λ tables.
             are_whole (declared_in (source_view source.now)) (map variable_view variables.now) ≡ true
             → tables.global_slots
-            ≡ cut (slots_taken (declared_in (source_view source.now)) (map variable_view variables.now))) }
+            ≡ capped_size (slots_taken (declared_in (source_view source.now)) (map variable_view variables.now))) }
     {
         let shapes = ShapeTables::new(alloc, source)?;
         let names = TextNames::new(alloc, source)?;
@@ -119,7 +119,7 @@ impl<'a> TextTables<'a> {
         })
     }
 
-    /// The block of this name that the text declares, where no standard one has it.
+    /// The block of this name that the text declares, if no standard one has it.
     fn own_block(&self, name: &Identifier) -> Option<BlockCode>
         ensures { (text : Declared) (globals : List LinkVariable) → ServesLinks self.now text globals
             → block_of name.now.name ≡ None
@@ -133,7 +133,7 @@ impl<'a> TextTables<'a> {
         }
     }
 
-    /// The block of a type's name, where what has the type is an instance.
+    /// The block of a type's name, if a variable of the type is an instance.
     fn block_named(&self, name: &Identifier) -> Option<BlockCode>
         ensures { (text : Declared) (globals : List LinkVariable) → ServesLinks self.now text globals
             → IsCode text result (instance_of text (types.Simple (Named name.now))) }
@@ -158,7 +158,7 @@ impl<'a> TextTables<'a> {
     }
 
     /// The block of which a variable of the type is an instance.
-    fn block_behind(&self, declared: PlaceType<'a>) -> Option<BlockCode>
+    fn block_of_type(&self, declared: PlaceType<'a>) -> Option<BlockCode>
         ensures { (text : Declared) (globals : List LinkVariable) → ServesLinks self.now text globals
             → IsCode text result (instance_of text (place_type_view declared.entry)) }
     {
@@ -182,20 +182,20 @@ impl<'a> TextTables<'a> {
     {
         let mut codes = Index::new(alloc);
         for variable in variables {
-            if let Some(code) = self.block_behind(variable.declared) {
+            if let Some(code) = self.block_of_type(variable.declared) {
                 codes.add(variable.name, code)?;
             }
         }
         Ok(codes)
     }
 
-    /// Whether some of the variables are instances.
+    /// Whether any of the variables is an instance.
     pub fn has_instances(&self, variables: &[Variable<'a>]) -> bool
         ensures { (text : Declared) (globals : List LinkVariable) → ServesLinks self.now text globals
             → result ≡ has_some (instances_in text (map variable_view variables.now)) }
     {
         for variable in variables {
-            if self.block_behind(variable.declared).is_some() {
+            if self.block_of_type(variable.declared).is_some() {
                 return true;
             }
         }

@@ -1,4 +1,4 @@
-//! What names of variables stand for: where the variables begin.
+//! The meanings of variables' names: where the variables begin.
 
 ghost use Rattle.std.specs.Prelude.{◌≡◌, ◌≤◌, ◌<◌, ◌+◌, ◌^◌, List, ℕ, Option, Some, None, if◌then◌else◌, map, true};
 ghost use Rattle.std.specs.Prelude.{bytes_eq, is_some, IfOk, OnOk};
@@ -7,7 +7,7 @@ ghost use Rattle.st_meaning.specs.NameTypes.{Declared};
 ghost use Rattle.st_meaning.specs.Scopes.{contains_name};
 ghost use Rattle.symbols.specs.Agreeing.{Agree};
 ghost use Rattle.symbols.specs.Found.{found, or_found};
-ghost use Rattle.layout.specs.Sizes.{cut};
+ghost use Rattle.layout.specs.Sizes.{capped_size};
 ghost use Rattle.slot_trees.specs.Tables.{Symbol, moved};
 ghost use Rattle.slot_trees.specs.ExpressionViews.{anchor_view};
 ghost use Rattle.st_link.specs.Shapes.{ServesShapes};
@@ -25,7 +25,7 @@ use st_types::Identifier;
 use std::alloc::{AllocError, Global};
 use symbols::Index;
 
-/// So many slots further.
+/// An anchor moved on by a number of slots.
 fn moved(base: Anchor, offset: usize) -> Anchor
     requires { first_slot (anchor_view base) + offset < 2 ^ 64 }
     ensures { anchor_view result ≡ moved (anchor_view base) offset }
@@ -36,7 +36,7 @@ fn moved(base: Anchor, offset: usize) -> Anchor
     }
 }
 
-/// Adds a variable that begins there, where its name is not kept elsewhere.
+/// Adds a variable that begins there, if its name is not kept elsewhere.
 fn add_variable<'a>(
     symbols: &mut Index<'a, LinkSymbol<'a>>,
     hidden: &Index<'a, bool>,
@@ -52,8 +52,8 @@ fn add_variable<'a>(
     Ok(())
 }
 
-/// Adds variables that stand one behind another from a slot on, but for names that are kept elsewhere. Answers how many
-/// slots they take; 4,097 where they are more than 4,096.
+/// Adds variables in consecutive slots from one on, except for names that are kept elsewhere. Answers how many slots
+/// they take; 4,097 if they are more than 4,096.
 pub fn add_variables<'a>(
     shapes: &ShapeTables<'a>,
     symbols: &mut Index<'a, LinkSymbol<'a>>,
@@ -64,7 +64,7 @@ pub fn add_variables<'a>(
     requires { first_slot (anchor_view base) ≤ MAX_PATHS + 1 }
     ensures slots { IfOk result (λ n. (text : Declared) → ServesShapes shapes.now text
         → are_whole text (map variable_view variables.now) ≡ true
-        → n ≡ cut (slots_taken text (map variable_view variables.now))) }
+        → n ≡ capped_size (slots_taken text (map variable_view variables.now))) }
     ensures added { OnOk result ((text : Declared) (x : List ℕ) (o : Option Symbol) → ServesShapes shapes.now text
         → are_whole text (map variable_view variables.now) ≡ true
         → first_slot (anchor_view base) + slots_taken text (map variable_view variables.now) ≤ MAX_PATHS

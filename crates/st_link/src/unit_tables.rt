@@ -1,9 +1,9 @@
-//! What the names of a unit's body stand for.
+//! The meanings of the names of a unit's body.
 
 ghost use Rattle.std.specs.Prelude.{◌≡◌, ◌≤◌, ◌+◌, List, map, IfOk, true};
 ghost use Rattle.st_types.specs.declared.limits.TheConstants.{MAX_PATHS};
 ghost use Rattle.st_meaning.specs.NameTypes.{Declared};
-ghost use Rattle.layout.specs.Sizes.{cut};
+ghost use Rattle.layout.specs.Sizes.{capped_size};
 ghost use Rattle.slot_trees.specs.Tables.{Table};
 ghost use Rattle.slot_trees.specs.ExpressionViews.{anchor_view};
 ghost use Rattle.st_link.specs.BodyTables.{ServesBody};
@@ -21,7 +21,7 @@ use st_types::Identifier;
 use std::alloc::{AllocError, Global};
 use symbols::Index;
 
-/// The table of a unit's body, and how many slots its own variables take; 4,097 where they are more than 4,096.
+/// The table of a unit's body, and how many slots its own variables take; 4,097 if they are more than 4,096.
 pub struct UnitTable<'t, 'a> {
     pub table: BodyTable<'t, 'a>,
     pub slots: usize,
@@ -33,7 +33,7 @@ impl Drop for UnitTable<'_, '_> {
     }
 }
 
-/// The table of a unit whose own variables stand one behind another from a slot on; an external stands for its global.
+/// The table of a unit whose own variables are in consecutive slots from one on; an external stands for its global.
 pub fn unit_table<'t, 'a>(
     alloc: Global,
     tables: &'t TextTables<'a>,
@@ -45,7 +45,7 @@ pub fn unit_table<'t, 'a>(
     requires { first_slot (anchor_view base) ≤ MAX_PATHS + 1 }
     ensures slots { IfOk result (λ unit. (text : Declared) (globals : List LinkVariable)
         → ServesLinks tables.now text globals → are_whole text (map variable_view variables.now) ≡ true
-        → unit.slots ≡ cut (slots_taken text (map variable_view variables.now))) }
+        → unit.slots ≡ capped_size (slots_taken text (map variable_view variables.now))) }
     ensures serves { IfOk result (λ unit. (text : Declared) (globals : List LinkVariable) (t : Table)
         → ServesLinks tables.now text globals → are_whole text (map variable_view variables.now) ≡ true
         → first_slot (anchor_view base) + slots_taken text (map variable_view variables.now) ≤ MAX_PATHS

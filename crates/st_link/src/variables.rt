@@ -7,7 +7,7 @@ ghost use Rattle.st_meaning.specs.Bodies.{is_external};
 ghost use Rattle.symbols.specs.PlaceTypes.{place_type_view};
 ghost use Rattle.layout.specs.LayoutVariables.{is_input_address};
 ghost use Rattle.st_link.specs.LinkVariables.{named_so, result_of, variable_view, variables_declared};
-ghost use Rattle.st_link.specs.LinkVariables.{variables_in, variables_of_blocks, variables_of_globals};
+ghost use Rattle.st_link.specs.LinkVariables.{link_variables, variables_of_blocks, variables_of_globals};
 ghost use Rattle.st_link.specs.LinkVariables.{variables_of_names};
 
 use st_types::{
@@ -56,7 +56,7 @@ fn push_declarations<'a>(
     declarations: &'a [Declaration],
 ) -> Result<(), AllocError>
     ensures { IfOk result (λ done. map variable_view variables.new.items ≡ map variable_view variables.old.items
-        ++ variables_in (map declaration_view declarations.now)) }
+        ++ link_variables (map declaration_view declarations.now)) }
 {
     for declaration in declarations {
         push_names(
@@ -68,7 +68,7 @@ fn push_declarations<'a>(
     Ok(())
 }
 
-/// Appends the variables of a block, but for externals.
+/// Appends the variables of a block, except externals.
 fn push_block<'a>(
     variables: &mut Vec<Variable<'a>>,
     block: &'a VariableBlock,

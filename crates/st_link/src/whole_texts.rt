@@ -74,7 +74,7 @@ fn link_source(
     Ok(LinkedText { library, programs })
 }
 
-/// An accepted text whose layout has room is one of which tables are made.
+/// An accepted text whose layout has room meets the conditions for its tables.
 pub fn accepted_texts_are_orderly()
     ensures { (text : trees.Source) → IsAccepted text → length (slots_of_text text) ≤ MAX_PATHS
         → IsOrderlySource (resolved_source text) }
@@ -85,10 +85,10 @@ pub fn accepted_texts_are_orderly()
 
 /// An accepted text linked, from its tree in which each literal has its type.
 ///
-/// What is linked are the functions and the blocks of the text in its order, and the programs of the configuration's
-/// instances in its order. A function is left out, and None stands for it, exactly where it is none of those that are
-/// called or its own variables are more than any layout has room for; a block exactly where its own variables are. Where
-/// the text's layout has room, the one error is that memory runs out.
+/// The result has the functions and the blocks of the text in its order, and the programs of the configuration's
+/// instances in its order. A function is left out, and None stands for it, exactly when it isn't called or its own
+/// variables are more than any layout has room for; a block exactly when its own variables are. If the text's layout
+/// has room, the only error is a failed allocation.
 pub fn link(
     alloc: Global,
     source: &Source,

@@ -5,12 +5,12 @@ use Rattle.std.proofs.Common.{arith}
 use Rattle.st_types.specs.declared.fault.Fault.{Fault}
 use Rattle.st_types.specs.Values.{Datum}
 use Rattle.st_types.specs.Paths.{Path}
-use Rattle.st_meaning.specs.Failures.{StandIns, in_runs}
+use Rattle.st_meaning.specs.Failures.{StuckFaults, in_runs}
 use Rattle.st_meaning.specs.Stores.{Store}
 use Rattle.st_meaning.specs.Ticks.{Run, follow, ◌>>=◌, ◌>>◌, give, fault, tick}
 use Rattle.st_meaning.specs.StandardBlocks.{block_of}
 use Rattle.st_meaning.specs.Scopes.{Name, Library, Units}
-use Rattle.st_meaning.specs.Loops.{End, goes_on, Turn, again, over, resumed, go_back, turns, looped}
+use Rattle.st_meaning.specs.Loops.{End, goes_on, Iteration, again, over, resumed, go_back, turns, looped}
 use Rattle.st_meaning.specs.Execution.{exec_all}
 use Rattle.st_meaning.specs.Runs.{Program, units_within, scope_of, ran, ran_where}
 use Rattle.st_meaning.proofs.Related.{IsClosed, stand_themselves, stop_themselves, exec_all_q, functions_q, instances_q}
@@ -64,15 +64,15 @@ agrees_tick t {m = m} {n = n} h = record { same = same_tick t m n h; falls = fal
 agrees_within : (t : ℕ) {A : Type 0} {m n : Run A} → Agrees (suc t) A m n → Agrees t A m n
 agrees_within t h = record { same = λ b lt. h.same b (omega arith); falls = h.falls }
 
-module _ (t : ℕ) (turn turn' : Store → Run Turn) (step step' : Store → Run (Option Store))
-    (h : (s : Store) → Agrees t Turn (turn s) (turn' s))
+module _ (t : ℕ) (turn turn' : Store → Run Iteration) (step step' : Store → Run (Option Store))
+    (h : (s : Store) → Agrees t Iteration (turn s) (turn' s))
     (i : (s : Store) → Agrees t (Option Store) (step s) (step' s)) where
   stepped_agrees : (next next' : Store → Run End) → ((s : Store) → Agrees t End (next s) (next' s))
       → (s : Store) (o : Option Store) → Agrees t End (resumed next s o) (resumed next' s o)
   stepped_agrees next next' k s None = agrees_give t (goes_on s)
   stepped_agrees next next' k s (Some u) = k u
 
-  back_agrees : (next next' : Store → Run End) → ((s : Store) → Agrees t End (next s) (next' s)) → (u : Turn)
+  back_agrees : (next next' : Store → Run End) → ((s : Store) → Agrees t End (next s) (next' s)) → (u : Iteration)
       → Agrees t End (go_back step next u) (go_back step' next' u)
   back_agrees next next' k (over e) = agrees_give t e
   back_agrees next next' k (again s) =
@@ -111,29 +111,29 @@ pub record UnitsAgree (t : ℕ) (u v : Units) : Type 0 where
 none_below : {A : Type 0} (m n : Run A) → Lasts A m m → Agrees 0 A m n
 none_below m n h = record { same = λ b lt. absurd (omega arith); falls = h.falls }
 
-pub units_agree : (stand_ins : StandIns) (library : Library) (image : Store) (now t n m : ℕ) → t ≤ n → t ≤ m
-    → UnitsAgree t (units_within stand_ins library image now n) (units_within stand_ins library image now m)
+pub units_agree : (stuck_faults : StuckFaults) (library : Library) (image : Store) (now t n m : ℕ) → t ≤ n → t ≤ m
+    → UnitsAgree t (units_within stuck_faults library image now n) (units_within stuck_faults library image now m)
 unfolding units_within
-units_agree stand_ins library image now zero n m le le' =
-    let u = units_last stand_ins library image now n n (omega arith) in
+units_agree stuck_faults library image now zero n m le le' =
+    let u = units_last stuck_faults library image now n n (omega arith) in
     record {
       functions =
           λ f vs. none_below _ _ (u.functions f vs);
       blocks = λ b at s. none_below _ _ (u.blocks b at s);
     }
-units_agree stand_ins library image now (suc t) zero m le le' = absurd (omega arith)
-units_agree stand_ins library image now (suc t) (suc n) zero le le' = absurd (omega arith)
-units_agree stand_ins library image now (suc t) (suc n) (suc m) le le' =
-    let u = units_agree stand_ins library image now t n m (omega arith) (omega arith) in
+units_agree stuck_faults library image now (suc t) zero m le le' = absurd (omega arith)
+units_agree stuck_faults library image now (suc t) (suc n) zero le le' = absurd (omega arith)
+units_agree stuck_faults library image now (suc t) (suc n) (suc m) le le' =
+    let u = units_agree stuck_faults library image now t n m (omega arith) (omega arith) in
     record {
-      functions = functions_q (Agrees t) (Agrees (suc t)) (agrees_closed t) stand_ins stand_ins library image now
-          (units_within stand_ins library image now n) (units_within stand_ins library image now m) u.functions u.blocks
-          (stand_themselves (Agrees t) (Agrees (suc t)) (agrees_closed t) stand_ins)
-          (stop_themselves (Agrees t) (Agrees (suc t)) (agrees_closed t) stand_ins);
-      blocks = λ b. instances_q (Agrees t) (Agrees (suc t)) (agrees_closed t) stand_ins stand_ins library image now
-          (units_within stand_ins library image now n) (units_within stand_ins library image now m) u.functions u.blocks
-          (stand_themselves (Agrees t) (Agrees (suc t)) (agrees_closed t) stand_ins)
-          (stop_themselves (Agrees t) (Agrees (suc t)) (agrees_closed t) stand_ins) b (block_of b);
+      functions = functions_q (Agrees t) (Agrees (suc t)) (agrees_closed t) stuck_faults stuck_faults library image now
+          (units_within stuck_faults library image now n) (units_within stuck_faults library image now m) u.functions u.blocks
+          (stand_themselves (Agrees t) (Agrees (suc t)) (agrees_closed t) stuck_faults)
+          (stop_themselves (Agrees t) (Agrees (suc t)) (agrees_closed t) stuck_faults);
+      blocks = λ b. instances_q (Agrees t) (Agrees (suc t)) (agrees_closed t) stuck_faults stuck_faults library image now
+          (units_within stuck_faults library image now n) (units_within stuck_faults library image now m) u.functions u.blocks
+          (stand_themselves (Agrees t) (Agrees (suc t)) (agrees_closed t) stuck_faults)
+          (stop_themselves (Agrees t) (Agrees (suc t)) (agrees_closed t) stuck_faults) b (block_of b);
     }
 
 pub ran_agrees : (p : Program) (image : Store) (now b n : ℕ) (s : Store) → b ≤ n
@@ -146,8 +146,8 @@ ran_agrees p image now b n s le =
     p.body.statements s).same b (omega arith)
 
 -- a loop whose turns never give ticks back needs no more turns than it has ticks
-module _ (turn : Store → Run Turn) (step : Store → Run (Option Store))
-    (falls : (s : Store) (b : ℕ) (t : Turn) (c : ℕ) → turn s b ≡ Ok (t, c) → c ≤ b)
+module _ (turn : Store → Run Iteration) (step : Store → Run (Option Store))
+    (falls : (s : Store) (b : ℕ) (t : Iteration) (c : ℕ) → turn s b ≡ Ok (t, c) → c ≤ b)
     (steps : (s : Store) (b : ℕ) (o : Option Store) (c : ℕ) → step s b ≡ Ok (o, c) → c ≤ b) where
   stepped_same : (next next' : Store → Run End) (b : ℕ) → ((t : Store) (c : ℕ) → c < b → next t c ≡ next' t c)
       → (s : Store) (c : ℕ) (o : Option Store) → c < b → resumed next s o c ≡ resumed next' s o c
@@ -163,14 +163,14 @@ module _ (turn : Store → Run Turn) (step : Store → Run (Option Store))
   stepped_on_same next next' b h s d (Err e) k lt = refl
 
   back_same : (next next' : Store → Run End) (b : ℕ) → ((t : Store) (c : ℕ) → c < b → next t c ≡ next' t c)
-      → (u : Turn) (c : ℕ) → c ≤ b → go_back step next u c ≡ go_back step next' u c
+      → (u : Iteration) (c : ℕ) → c ≤ b → go_back step next u c ≡ go_back step next' u c
   back_same next next' b h (over e) c le = refl
   back_same next next' b h (again s) zero le = refl
   back_same next next' b h (again s) (suc c) le =
       stepped_on_same next next' b h s c (step s c) (steps s c) (omega arith)
 
   turned_same : (next next' : Store → Run End) (b : ℕ) → ((t : Store) (c : ℕ) → c < b → next t c ≡ next' t c)
-      → (r : Result (Turn × ℕ) Fault) → ((u : Turn) (c : ℕ) → r ≡ Ok (u, c) → c ≤ b)
+      → (r : Result (Iteration × ℕ) Fault) → ((u : Iteration) (c : ℕ) → r ≡ Ok (u, c) → c ≤ b)
       → follow r (go_back step next) ≡ follow r (go_back step next')
   turned_same next next' b h (Ok r) k = back_same next next' b h r.0 r.1 (k r.0 r.1 refl)
   turned_same next next' b h (Err e) k = refl
@@ -182,8 +182,8 @@ module _ (turn : Store → Run Turn) (step : Store → Run (Option Store))
   turns_enough (suc n) (suc m) s b lt lt' = turned_same (turns n turn step) (turns m turn step) b
       (λ t c le. turns_enough n m t c (omega arith) (omega arith)) (turn s b) (falls s b)
 
-pub loop_enough : (turn : Store → Run Turn) (step : Store → Run (Option Store))
-    → ((s : Store) (b : ℕ) (t : Turn) (c : ℕ) → turn s b ≡ Ok (t, c) → c ≤ b)
+pub loop_enough : (turn : Store → Run Iteration) (step : Store → Run (Option Store))
+    → ((s : Store) (b : ℕ) (t : Iteration) (c : ℕ) → turn s b ≡ Ok (t, c) → c ≤ b)
     → ((s : Store) (b : ℕ) (o : Option Store) (c : ℕ) → step s b ≡ Ok (o, c) → c ≤ b)
     → (n : ℕ) (s : Store) (b : ℕ) → b < n
     → turns n turn step s b ≡ looped turn step s b

@@ -1,21 +1,21 @@
--- Two choices of the faults for what no well-typed text meets: two runs end the same way, or each with its fault for
--- one such thing.
+-- Two choices of the faults for failures that no well-typed text meets: two runs end the same way, or each with its fault
+-- for one such failure.
 use Rattle.std.proofs.Common.{◌≡◌, ℕ, zero, suc, ◌⊎◌, inl, inr, IsSome, List, Option, Some, None, Result, Ok, Err, refl}
 use Rattle.std.proofs.Common.{sym, ap, ◌∙◌}
 use Rattle.st_types.specs.declared.fault.Fault.{Fault}
 use Rattle.st_types.specs.Values.{Datum}
 use Rattle.st_types.specs.Paths.{Path}
-use Rattle.st_meaning.specs.Failures.{Failure, fails, valueless, ill_typed, StandIns, fault_for, with_missing, with_wrong}
+use Rattle.st_meaning.specs.Failures.{Failure, fails, valueless, ill_typed, StuckFaults, fault_for, with_missing, with_wrong}
 use Rattle.st_meaning.specs.Stores.{Store}
 use Rattle.st_meaning.specs.Ticks.{Run, follow, ◌>>=◌, ◌>>◌, give, fault, tick}
 use Rattle.st_meaning.specs.StandardBlocks.{block_of}
 use Rattle.st_meaning.specs.Scopes.{Name, Library, Units, seen}
-use Rattle.st_meaning.specs.Loops.{End, goes_on, Turn, again, over, resumed, go_back, turns, looped}
+use Rattle.st_meaning.specs.Loops.{End, goes_on, Iteration, again, over, resumed, go_back, turns, looped}
 use Rattle.st_meaning.specs.Runs.{Program, units_within, scope_where, ran_where}
 use Rattle.st_meaning.specs.Asked.{IsAsked, without_value}
 use Rattle.st_meaning.proofs.Related.{IsClosed, StandRelated, exec_all_q, functions_q, instances_q}
 
-module _ (t u : StandIns) where
+module _ (t u : StuckFaults) where
   abbrev AlikeEnds : (A : Type 0) → Result (A × ℕ) Fault → Result (A × ℕ) Fault → Type 0
   AlikeEnds A x y = (x ≡ y) ⊎ ((e : Failure) × ((x ≡ Err (fault_for t e)) × (y ≡ Err (fault_for u e))))
 
@@ -52,15 +52,15 @@ module _ (t u : StandIns) where
   alike_tick : {A : Type 0} {m n : Run A} → Alike A m n → Alike A (tick >> m) (tick >> n)
   alike_tick {m = m} {n = n} h = record { ends = ends_behind_tick m n h }
 
-  module _ (turn turn' : Store → Run Turn) (step step' : Store → Run (Option Store))
-      (h : (s : Store) → Alike Turn (turn s) (turn' s))
+  module _ (turn turn' : Store → Run Iteration) (step step' : Store → Run (Option Store))
+      (h : (s : Store) → Alike Iteration (turn s) (turn' s))
       (i : (s : Store) → Alike (Option Store) (step s) (step' s)) where
     stepped_alike : (next next' : Store → Run End) → ((s : Store) → Alike End (next s) (next' s))
         → (s : Store) (o : Option Store) → Alike End (resumed next s o) (resumed next' s o)
     stepped_alike next next' k s None = alike_give (goes_on s)
     stepped_alike next next' k s (Some t) = k t
 
-    back_alike : (next next' : Store → Run End) → ((s : Store) → Alike End (next s) (next' s)) → (t : Turn)
+    back_alike : (next next' : Store → Run End) → ((s : Store) → Alike End (next s) (next' s)) → (t : Iteration)
         → Alike End (go_back step next t) (go_back step' next' t)
     back_alike next next' k (over e) = alike_give e
     back_alike next next' k (again s) = alike_tick (alike_then (i s) (stepped_alike next next' k s))

@@ -1,4 +1,4 @@
--- What is taken away with a value, and when a value is not asked for.
+-- The store without a value, and when a value is not asked for.
 use Rattle.std.proofs.Common.{◌≡◌, ℕ, pos, ◌+ℤ◌, Bool, true, false, if◌then◌else◌, [], ◌∷◌, Option, Some, None, Err}
 use Rattle.std.proofs.Common.{refl, sym, ap, ◌∙◌, ◌+◌, ◌-◌, ◌&&◌, nat_le, arith}
 use Rattle.std.proofs.lemmas.Bool.Decides.{nat_tests}
@@ -25,14 +25,14 @@ pub not_asked : (program : Program) (budget : ℕ) (s image : Store) (now : ℕ)
     → IsAsked program budget s image now p → ⊥
 not_asked program budget s image now p same h = let a = h.is_wanted Index in let b = h.is_wanted Range in absurd (cc)
 
--- two faults that are told tell that a run meets something ill typed
+-- two different faults show that a run meets something ill typed
 pub is_ill_typed : (program : Program) (budget : ℕ) (s image : Store) (now : ℕ)
     → ran_where (with_wrong Index) program image now budget s ≡ Err Index
     → ran_where (with_wrong Range) program image now budget s ≡ Err Range
     → IsTypedRun program budget s image now → ⊥
 is_ill_typed program budget s image now a b h = let e = h.same Index Range in absurd (cc)
 
-past_the_greatest : (k : Kind) → holds k (greatest k +ℤ pos 1) ≡ false
+pub past_the_greatest : (k : Kind) → holds k (greatest k +ℤ pos 1) ≡ false
 past_the_greatest Sint = refl
 past_the_greatest Int = refl
 past_the_greatest Dint = refl

@@ -1,4 +1,4 @@
--- Of two activations of which neither comes before the other, both are one.
+-- If neither of two activations comes before the other, they are the same.
 use Rattle.std.proofs.Common.{◌≡◌, List, false, arith}
 use Rattle.std.proofs.lemmas.Bool.Decides.{nat_tests}
 use Rattle.st_types.specs.declared.entry.Activation.{Activation}

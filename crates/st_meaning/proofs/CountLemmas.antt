@@ -14,7 +14,7 @@ counted : (test : Entry → Bool) (e : Entry) (log : Log)
     → count_by test (e ∷ log) ≡ cond (test e) 1 0 + count_by test log
 counted test e log = sum_by-cons (λ x. cond (test x) 1 0) e log
 
--- one entry behind the others
+-- one entry after the others
 pub counted_behind : (test : Entry → Bool) (log : Log) (e : Entry)
     → count_by test (log ++ e ∷ []) ≡ count_by test log + (0 + cond (test e) 1 0)
 counted_behind test log e = sum_by-append (λ x. cond (test x) 1 0) log (e ∷ [])

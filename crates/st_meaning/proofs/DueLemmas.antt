@@ -1,4 +1,4 @@
--- Lemmas on what is due, and on what waits.
+-- Lemmas on activations that are due or wait.
 use Rattle.std.proofs.Common.{◌≡◌, ℕ, zero, suc, ◌+◌, ◌-◌, ◌<◌, ◌≤◌, ◌==◌, inl, inr, Bool, true, false, if◌then◌else◌}
 use Rattle.std.proofs.Common.{◌&&◌, not, nat_lt, List, [], ◌∷◌, ◌++◌, length, refl, ap, ◌∙◌, arith, length-append}
 use Rattle.std.proofs.lemmas.List.{get_or_append_left}
@@ -10,18 +10,11 @@ use Rattle.st_meaning.specs.declared.plan.Schedule.{Schedule}
 use Rattle.st_meaning.specs.Due.{SampledRow, Served, History, sample, sampled_at, rule, is_due, schedule_at, due}
 use Rattle.st_meaning.specs.Due.{last_served, served, one_more, run_count, due_count, Waits, no_history, with_row}
 use Rattle.st_meaning.specs.Due.{with_run}
+use Rattle.st_types.proofs.TestLemmas.{and_first, and_second}
 
 and_false : (b : Bool) → (b && false) ≡ false
 and_false true = refl
 and_false false = refl
-
-left_of_and : (a b : Bool) → (a && b) ≡ true → a ≡ true
-left_of_and true b e = refl
-left_of_and false b e = e
-
-right_of_and : (a b : Bool) → (a && b) ≡ true → b ≡ true
-right_of_and true b e = e
-right_of_and false b e = cc
 
 pub due-past : (schedules : List Schedule) (p : ℕ) (sampled : List SampledRow) (k : ℕ) → length sampled ≤ k
     → due schedules p sampled k ≡ false
@@ -33,10 +26,10 @@ pub due-there : (schedules : List Schedule) (p : ℕ) (sampled : List SampledRow
     → due schedules p sampled k ≡ true → (p < length schedules) × (k < length sampled)
 due-there schedules p sampled k e =
     let inner = nat_lt k (length sampled) && is_due (schedule_at schedules p) sampled k in
-    let a : nat_lt p (length schedules) ≡ true = left_of_and (nat_lt p (length schedules)) inner e in
-    let both : inner ≡ true = right_of_and (nat_lt p (length schedules)) inner e in
+    let a : nat_lt p (length schedules) ≡ true = and_first (nat_lt p (length schedules)) inner e in
+    let both : inner ≡ true = and_second (nat_lt p (length schedules)) inner e in
     let b : nat_lt k (length sampled) ≡ true =
-    left_of_and (nat_lt k (length sampled)) (is_due (schedule_at schedules p) sampled k) both in
+    and_first (nat_lt k (length sampled)) (is_due (schedule_at schedules p) sampled k) both in
     (grind (arith, nat_tests), grind (arith, nat_tests))
 
 pub served-add : (p : ℕ) (runs : List Served) (r : Served) → served p (runs ++ r ∷ []) ≡ last_served p (served p runs) r
@@ -93,7 +86,7 @@ module _ (sampled : List SampledRow) (t : SampledRow) where
       ap (due_count schedules p (sampled ++ t ∷ [])) l
       ∙ ap (λ n. n + (if due schedules p (sampled ++ t ∷ []) (length sampled) then 1 else 0)) a
 
--- The rule at the new row, by what is known of the row before it.
+-- The rule at the new row, by the facts of the row before it.
 pub is_due-new : (schedule : Schedule) (sampled : List SampledRow) (t : SampledRow) (before : Bool) (first last : ℕ)
     → before ≡ (not (length sampled == 0) && sample (sampled_at sampled (length sampled - 1)).samples schedule.task)
     → (length sampled ≡ 0 → first ≡ t.moment) → (0 < length sampled → first ≡ (sampled_at sampled 0).moment)

@@ -7,12 +7,12 @@ use Rattle.st_types.specs.declared.fault.Fault.TheVariants.{Budget}
 use Rattle.st_types.specs.Values.{Datum}
 use Rattle.st_types.specs.Paths.{Path}
 use Rattle.st_types.specs.Statements.{Stmts}
-use Rattle.st_meaning.specs.Failures.{StandIns, in_runs}
+use Rattle.st_meaning.specs.Failures.{StuckFaults, in_runs}
 use Rattle.st_meaning.specs.Stores.{Store}
 use Rattle.st_meaning.specs.Ticks.{Run, follow, ◌>>=◌, ◌>>◌, give, fault, tick}
 use Rattle.st_meaning.specs.StandardBlocks.{block_of}
 use Rattle.st_meaning.specs.Scopes.{Name, Library, Units}
-use Rattle.st_meaning.specs.Loops.{End, goes_on, Turn, again, over, resumed, go_back, turns, looped}
+use Rattle.st_meaning.specs.Loops.{End, goes_on, Iteration, again, over, resumed, go_back, turns, looped}
 use Rattle.st_meaning.specs.Execution.{exec_all}
 use Rattle.st_meaning.specs.Runs.{Program, units_within, scope_of, ran, ran_where}
 use Rattle.st_meaning.proofs.Related.{IsClosed, stand_themselves, exec_all_q, functions_q, instances_q}
@@ -59,7 +59,7 @@ lasts_give {A = A} a = record {
 lasts_fault : {A : Type 0} (e : Fault) → Lasts A (fault e) (fault e)
 lasts_fault e = record { falls = λ b x c h. absurd (cc); more = λ b k x c h. absurd (cc); same = λ b k w other h. h }
 
--- what has no ticks promises nothing
+-- a run without ticks promises nothing
 lasts_none : {A : Type 0} (n : Run A) → Lasts A (fault Budget) n
 lasts_none n = record {
   falls = λ b x c h. absurd (cc);
@@ -86,15 +86,15 @@ tick_same m n h (suc b) k e other q = let s : suc b + k ≡ suc (b + k) = omega 
 lasts_tick : {A : Type 0} {m n : Run A} → Lasts A m n → Lasts A (tick >> m) (tick >> n)
 lasts_tick {m = m} {n = n} h = record { falls = tick_falls m n h; more = tick_more m n h; same = tick_same m n h }
 
-module _ (turn turn' : Store → Run Turn) (step step' : Store → Run (Option Store))
-    (h : (s : Store) → Lasts Turn (turn s) (turn' s)) (i : (s : Store) → Lasts (Option Store) (step s) (step' s))
+module _ (turn turn' : Store → Run Iteration) (step step' : Store → Run (Option Store))
+    (h : (s : Store) → Lasts Iteration (turn s) (turn' s)) (i : (s : Store) → Lasts (Option Store) (step s) (step' s))
   where
     stepped_lasts : (next next' : Store → Run End) → ((s : Store) → Lasts End (next s) (next' s))
         → (s : Store) (o : Option Store) → Lasts End (resumed next s o) (resumed next' s o)
     stepped_lasts next next' k s None = lasts_give (goes_on s)
     stepped_lasts next next' k s (Some t) = k t
 
-    back_lasts : (next next' : Store → Run End) → ((s : Store) → Lasts End (next s) (next' s)) → (t : Turn)
+    back_lasts : (next next' : Store → Run End) → ((s : Store) → Lasts End (next s) (next' s)) → (t : Iteration)
         → Lasts End (go_back step next t) (go_back step' next' t)
     back_lasts next next' k (over e) = lasts_give e
     back_lasts next next' k (again s) = lasts_tick (lasts_then (i s) (stepped_lasts next next' k s))
@@ -132,21 +132,21 @@ pub record UnitsLast (u v : Units) : Type 0 where
   pub functions : (f : Name) (vs : List Datum) → Lasts Datum (u.functions f vs) (v.functions f vs)
   pub blocks : (b : Name) (at : Path) (s : Store) → Lasts Store (u.blocks b at s) (v.blocks b at s)
 
-pub units_last : (stand_ins : StandIns) (library : Library) (image : Store) (now n m : ℕ) → n ≤ m
-    → UnitsLast (units_within stand_ins library image now n) (units_within stand_ins library image now m)
+pub units_last : (stuck_faults : StuckFaults) (library : Library) (image : Store) (now n m : ℕ) → n ≤ m
+    → UnitsLast (units_within stuck_faults library image now n) (units_within stuck_faults library image now m)
 unfolding units_within
-units_last stand_ins library image now zero m le =
+units_last stuck_faults library image now zero m le =
     record { functions = λ f vs. lasts_none _; blocks = λ b at s. lasts_none _ }
-units_last stand_ins library image now (suc n) zero le = absurd (omega arith)
-units_last stand_ins library image now (suc n) (suc m) le =
-    let u = units_last stand_ins library image now n m (omega arith) in
+units_last stuck_faults library image now (suc n) zero le = absurd (omega arith)
+units_last stuck_faults library image now (suc n) (suc m) le =
+    let u = units_last stuck_faults library image now n m (omega arith) in
     record {
-      functions = functions_q Lasts Lasts lasts_closed stand_ins stand_ins library image now
-          (units_within stand_ins library image now n) (units_within stand_ins library image now m) u.functions u.blocks
-          (stand_themselves Lasts Lasts lasts_closed stand_ins) (stand_themselves Lasts Lasts lasts_closed stand_ins);
-      blocks = λ b. instances_q Lasts Lasts lasts_closed stand_ins stand_ins library image now
-          (units_within stand_ins library image now n) (units_within stand_ins library image now m) u.functions u.blocks
-          (stand_themselves Lasts Lasts lasts_closed stand_ins) (stand_themselves Lasts Lasts lasts_closed stand_ins) b
+      functions = functions_q Lasts Lasts lasts_closed stuck_faults stuck_faults library image now
+          (units_within stuck_faults library image now n) (units_within stuck_faults library image now m) u.functions u.blocks
+          (stand_themselves Lasts Lasts lasts_closed stuck_faults) (stand_themselves Lasts Lasts lasts_closed stuck_faults);
+      blocks = λ b. instances_q Lasts Lasts lasts_closed stuck_faults stuck_faults library image now
+          (units_within stuck_faults library image now n) (units_within stuck_faults library image now m) u.functions u.blocks
+          (stand_themselves Lasts Lasts lasts_closed stuck_faults) (stand_themselves Lasts Lasts lasts_closed stuck_faults) b
           (block_of b);
     }
 

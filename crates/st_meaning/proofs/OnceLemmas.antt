@@ -11,7 +11,7 @@ use Rattle.st_meaning.specs.Logs.{IsLegalFrom}
 use Rattle.st_meaning.proofs.DueLemmas.{served_by_done, served_stays, served_waits_no_more, served_within_done}
 use Rattle.st_meaning.proofs.DueLemmas.{served_within_row, served_within_first}
 
--- no more rows stand before a program's last Done than there are
+-- no more rows are before a program's last Done than there are
 abbrev IsWithin : Past → ℕ → Type 0
 IsWithin past p = served p past.history.runs ≤ length past.history.sampled
 

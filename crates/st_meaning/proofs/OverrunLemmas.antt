@@ -7,7 +7,7 @@ use Rattle.st_meaning.specs.Due.{SampledRow, History, due, served, run_count, du
 use Rattle.st_meaning.specs.Due.{with_row, with_run}
 use Rattle.st_meaning.proofs.DueLemmas.{due-there, due-old, due_count-new, run_count-add, done_waits_no_more}
 
--- Where none of the program waits, it is due at no row after its last Done: the first such row would wait.
+-- If none of the program waits, it is due at no row after its last Done: the first such row would wait.
 due_at_end : (schedules : List Schedule) (h : History) (p n k : ℕ)
     → ((k : ℕ) → Waits schedules h record { program = p; row = k } → ⊥)
     → ((j : ℕ) → served p h.runs ≤ j → j < n → due schedules p h.sampled j ≡ false)

@@ -1,11 +1,11 @@
--- Two runs of one tree, whose calls and whose faults for what no well-typed text meets are related, are related. P is a
--- relation of runs, and Q is P before the tick that a statement takes.
+-- Two runs of one tree, whose calls and whose faults for failures that no well-typed text meets are related, are related. P
+-- is a relation of runs, and Q is P before the tick that a statement takes.
 use Rattle.std.proofs.Common.{ℕ, zero, ℤ, pos, Bool, true, false, if◌then◌else◌, List, [], ◌∷◌, Option, Some, None}
 use Rattle.std.proofs.Common.{Result, Ok, Err}
 use Rattle.std.specs.List.{list_any}
 use Rattle.st_types.specs.declared.fault.Fault.{Fault}
 use Rattle.st_types.specs.declared.fault.Fault.TheVariants.{Index, ZeroStep}
-use Rattle.st_meaning.specs.Failures.{Failure, fails, valueless, ill_typed, StandIns, or_failure, failing}
+use Rattle.st_meaning.specs.Failures.{Failure, fails, valueless, ill_typed, StuckFaults, or_failure, failing}
 use Rattle.st_types.specs.Values.{Datum}
 use Rattle.st_types.specs.Paths.{Path}
 use Rattle.st_types.specs.Expressions.{Expr, literal, read, call, parenthesis, unary, binary, Exprs, no_exprs}
@@ -16,28 +16,28 @@ use Rattle.st_types.specs.Statements.{REPEAT, EXIT, RETURN, Stmts, no_stmts, stm
 use Rattle.st_types.specs.Statements.{CaseArms, no_case_arms, case_arm_then}
 use Rattle.st_meaning.specs.Stores.{Store, get, assigned}
 use Rattle.st_meaning.specs.Ticks.{Run, ◌>>=◌, ◌>>◌, give, fault, attempt, proceed, tick}
-use Rattle.st_meaning.specs.Operators.{value_of_literal, apply, apply_unary, truth}
+use Rattle.st_meaning.specs.Operators.{value_of_literal, apply, apply_unary, condition_of}
 use Rattle.st_meaning.specs.StandardFunctions.{Standard, standard_of, standard_value}
 use Rattle.st_meaning.specs.StandardBlocks as standard
 use Rattle.st_meaning.specs.StandardBlocks.{block_of, members_of, stepped}
-use Rattle.st_meaning.specs.Runs.{store_of, begun, function_value, member_values, members_assigned, standard_call}
+use Rattle.st_meaning.specs.Runs.{store_of, bound_inputs, function_value, member_values, members_assigned, standard_call}
 use Rattle.st_meaning.specs.Runs.{block_call, function_call, instance_call}
 use Rattle.st_meaning.specs.Scopes.{Name, Frame, of_block, of_call, Body, Function, Block, Library, function_in, block_in}
 use Rattle.st_meaning.specs.Scopes.{Units, Scope, seen, path_in, member_at, block_named}
 use Rattle.st_meaning.specs.Evaluation.{known, value, values, place, selected, stepped_to, called, element_at, truth_of}
-use Rattle.st_meaning.specs.Loops.{End, goes_on, exits, returns, behind, Turn, over, turned, looped, guarded, asked}
+use Rattle.st_meaning.specs.Loops.{End, goes_on, exits, returns, continue_with, Iteration, over, turned, looped, guarded, tested_after}
 use Rattle.st_meaning.specs.Loops.{until, runs_on, step_on, stored, stepped_on, nonzero}
 use Rattle.st_meaning.specs.Execution.{label_holds, given_inputs, assigned_inputs, copied_outputs, ran_block, step_of}
 use Rattle.st_meaning.specs.Execution.{exec, exec_all, exec_arms, exec_case}
 
--- what P and Q are to be closed under
+-- the rules that P and Q have to be closed under
 pub record IsClosed (P Q : (A : Type 0) → Run A → Run A → Type 0) : Type 1 where
   pub gives : {A : Type 0} (a : A) → P A (give a) (give a)
   pub faults : {A : Type 0} (e : Fault) → P A (fault e) (fault e)
   pub follows : {A B : Type 0} {m n : Run A} {f g : A → Run B} → P A m n → ((a : A) → P B (f a) (g a))
       → P B (m >>= f) (n >>= g)
-  pub loops : (turn turn' : Store → Run Turn) (step step' : Store → Run (Option Store))
-      → ((s : Store) → P Turn (turn s) (turn' s)) → ((s : Store) → P (Option Store) (step s) (step' s)) → (s : Store)
+  pub loops : (turn turn' : Store → Run Iteration) (step step' : Store → Run (Option Store))
+      → ((s : Store) → P Iteration (turn s) (turn' s)) → ((s : Store) → P (Option Store) (step s) (step' s)) → (s : Store)
       → P End (looped turn step s) (looped turn' step' s)
   pub stops : {A : Type 0} (e : Fault) → Q A (fault e) (fault e)
   pub begins : {A : Type 0} (a : A) → Q A (give a) (give a)
@@ -46,27 +46,27 @@ pub record IsClosed (P Q : (A : Type 0) → Run A → Run A → Type 0) : Type 1
   pub ticks : {A : Type 0} {m n : Run A} → P A m n → Q A (tick >> m) (tick >> n)
   pub within : {A : Type 0} {m n : Run A} → Q A m n → P A m n
 
--- the faults for what no well-typed text meets are related
-pub record StandRelated (P : (A : Type 0) → Run A → Run A → Type 0) (t u : StandIns) : Type 1 where
+-- the faults for failures that no well-typed text meets are related
+pub record StandRelated (P : (A : Type 0) → Run A → Run A → Type 0) (t u : StuckFaults) : Type 1 where
   pub lacks : {A : Type 0} → P A (fault t.missing) (fault u.missing)
   pub errs : {A : Type 0} → P A (fault t.wrong) (fault u.wrong)
 
 -- the same faults are
-pub stand_themselves : (P Q : (A : Type 0) → Run A → Run A → Type 0) → IsClosed P Q → (t : StandIns)
+pub stand_themselves : (P Q : (A : Type 0) → Run A → Run A → Type 0) → IsClosed P Q → (t : StuckFaults)
     → StandRelated P t t
 stand_themselves P Q closed t = record { lacks = closed.faults t.missing; errs = closed.faults t.wrong }
 
-pub stop_themselves : (P Q : (A : Type 0) → Run A → Run A → Type 0) → IsClosed P Q → (t : StandIns)
+pub stop_themselves : (P Q : (A : Type 0) → Run A → Run A → Type 0) → IsClosed P Q → (t : StuckFaults)
     → StandRelated Q t t
 stop_themselves P Q closed t = record { lacks = closed.stops t.missing; errs = closed.stops t.wrong }
 
 module _
     (P Q : (A : Type 0) → Run A → Run A → Type 0)
     (closed : IsClosed P Q)
-    (w : Scope) (units : Units) (stand_ins : StandIns)
+    (w : Scope) (units : Units) (stuck_faults : StuckFaults)
     (functions : (f : Name) (vs : List Datum) → P Datum (w.units.functions f vs) (units.functions f vs))
     (blocks : (b : Name) (at : Path) (s : Store) → P Store (w.units.blocks b at s) (units.blocks b at s))
-    (stands : StandRelated P w.stand_ins stand_ins)
+    (stands : StandRelated P w.stuck_faults stuck_faults)
   where
     -- the same place with the other units and the other faults
     abbrev other : Scope
@@ -76,7 +76,7 @@ module _
       body = w.body;
       image = w.image;
       now = w.now;
-      stand_ins = stand_ins;
+      stuck_faults = stuck_faults;
     }
 
     p_give : {A : Type 0} (a : A) → P A (give a) (give a)
@@ -89,7 +89,7 @@ module _
         → P B (m >>= f) (n >>= g)
     p_then h k = closed.follows h k
 
-    p_attempt : {A : Type 0} (r : Result A Failure) → P A (attempt w.stand_ins r) (attempt stand_ins r)
+    p_attempt : {A : Type 0} (r : Result A Failure) → P A (attempt w.stuck_faults r) (attempt stuck_faults r)
     p_attempt (Ok a) = p_give a
     p_attempt (Err (fails f)) = p_fault f
     p_attempt (Err valueless) = stands.lacks
@@ -130,7 +130,7 @@ module _
 
     test_p : (e : Expr) (s : Store) → P Bool (truth_of w e s) (truth_of other e s)
     unfolding truth_of
-    test_p e s = p_then (value_p s e) (λ v. p_attempt (truth v))
+    test_p e s = p_then (value_p s e) (λ v. p_attempt (condition_of v))
 
     given_p : (s : Store) (arguments : List Argument)
         → P (List (Name × Datum)) (given_inputs w s arguments) (given_inputs other s arguments)
@@ -139,7 +139,7 @@ module _
     given_p s (copied x v ∷ rest) = given_p s rest
 
     assigned_p : (at : Path) (vs : List (Name × Datum)) (s : Store)
-        → P Store (assigned_inputs w.stand_ins at vs s) (assigned_inputs stand_ins at vs s)
+        → P Store (assigned_inputs w.stuck_faults at vs s) (assigned_inputs stuck_faults at vs s)
     assigned_p at [] s = p_give s
     assigned_p at (e ∷ es) s = p_then (p_attempt (assigned s (member_at at e.0) e.1)) (λ t. assigned_p at es t)
 
@@ -169,35 +169,35 @@ module _
 
     guarded_p : (condition condition' : Store → Run Bool) (body body' : Store → Run End)
         → ((s : Store) → P Bool (condition s) (condition' s)) → ((s : Store) → P End (body s) (body' s)) → (s : Store)
-        → P Turn (guarded condition body s) (guarded condition' body' s)
+        → P Iteration (guarded condition body s) (guarded condition' body' s)
     unfolding guarded
     guarded_p condition condition' body body' h k s =
         p_then (h s) (λ go. p_if go (p_then (k s) (λ e. p_give (turned e))) (p_give (over (goes_on s))))
 
     asked_p : (condition condition' : Store → Run Bool) → ((s : Store) → P Bool (condition s) (condition' s))
-        → (e : End) → P Turn (asked condition e) (asked condition' e)
+        → (e : End) → P Iteration (tested_after condition e) (tested_after condition' e)
     asked_p condition condition' h (goes_on s) = p_then (h s) (λ stop. p_give _)
     asked_p condition condition' h (exits s) = p_give (over (goes_on s))
     asked_p condition condition' h (returns s) = p_give (over (returns s))
 
     until_p : (body body' : Store → Run End) (condition condition' : Store → Run Bool)
         → ((s : Store) → P End (body s) (body' s)) → ((s : Store) → P Bool (condition s) (condition' s)) → (s : Store)
-        → P Turn (until body condition s) (until body' condition' s)
+        → P Iteration (until body condition s) (until body' condition' s)
     unfolding until
     until_p body body' condition condition' k h s = p_then (k s) (λ e. asked_p condition condition' h e)
 
     runs_on_p : (x : Path) (limit step : ℤ) (s : Store)
-        → P Bool (runs_on w.stand_ins x limit step s) (runs_on stand_ins x limit step s)
+        → P Bool (runs_on w.stuck_faults x limit step s) (runs_on stuck_faults x limit step s)
     unfolding runs_on
     runs_on_p x limit step s = p_then (p_attempt (or_failure ill_typed (get s x))) (λ v. p_give _)
 
     step_on_p : (x : Path) (step : ℤ) (s : Store)
-        → P (Option Store) (step_on w.stand_ins x step s) (step_on stand_ins x step s)
+        → P (Option Store) (step_on w.stuck_faults x step s) (step_on stuck_faults x step s)
     unfolding step_on
     step_on_p x step s = p_attempt (proceed (or_failure ill_typed (get s x)) (λ v. stored s x (stepped_on step v)))
 
     behind_q : (e : End) (next next' : Store → Run End) → ((s : Store) → Q End (next s) (next' s))
-        → Q End (behind e next) (behind e next')
+        → Q End (continue_with e next) (continue_with e next')
     behind_q (goes_on s) next next' h = h s
     behind_q (exits s) next next' h = closed.begins (exits s)
     behind_q (returns s) next next' h = closed.begins (returns s)
@@ -252,48 +252,48 @@ module _
 module _
     (P Q : (A : Type 0) → Run A → Run A → Type 0)
     (closed : IsClosed P Q)
-    (stand_ins stand_ins' : StandIns) (library : Library) (image : Store) (now : ℕ) (units units' : Units)
+    (stuck_faults stand_ins' : StuckFaults) (library : Library) (image : Store) (now : ℕ) (units units' : Units)
     (functions : (f : Name) (vs : List Datum) → P Datum (units.functions f vs) (units'.functions f vs))
     (blocks : (b : Name) (at : Path) (s : Store) → P Store (units.blocks b at s) (units'.blocks b at s))
-    (stands : StandRelated P stand_ins stand_ins') (stands_q : StandRelated Q stand_ins stand_ins')
+    (stands : StandRelated P stuck_faults stand_ins') (stands_q : StandRelated Q stuck_faults stand_ins')
   where
-    q_attempt : {A : Type 0} (r : Result A Failure) → Q A (attempt stand_ins r) (attempt stand_ins' r)
+    q_attempt : {A : Type 0} (r : Result A Failure) → Q A (attempt stuck_faults r) (attempt stand_ins' r)
     q_attempt (Ok a) = closed.begins a
     q_attempt (Err (fails f)) = closed.stops f
     q_attempt (Err valueless) = stands_q.lacks
     q_attempt (Err ill_typed) = stands_q.errs
 
     body_q : (frame : Frame) (body : Body) (seen : Store) (s : Store) → Q End
-        (exec_all (record { units = units; frame = frame; body = body; image = seen; now = now; stand_ins = stand_ins })
+        (exec_all (record { units = units; frame = frame; body = body; image = seen; now = now; stuck_faults = stuck_faults })
         body.statements s)
         (exec_all
-        (record { units = units'; frame = frame; body = body; image = seen; now = now; stand_ins = stand_ins' })
+        (record { units = units'; frame = frame; body = body; image = seen; now = now; stuck_faults = stand_ins' })
         body.statements s)
     body_q frame body seen s = exec_all_q P Q closed
-        (record { units = units; frame = frame; body = body; image = seen; now = now; stand_ins = stand_ins }) units'
+        (record { units = units; frame = frame; body = body; image = seen; now = now; stuck_faults = stuck_faults }) units'
         stand_ins' functions blocks stands body.statements s
 
     function_q : (f : Function) (vs : List Datum)
-        → Q Datum (function_value stand_ins units now f vs) (function_value stand_ins' units' now f vs)
-    function_q f vs = closed.continues (q_attempt (begun f.fresh f.inputs vs))
+        → Q Datum (function_value stuck_faults units now f vs) (function_value stand_ins' units' now f vs)
+    function_q f vs = closed.continues (q_attempt (bound_inputs f.fresh f.inputs vs))
         (λ s. closed.continues (body_q of_call f.body [] s) (λ e. q_attempt _))
 
     block_call_q : (b : Block) (at : Path) (s : Store)
-        → Q Store (block_call stand_ins units image now b at s) (block_call stand_ins' units' image now b at s)
+        → Q Store (block_call stuck_faults units image now b at s) (block_call stand_ins' units' image now b at s)
     block_call_q b at s = closed.continues (body_q (of_block at) b.body image s) (λ e. closed.begins (store_of e))
 
     standard_q : (k : standard.StandardBlock) (at : Path) (s : Store)
-        → Q Store (standard_call stand_ins k now at s) (standard_call stand_ins' k now at s)
+        → Q Store (standard_call stuck_faults k now at s) (standard_call stand_ins' k now at s)
     standard_q k at s = closed.continues (q_attempt (or_failure ill_typed (member_values s at (members_of k))))
         (λ vs. q_attempt (members_assigned s at (members_of k) (stepped k now vs)))
 
     pub functions_q : (f : Name) (vs : List Datum)
-        → Q Datum (function_call stand_ins library units now f vs) (function_call stand_ins' library units' now f vs)
+        → Q Datum (function_call stuck_faults library units now f vs) (function_call stand_ins' library units' now f vs)
     functions_q f vs = closed.continues (q_attempt (or_failure ill_typed (function_in library.functions f)))
         (λ g. function_q g vs)
 
     pub instances_q : (b : Name) (o : Option standard.StandardBlock) (at : Path) (s : Store)
-        → Q Store (instance_call stand_ins library image units now b o at s)
+        → Q Store (instance_call stuck_faults library image units now b o at s)
         (instance_call stand_ins' library image units' now b o at s)
     instances_q b (Some k) at s = standard_q k at s
     instances_q b None at s = closed.continues (q_attempt (or_failure ill_typed (block_in library.blocks b)))

@@ -1,4 +1,4 @@
--- What a warm start makes of a record.
+-- The result of a warm start from a record.
 use Rattle.std.proofs.Common.{◌≡◌, Bool, true, false, ◌&&◌, ◌||◌, if◌then◌else◌, inl, inr, List, [], ◌∷◌, ◌++◌, map}
 use Rattle.std.proofs.Common.{ℕ, Option, Some, None, refl, sym, ap, ◌∙◌, append_assoc}
 use Rattle.std.specs.Prelude.{filter, fold, bytes_eq}
@@ -11,7 +11,7 @@ use Rattle.st_types.specs.Values.{Datum}
 use Rattle.st_types.specs.Paths.{Path, same_path}
 use Rattle.st_meaning.specs.Stores.{Store, get, shape_of, all_held}
 use Rattle.st_meaning.proofs.Shapes.{Same, same_refl}
-use Rattle.st_types.specs.Comparisons.{same_path_is, same_path_itself}
+use Rattle.st_types.specs.Comparisons.{same_path_is, same_path_itself, same_bytes_itself}
 use Rattle.st_meaning.proofs.RunLemmas.{store_after_same}
 use Rattle.st_types.specs.declared.entry.Entry.{Entry}
 use Rattle.st_types.specs.declared.entry.Entry.TheVariants.{Row, Done}
@@ -20,7 +20,7 @@ use Rattle.st_meaning.specs.Layouts.{Enumerations, path_text, type_text}
 use Rattle.st_types.specs.Rows.{Latch}
 use Rattle.st_meaning.specs.Plans.{Plan, ProgramInstance, initial_store, is_retained, image_of, after_run, program_at}
 use Rattle.st_meaning.specs.Logs.{Log, Past, row_at, with_entry, beginning, after}
-use Rattle.st_meaning.specs.Restarts.{Kept, KeptLine, lines_with, kept_of, is_line_of, value_in, restarted, warm_start}
+use Rattle.st_meaning.specs.Restarts.{Kept, KeptLine, lines_with, kept_of, is_line_of, restored_value, restarted, warm_start}
 
 same_then : {s t u : Store} → Same s t → Same t u → Same s u
 same_then h k = record { shape = k.shape ∙ h.shape; held = λ x. k.held (h.held x) }
@@ -29,37 +29,37 @@ same_then h k = record { shape = k.shape ∙ h.shape; held = λ x. k.held (h.hel
 
 -- the value in a line is one that the variable's type holds
 held_at : (types : Enumerations) (v : PlanVariable) (l : KeptLine) (found : Option KeptLine) (b : Bool) → is_line_of types v l ≡ b
-    → holds v.initial.kind (value_in v found).number ≡ true
-    → holds v.initial.kind (value_in v (if b then Some l else found)).number ≡ true
+    → holds v.initial.kind (restored_value v found).number ≡ true
+    → holds v.initial.kind (restored_value v (if b then Some l else found)).number ≡ true
 held_at types v l found true is rest =
     (and_parts (bytes_eq (path_text v.path) l.path && bytes_eq (type_text types v.initial.kind) l.spelling)
     (holds v.initial.kind l.number) is).1
 held_at types v l found false is rest = rest
 
 held_in : (types : Enumerations) (v : PlanVariable) (lines : List KeptLine) → holds v.initial.kind v.initial.number ≡ true
-    → holds v.initial.kind (value_in v (find (is_line_of types v) lines)).number ≡ true
+    → holds v.initial.kind (restored_value v (find (is_line_of types v) lines)).number ≡ true
 held_in types v [] held = held
 held_in types v (l ∷ lines) held =
     held_at types v l (find (is_line_of types v) lines) (is_line_of types v l) refl (held_in types v lines held)
 
-value_typed : (v : PlanVariable) (found : Option KeptLine) → (value_in v found).kind ≡ v.initial.kind
+value_typed : (v : PlanVariable) (found : Option KeptLine) → (restored_value v found).kind ≡ v.initial.kind
 value_typed v None = refl
 value_typed v (Some l) = refl
 
-restarted_typed : (types : Enumerations) (v : PlanVariable) (lines : List KeptLine) (r : Bool)
-    → (if r then value_in v (find (is_line_of types v) lines) else v.initial).kind ≡ v.initial.kind
+pub restarted_typed : (types : Enumerations) (v : PlanVariable) (lines : List KeptLine) (r : Bool)
+    → (if r then restored_value v (find (is_line_of types v) lines) else v.initial).kind ≡ v.initial.kind
 restarted_typed types v lines true = value_typed v (find (is_line_of types v) lines)
 restarted_typed types v lines false = refl
 
-restarted_held : (types : Enumerations) (v : PlanVariable) (lines : List KeptLine) (r : Bool) → holds v.initial.kind v.initial.number ≡ true
-    → holds v.initial.kind (if r then value_in v (find (is_line_of types v) lines) else v.initial).number ≡ true
+pub restarted_held : (types : Enumerations) (v : PlanVariable) (lines : List KeptLine) (r : Bool) → holds v.initial.kind v.initial.number ≡ true
+    → holds v.initial.kind (if r then restored_value v (find (is_line_of types v) lines) else v.initial).number ≡ true
 restarted_held types v lines true held = held_in types v lines held
 restarted_held types v lines false held = held
 
 abbrev pub initials : List PlanVariable → Store
 initials vs = map (λ v. (v.path, v.initial)) vs
 
--- the variables with what these lines give them
+-- the variables with the values that these lines give them
 abbrev pub restarts : Enumerations → List KeptLine → List PlanVariable → Store
 restarts types lines vs = map (λ v. (v.path, restarted types lines v)) vs
 
@@ -86,43 +86,40 @@ start_same plan (Some r) = restarts_same plan.enumerations r.lines plan.variable
 abbrev pub IsUnlike : List ℕ → Store → Type 0
 IsUnlike text s = AllByRecursion (λ e. bytes_eq text (path_text e.0) ≡ false) s
 
--- what is sought is not among the first lines
+-- the sought line is not among the first lines
 found_behind : (types : Enumerations) (v : PlanVariable) (s es : Store) → IsUnlike (path_text v.path) s
     → find (is_line_of types v) (lines_with types (s ++ es)) ≡ find (is_line_of types v) (lines_with types es)
 found_behind types v [] es h = refl
 found_behind types v (e ∷ s) es h = rw h.0 (found_behind types v s es h.1)
 
-same_text : (x : List ℕ) → bytes_eq x x ≡ true
-same_text x = (bytes_eq-Decides x x).1 refl
-
--- what is sought is the first line
+-- the sought line is the first one
 found_here : (types : Enumerations) (v : PlanVariable) (d : Datum) (es : Store) → d.kind ≡ v.initial.kind → holds d.kind d.number ≡ true
-    → value_in v (find (is_line_of types v) (lines_with types ((v.path, d) ∷ es))) ≡ d
+    → restored_value v (find (is_line_of types v) (lines_with types ((v.path, d) ∷ es))) ≡ d
 found_here types v d es kinds held =
     let holding : holds v.initial.kind d.number ≡ true = ap (λ k. holds k d.number) (sym kinds) ∙ held in
     let spelled : bytes_eq (type_text types v.initial.kind) (type_text types d.kind) ≡ true =
     ap (λ k. bytes_eq (type_text types v.initial.kind) (type_text types k)) kinds
-    ∙ same_text (type_text types v.initial.kind) in
+    ∙ same_bytes_itself (type_text types v.initial.kind) in
     let own : ◌≡◌ {A = Datum} record { kind = v.initial.kind; number = d.number } d =
     ap (λ k. record { kind = k; number = d.number }) (sym kinds) in
-    rw (same_text (path_text v.path), spelled, holding) own
+    rw (same_bytes_itself (path_text v.path), spelled, holding) own
 
--- a variable that is written apart from those of the first lines takes the value of its own line, where it is retained
+-- a variable that is written apart from those of the first lines takes the value of its own line, if it is retained
 pub taken : (types : Enumerations) (v : PlanVariable) (d : Datum) (before rest : Store) (lines : List KeptLine) (r : Bool) → v.retained ≡ r
     → IsUnlike (path_text v.path) before → d.kind ≡ v.initial.kind → holds d.kind d.number ≡ true
     → lines ≡ lines_with types (before ++ (if r then (v.path, d) ∷ rest else rest))
     → restarted types lines v ≡ (if r then d else v.initial)
 taken types v d before rest lines true is apart kinds held all =
-    rw is (ap (λ ls. value_in v (find (is_line_of types v) ls)) all
-    ∙ ap (value_in v) (found_behind types v before ((v.path, d) ∷ rest) apart) ∙ found_here types v d rest kinds held)
+    rw is (ap (λ ls. restored_value v (find (is_line_of types v) ls)) all
+    ∙ ap (restored_value v) (found_behind types v before ((v.path, d) ∷ rest) apart) ∙ found_here types v d rest kinds held)
 taken types v d before rest lines false is apart kinds held all = rw is refl
 
--- ---- what was kept is given back
+-- ---- values that were kept are given back
 
 abbrev texts : List PlanVariable → List (List ℕ)
 texts vs = map (λ v. path_text v.path) vs
 
--- whether a path is kept goes by the declaration of its own variable
+-- the declaration of a path's own variable decides whether it is kept
 abbrev pub GoesByItself : (Path → Bool) → List PlanVariable → Type 0
 GoesByItself keep vs = AllByRecursion (λ v. keep v.path ≡ v.retained) vs
 
@@ -134,7 +131,7 @@ unlike p q apart = elim (cases_Bool (same_path q p)) [
   | inl same ↦
       let one : q ≡ p = same_path_is q p same in
       let t : bytes_eq (path_text p) (path_text q) ≡ true =
-      ap (λ x. bytes_eq (path_text p) (path_text x)) one ∙ same_text (path_text p) in
+      ap (λ x. bytes_eq (path_text p) (path_text x)) one ∙ same_bytes_itself (path_text p) in
       let f : true ≡ false = sym t ∙ apart in absurd (cc)
   | inr f ↦ f
 ]
@@ -147,10 +144,10 @@ turned p q apart = elim (cases_Bool (same_path p q)) [
   | inr f ↦ f
 ]
 
-kept_behind : (p q : Path) (r rest : Bool) → same_path p q ≡ false → ((same_path p q && r) || rest) ≡ rest
+pub kept_behind : (p q : Path) (r rest : Bool) → same_path p q ≡ false → ((same_path p q && r) || rest) ≡ rest
 kept_behind p q r rest apart = rw apart refl
 
-kept_here : (p : Path) (r rest : Bool) → rest ≡ false → ((same_path p p && r) || rest) ≡ r
+pub kept_here : (p : Path) (r rest : Bool) → rest ≡ false → ((same_path p p && r) || rest) ≡ r
 kept_here p true rest none = rw (same_path_itself p) refl
 kept_here p false rest none = rw (same_path_itself p, none) refl
 
@@ -194,11 +191,11 @@ text_turned : (x y : List ℕ) → bytes_eq x y ≡ false → bytes_eq y x ≡ f
 text_turned x y apart = elim (cases_Bool (bytes_eq y x)) [
   | inl same ↦
       let one : y ≡ x = (bytes_eq-Decides y x).0 same in
-      let t : bytes_eq x y ≡ true = ap (bytes_eq x) one ∙ same_text x in absurd (cc)
+      let t : bytes_eq x y ≡ true = ap (bytes_eq x) one ∙ same_bytes_itself x in absurd (cc)
   | inr f ↦ f
 ]
 
--- one variable more stands before, written apart from those that come
+-- one variable more is before, written apart from those that come
 pub unlike_next : (v : PlanVariable) (d : Datum) (s : Store) (vs : List PlanVariable)
     → AllByRecursion (λ x. bytes_eq (path_text v.path) x ≡ false) (texts vs) → AreUnlike vs s
     → AreUnlike vs (s ++ (v.path, d) ∷ [])

@@ -11,16 +11,16 @@ use Rattle.st_types.specs.Paths.{Path, same_path}
 use Rattle.st_types.specs.Statements.{Argument, given, copied, Stmt, empty, assign, invoke, IF, CASE, FOR, WHILE}
 use Rattle.st_types.specs.Statements.{REPEAT, EXIT, RETURN, Stmts, no_stmts, stmt_then, Arms, no_arms, arm_then}
 use Rattle.st_types.specs.Statements.{CaseArms, no_case_arms, case_arm_then}
-use Rattle.st_meaning.specs.Failures.{Failure, ill_typed, StandIns, in_runs, or_failure}
-use Rattle.st_meaning.specs.Stores.{Store, get, may_replace, replaced, behind_first, assigned, shape_of, all_held}
+use Rattle.st_meaning.specs.Failures.{Failure, ill_typed, StuckFaults, in_runs, or_failure}
+use Rattle.st_meaning.specs.Stores.{Store, get, may_replace, replaced, with_entry, assigned, shape_of, all_held}
 use Rattle.st_meaning.specs.Ticks.{Run, follow, ◌>>=◌, ◌>>◌, give, fault, attempt, proceed, tick}
 use Rattle.st_meaning.specs.StandardBlocks as standard
 use Rattle.st_meaning.specs.StandardBlocks.{BlockMember, block_of, members_of, stepped}
 use Rattle.st_meaning.specs.Scopes.{Name, of_block, Block, Library, Units, Scope, path_in, member_at, block_named}
 use Rattle.st_meaning.specs.Scopes.{block_in}
 use Rattle.st_meaning.specs.Evaluation.{value, place, truth_of}
-use Rattle.st_meaning.specs.Loops.{End, goes_on, exits, returns, behind, Turn, again, over, turned, resumed, go_back}
-use Rattle.st_meaning.specs.Loops.{turns, looped, guarded, asked, until, runs_on, step_on, stepped_on, stored}
+use Rattle.st_meaning.specs.Loops.{End, goes_on, exits, returns, continue_with, Iteration, again, over, turned, resumed, go_back}
+use Rattle.st_meaning.specs.Loops.{turns, looped, guarded, tested_after, until, runs_on, step_on, stepped_on, stored}
 use Rattle.st_meaning.specs.Loops.{no_step, nonzero}
 use Rattle.st_meaning.specs.Execution.{label_holds, given_inputs, assigned_inputs, copied_outputs, ran_block, step_of}
 use Rattle.st_meaning.specs.Execution.{exec, exec_all, exec_arms, exec_case}
@@ -35,7 +35,7 @@ pub record Same (s t : Store) : Type 0 where
 pub same_refl : (s : Store) → Same s s
 same_refl s = record { shape = refl; held = λ h. h }
 
-same_then : {s t u : Store} → Same s t → Same t u → Same s u
+pub same_then : {s t u : Store} → Same s t → Same t u → Same s u
 same_then h k = record { shape = k.shape ∙ h.shape; held = λ x. k.held (h.held x) }
 
 same_is : (s t : Store) → s ≡ t → Same s t
@@ -55,7 +55,7 @@ replaced_same e v s t true k h =
 replaced_same e v s t false k h = absurd (cc)
 
 behind_same : (e : Path × Datum) (s t : Store) (r : Result Store Failure) → ((u : Store) → r ≡ Ok u → Same s u)
-    → behind_first e r ≡ Ok t → Same (e ∷ s) t
+    → with_entry e r ≡ Ok t → Same (e ∷ s) t
 behind_same e s t (Ok u) k h =
     let q : ◌≡◌ {A = Store} (e ∷ u) t = cc in
     let m = k u refl in
@@ -67,14 +67,14 @@ behind_same e s t (Ok u) k h =
     }) (same_is (e ∷ u) t q)
 behind_same e s t (Err f) k h = absurd (cc)
 
-may_replace_is : (old new : Datum) → may_replace old new ≡ true
+pub may_replace_is : (old new : Datum) → may_replace old new ≡ true
     → (old.kind ≡ new.kind) × (holds new.kind new.number ≡ true)
 may_replace_is old new h = let x = and_parts (same_kind old.kind new.kind) (holds new.kind new.number) h in
     (same_kind_is old.kind new.kind x.0, x.1)
 
 assigned_at : (e : Path × Datum) (p : Path) (v : Datum) (s t : Store) (b : Bool)
     → ((u : Store) → assigned s p v ≡ Ok u → Same s u)
-    → (if b then replaced e v s else behind_first e (assigned s p v)) ≡ Ok t → Same (e ∷ s) t
+    → (if b then replaced e v s else with_entry e (assigned s p v)) ≡ Ok t → Same (e ∷ s) t
 assigned_at e p v s t true k h = replaced_same e v s t (may_replace e.1 v) (may_replace_is e.1 v) h
 assigned_at e p v s t false k h = behind_same e s t (assigned s p v) k h
 
@@ -82,7 +82,7 @@ pub assigned_same : (s : Store) (p : Path) (v : Datum) (t : Store) → assigned 
 assigned_same [] p v t h = absurd (cc)
 assigned_same (e ∷ s) p v t h = assigned_at e p v s t (same_path p e.0) (λ u. assigned_same s p v u) h
 
--- what a run gives has a store of the same variables
+-- the result of a run has a store of the same variables
 pub record Keeps (A : Type 0) (store : A → Store) (s : Store) (m : Run A) : Type 0 where
   pub kept : (b : ℕ) (a : A) (c : ℕ) → m b ≡ Ok (a, c) → Same s (store a)
 
@@ -123,16 +123,16 @@ keeps_tick store s {m = m} h = record { kept = λ b x c e. kept_follow store s (
 abbrev itself : Store → Store
 itself s = s
 
-keeps_attempt : (stand_ins : StandIns) (s : Store) (r : Result Store Failure) → ((t : Store) → r ≡ Ok t → Same s t)
-    → Keeps Store itself s (attempt stand_ins r)
-keeps_attempt stand_ins s (Ok t) h = keeps_give itself s t (h t refl)
-keeps_attempt stand_ins s (Err e) h = keeps_fault itself s _
+keeps_attempt : (stuck_faults : StuckFaults) (s : Store) (r : Result Store Failure) → ((t : Store) → r ≡ Ok t → Same s t)
+    → Keeps Store itself s (attempt stuck_faults r)
+keeps_attempt stuck_faults s (Ok t) h = keeps_give itself s t (h t refl)
+keeps_attempt stuck_faults s (Err e) h = keeps_fault itself s _
 
-keeps_assigned : (stand_ins : StandIns) (s : Store) (p : Path) (v : Datum)
-    → Keeps Store itself s (attempt stand_ins (assigned s p v))
-keeps_assigned stand_ins s p v = keeps_attempt stand_ins s (assigned s p v) (assigned_same s p v)
+keeps_assigned : (stuck_faults : StuckFaults) (s : Store) (p : Path) (v : Datum)
+    → Keeps Store itself s (attempt stuck_faults (assigned s p v))
+keeps_assigned stuck_faults s p v = keeps_attempt stuck_faults s (assigned s p v) (assigned_same s p v)
 
-abbrev store_of_turn : Turn → Store
+abbrev store_of_turn : Iteration → Store
 store_of_turn (again s) = s
 store_of_turn (over e) = store_of e
 
@@ -141,20 +141,20 @@ turned_same (goes_on s) = refl
 turned_same (exits s) = refl
 turned_same (returns s) = refl
 
--- the store after a step of the control variable, or before it where there is none
+-- the store after a step of the control variable, or before it if there is none
 abbrev or_before : Store → Option Store → Store
 or_before s None = s
 or_before s (Some t) = t
 
-module _ (turn : Store → Run Turn) (step : Store → Run (Option Store))
-    (h : (s : Store) → Keeps Turn store_of_turn s (turn s))
+module _ (turn : Store → Run Iteration) (step : Store → Run (Option Store))
+    (h : (s : Store) → Keeps Iteration store_of_turn s (turn s))
     (k : (s : Store) → Keeps (Option Store) (or_before s) s (step s)) where
   resumed_keeps : (next : Store → Run End) → ((s : Store) → Keeps End store_of s (next s))
       → (s : Store) (o : Option Store) → Keeps End store_of (or_before s o) (resumed next s o)
   resumed_keeps next n s None = keeps_give store_of s (goes_on s) (same_refl s)
   resumed_keeps next n s (Some t) = n t
 
-  back_keeps : (next : Store → Run End) → ((s : Store) → Keeps End store_of s (next s)) → (t : Turn)
+  back_keeps : (next : Store → Run End) → ((s : Store) → Keeps End store_of s (next s)) → (t : Iteration)
       → Keeps End store_of (store_of_turn t) (go_back step next t)
   back_keeps next n (over e) = keeps_give store_of (store_of e) e (same_refl (store_of e))
   back_keeps next n (again s) =
@@ -171,68 +171,68 @@ module _ (turn : Store → Run Turn) (step : Store → Run (Option Store))
   looped_keeps s = record { kept = λ b a c e. (turns_keep (suc b) s).kept b a c e }
 
 guarded_keeps : (condition : Store → Run Bool) (body : Store → Run End) → ((s : Store) → Keeps End store_of s (body s))
-    → (s : Store) → Keeps Turn store_of_turn s (guarded condition body s)
+    → (s : Store) → Keeps Iteration store_of_turn s (guarded condition body s)
 unfolding guarded
 guarded_keeps condition body h s = keeps_behind store_of_turn s (condition s) (λ go. chosen go)
   where
     chosen : (go : Bool)
-        → Keeps Turn store_of_turn s (if go then (body s >>= (λ e. give (turned e))) else give (over (goes_on s)))
+        → Keeps Iteration store_of_turn s (if go then (body s >>= (λ e. give (turned e))) else give (over (goes_on s)))
     chosen true = keeps_then store_of store_of_turn s (h s) (λ e. keeps_give store_of_turn (store_of e) (turned e)
         (same_is (store_of e) (store_of_turn (turned e)) (sym (turned_same e))))
     chosen false = keeps_give store_of_turn s (over (goes_on s)) (same_refl s)
 
-asked_keeps : (condition : Store → Run Bool) (e : End) → Keeps Turn store_of_turn (store_of e) (asked condition e)
+asked_keeps : (condition : Store → Run Bool) (e : End) → Keeps Iteration store_of_turn (store_of e) (tested_after condition e)
 asked_keeps condition (goes_on s) = keeps_behind store_of_turn s (condition s) (λ stop. chosen stop)
   where
-    chosen : (stop : Bool) → Keeps Turn store_of_turn s (give (if stop then over (goes_on s) else again s))
+    chosen : (stop : Bool) → Keeps Iteration store_of_turn s (give (if stop then over (goes_on s) else again s))
     chosen true = keeps_give store_of_turn s (over (goes_on s)) (same_refl s)
     chosen false = keeps_give store_of_turn s (again s) (same_refl s)
 asked_keeps condition (exits s) = keeps_give store_of_turn s (over (goes_on s)) (same_refl s)
 asked_keeps condition (returns s) = keeps_give store_of_turn s (over (returns s)) (same_refl s)
 
 until_keeps : (body : Store → Run End) (condition : Store → Run Bool) → ((s : Store) → Keeps End store_of s (body s))
-    → (s : Store) → Keeps Turn store_of_turn s (until body condition s)
+    → (s : Store) → Keeps Iteration store_of_turn s (until body condition s)
 unfolding until
 until_keeps body condition h s = keeps_then store_of store_of_turn s (h s) (λ e. asked_keeps condition e)
 
-stored_keeps : (stand_ins : StandIns) (s : Store) (x : Path) (o : Option Datum)
-    → Keeps (Option Store) (or_before s) s (attempt stand_ins (stored s x o))
-stored_keeps stand_ins s x None = keeps_give (or_before s) s None (same_refl s)
-stored_keeps stand_ins s x (Some v) = after_assignment (assigned s x v) (assigned_same s x v)
+stored_keeps : (stuck_faults : StuckFaults) (s : Store) (x : Path) (o : Option Datum)
+    → Keeps (Option Store) (or_before s) s (attempt stuck_faults (stored s x o))
+stored_keeps stuck_faults s x None = keeps_give (or_before s) s None (same_refl s)
+stored_keeps stuck_faults s x (Some v) = after_assignment (assigned s x v) (assigned_same s x v)
   where
     after_assignment : (r : Result Store Failure) → ((t : Store) → r ≡ Ok t → Same s t)
-        → Keeps (Option Store) (or_before s) s (attempt stand_ins (proceed r (λ t. Ok (Some t))))
+        → Keeps (Option Store) (or_before s) s (attempt stuck_faults (proceed r (λ t. Ok (Some t))))
     after_assignment (Ok t) h = keeps_give (or_before s) s (Some t) (h t refl)
     after_assignment (Err e) h = keeps_fault (or_before s) s _
 
-next_keeps : (stand_ins : StandIns) (s : Store) (x : Path) (step : ℤ) (o : Option Datum) → Keeps (Option Store)
-    (or_before s) s (attempt stand_ins (proceed (or_failure ill_typed o) (λ v. stored s x (stepped_on step v))))
-next_keeps stand_ins s x step None = keeps_fault (or_before s) s _
-next_keeps stand_ins s x step (Some v) = stored_keeps stand_ins s x (stepped_on step v)
+next_keeps : (stuck_faults : StuckFaults) (s : Store) (x : Path) (step : ℤ) (o : Option Datum) → Keeps (Option Store)
+    (or_before s) s (attempt stuck_faults (proceed (or_failure ill_typed o) (λ v. stored s x (stepped_on step v))))
+next_keeps stuck_faults s x step None = keeps_fault (or_before s) s _
+next_keeps stuck_faults s x step (Some v) = stored_keeps stuck_faults s x (stepped_on step v)
 
-step_keeps : (stand_ins : StandIns) (x : Path) (step : ℤ) (s : Store)
-    → Keeps (Option Store) (or_before s) s (step_on stand_ins x step s)
+step_keeps : (stuck_faults : StuckFaults) (x : Path) (step : ℤ) (s : Store)
+    → Keeps (Option Store) (or_before s) s (step_on stuck_faults x step s)
 unfolding step_on
-step_keeps stand_ins x step s = next_keeps stand_ins s x step (get s x)
+step_keeps stuck_faults x step s = next_keeps stuck_faults s x step (get s x)
 
 no_step_keeps : (s : Store) → Keeps (Option Store) (or_before s) s (no_step s)
 no_step_keeps s = keeps_give (or_before s) s (Some s) (same_refl s)
 
 module _ (w : Scope) (blocks : (b : Name) (at : Path) (s : Store) → Keeps Store itself s (w.units.blocks b at s)) where
   inputs_keep : (at : Path) (vs : List (Name × Datum)) (s : Store)
-      → Keeps Store itself s (assigned_inputs w.stand_ins at vs s)
+      → Keeps Store itself s (assigned_inputs w.stuck_faults at vs s)
   inputs_keep at [] s = keeps_give itself s s (same_refl s)
   inputs_keep at (e ∷ es) s =
-      keeps_then itself itself s (keeps_assigned w.stand_ins s (member_at at e.0) e.1) (λ t. inputs_keep at es t)
+      keeps_then itself itself s (keeps_assigned w.stuck_faults s (member_at at e.0) e.1) (λ t. inputs_keep at es t)
 
   outputs_keep : (at : Path) (arguments : List Argument) (s : Store)
       → Keeps Store itself s (copied_outputs w at arguments s)
   outputs_keep at [] s = keeps_give itself s s (same_refl s)
   outputs_keep at (given x e ∷ rest) s = outputs_keep at rest s
   outputs_keep at (copied x v ∷ rest) s =
-      keeps_behind itself s (attempt w.stand_ins (or_failure ill_typed (get s (member_at at x.name))))
+      keeps_behind itself s (attempt w.stuck_faults (or_failure ill_typed (get s (member_at at x.name))))
       (λ o. keeps_behind itself s (place w s v)
-      (λ p. keeps_then itself itself s (keeps_assigned w.stand_ins s p o) (λ t. outputs_keep at rest t)))
+      (λ p. keeps_then itself itself s (keeps_assigned w.stuck_faults s p o) (λ t. outputs_keep at rest t)))
 
   block_keeps : (at : Path) (o : Option Name) (s : Store) → Keeps Store itself s (ran_block w at o s)
   block_keeps at None s = keeps_fault itself s _
@@ -244,7 +244,7 @@ module _ (w : Scope) (blocks : (b : Name) (at : Path) (s : Store) → Keeps Stor
   if_keeps s false h k = k
 
   behind_keeps : (e : End) (next : Store → Run End) → ((s : Store) → Keeps End store_of s (next s))
-      → Keeps End store_of (store_of e) (behind e next)
+      → Keeps End store_of (store_of e) (continue_with e next)
   behind_keeps (goes_on s) next h = h s
   behind_keeps (exits s) next h = keeps_give store_of s (exits s) (same_refl s)
   behind_keeps (returns s) next h = keeps_give store_of s (returns s) (same_refl s)
@@ -254,7 +254,7 @@ module _ (w : Scope) (blocks : (b : Name) (at : Path) (s : Store) → Keeps Stor
     exec_keeps empty s = keeps_tick store_of s (keeps_give store_of s (goes_on s) (same_refl s))
     exec_keeps (assign v e) s =
         keeps_tick store_of s (keeps_behind store_of s (value w s e) (λ x. keeps_behind store_of s (place w s v) (λ p.
-        keeps_then itself store_of s (keeps_assigned w.stand_ins s p x)
+        keeps_then itself store_of s (keeps_assigned w.stuck_faults s p x)
         (λ t. keeps_give store_of t (goes_on t) (same_refl t)))))
     exec_keeps (invoke x arguments) s =
         keeps_tick store_of s (keeps_behind store_of s (given_inputs w s arguments)
@@ -270,11 +270,11 @@ module _ (w : Scope) (blocks : (b : Name) (at : Path) (s : Store) → Keeps Stor
     exec_keeps (FOR x start limit step body) s =
         keeps_tick store_of s (keeps_behind store_of s (value w s start) (λ i. keeps_behind store_of s (value w s limit)
         (λ n. keeps_behind store_of s (step_of w s step) (λ d. keeps_behind store_of s (nonzero d)
-        (λ _. keeps_then itself store_of s (keeps_assigned w.stand_ins s (path_in w.frame w.body x.name) i)
-        (λ t. looped_keeps _ (step_on w.stand_ins (path_in w.frame w.body x.name) d)
-        (guarded_keeps (runs_on w.stand_ins (path_in w.frame w.body x.name) n.number d) (exec_all w body)
+        (λ _. keeps_then itself store_of s (keeps_assigned w.stuck_faults s (path_in w.frame w.body x.name) i)
+        (λ t. looped_keeps _ (step_on w.stuck_faults (path_in w.frame w.body x.name) d)
+        (guarded_keeps (runs_on w.stuck_faults (path_in w.frame w.body x.name) n.number d) (exec_all w body)
         (exec_all_keeps body))
-        (step_keeps w.stand_ins (path_in w.frame w.body x.name) d) t))))))
+        (step_keeps w.stuck_faults (path_in w.frame w.body x.name) d) t))))))
     exec_keeps (WHILE e body) s = keeps_tick store_of s
         (looped_keeps _ no_step (guarded_keeps (truth_of w e) (exec_all w body) (exec_all_keeps body)) no_step_keeps s)
     exec_keeps (REPEAT body e) s = keeps_tick store_of s
@@ -313,32 +313,32 @@ members_same s at (m ∷ ms) (v ∷ vs) t e =
     next (Ok u) h k e = same_then (h u refl) (k u e)
     next (Err f) h k e = absurd (cc)
 
-standard_keeps : (stand_ins : StandIns) (k : standard.StandardBlock) (now : ℕ) (at : Path) (s : Store)
-    → Keeps Store itself s (standard_call stand_ins k now at s)
-standard_keeps stand_ins k now at s = keeps_behind itself s _ (λ vs. keeps_attempt stand_ins s
+standard_keeps : (stuck_faults : StuckFaults) (k : standard.StandardBlock) (now : ℕ) (at : Path) (s : Store)
+    → Keeps Store itself s (standard_call stuck_faults k now at s)
+standard_keeps stuck_faults k now at s = keeps_behind itself s _ (λ vs. keeps_attempt stuck_faults s
     (members_assigned s at (members_of k) (stepped k now vs)) (members_same s at (members_of k) (stepped k now vs)))
 
-module _ (stand_ins : StandIns) (library : Library) (image : Store) (now : ℕ) (units : Units)
+module _ (stuck_faults : StuckFaults) (library : Library) (image : Store) (now : ℕ) (units : Units)
     (blocks : (b : Name) (at : Path) (s : Store) → Keeps Store itself s (units.blocks b at s)) where
-  body_keeps : (b : Block) (at : Path) (s : Store) → Keeps Store itself s (block_call stand_ins units image now b at s)
+  body_keeps : (b : Block) (at : Path) (s : Store) → Keeps Store itself s (block_call stuck_faults units image now b at s)
   body_keeps b at s = keeps_then store_of itself s (exec_all_keeps
-      (record { units = units; frame = of_block at; body = b.body; image = image; now = now; stand_ins = stand_ins })
+      (record { units = units; frame = of_block at; body = b.body; image = image; now = now; stuck_faults = stuck_faults })
       blocks
       b.body.statements s) (λ e. keeps_give itself (store_of e) (store_of e) (same_refl (store_of e)))
 
   instance_keeps : (b : Name) (o : Option standard.StandardBlock) (at : Path) (s : Store)
-      → Keeps Store itself s (instance_call stand_ins library image units now b o at s)
-  instance_keeps b (Some k) at s = standard_keeps stand_ins k now at s
+      → Keeps Store itself s (instance_call stuck_faults library image units now b o at s)
+  instance_keeps b (Some k) at s = standard_keeps stuck_faults k now at s
   instance_keeps b None at s =
-      keeps_behind itself s (attempt stand_ins (or_failure ill_typed (block_in library.blocks b)))
+      keeps_behind itself s (attempt stuck_faults (or_failure ill_typed (block_in library.blocks b)))
       (λ c. body_keeps c at s)
 
-units_keep : (stand_ins : StandIns) (library : Library) (image : Store) (now n : ℕ) (b : Name) (at : Path) (s : Store)
-    → Keeps Store itself s ((units_within stand_ins library image now n).blocks b at s)
+units_keep : (stuck_faults : StuckFaults) (library : Library) (image : Store) (now n : ℕ) (b : Name) (at : Path) (s : Store)
+    → Keeps Store itself s ((units_within stuck_faults library image now n).blocks b at s)
 unfolding units_within
-units_keep stand_ins library image now zero b at s = keeps_fault itself s _
-units_keep stand_ins library image now (suc n) b at s = instance_keeps stand_ins library image now
-    (units_within stand_ins library image now n) (units_keep stand_ins library image now n) b (block_of b) at s
+units_keep stuck_faults library image now zero b at s = keeps_fault itself s _
+units_keep stuck_faults library image now (suc n) b at s = instance_keeps stuck_faults library image now
+    (units_within stuck_faults library image now n) (units_keep stuck_faults library image now n) b (block_of b) at s
 
 pub ran_keeps : (p : Program) (image : Store) (now b : ℕ) (s : Store) (e : End) (c : ℕ)
     → ran p image now b s ≡ Ok (e, c) → Same s (store_of e)

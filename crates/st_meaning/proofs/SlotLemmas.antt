@@ -1,21 +1,21 @@
--- What is read and assigned by paths is what is read and written by slots.
+-- Values read and assigned by paths are those read and written by slots.
 use Rattle.std.proofs.Common.{◌≡◌, ℕ, suc, Bool, true, false, ◌&&◌, if◌then◌else◌, List, [], ◌∷◌, length, slice_get}
 use Rattle.std.proofs.Common.{slice_set, Option, Some, None, option_map, Ok, Err, refl, sym, ap, ◌∙◌, ℤ, arith}
 use Rattle.st_types.specs.Values.{Datum}
 use Rattle.st_types.specs.Comparisons.{same_path_is}
 use Rattle.st_types.specs.Paths.{Path, same_path}
 use Rattle.st_meaning.specs.Failures.{ill_typed}
-use Rattle.st_meaning.specs.Stores.{Store, get, may_replace, replaced, behind_first, assigned}
+use Rattle.st_meaning.specs.Stores.{Store, get, may_replace, replaced, with_entry, assigned}
 use Rattle.st_meaning.specs.Scopes.{seen, or_datum}
-use Rattle.st_meaning.specs.Slots.{Slot, slot_of, IsLayout, variables_in, inputs_in, written_slot}
+use Rattle.st_meaning.specs.Slots.{Slot, slot_of, IsLayout, variables_with, inputs_in, after_write}
 
 -- a slot's value, by the number that its path has
 variable_cases : (l : Slot) (ls : List Slot) (v : Datum) (vs : List Datum) (p : Path) (i : ℕ) (m : Slot)
     (t input : Bool) (o : Option ℕ) → (l.is_input ≡ input) → (t ≡ same_path p l.path) → slice_get (l ∷ ls) i ≡ Some m
     → m.is_input ≡ false
-    → ((j : ℕ) → o ≡ Some j → slice_get ls j ≡ Some m → get (variables_in ls vs) p ≡ slice_get vs j)
+    → ((j : ℕ) → o ≡ Some j → slice_get ls j ≡ Some m → get (variables_with ls vs) p ≡ slice_get vs j)
     → (if t then Some 0 else option_map suc o) ≡ Some i
-    → get (if input then variables_in ls vs else (l.path, v) ∷ variables_in ls vs) p ≡ slice_get (v ∷ vs) i
+    → get (if input then variables_with ls vs else (l.path, v) ∷ variables_with ls vs) p ≡ slice_get (v ∷ vs) i
 variable_cases l ls v vs p i m true true o e t at out rest h =
     let z : i ≡ 0 = cc in let q : Some l ≡ Some m = rw z at at in let r : l ≡ m = cc in
     let w : true ≡ false = sym e ∙ ap (λ x. x.is_input) r ∙ out in absurd (cc)
@@ -28,7 +28,7 @@ variable_cases l ls v vs p i m false false (Some j) e t at out rest h = let z : 
 
 pub get_variable : (layout : List Slot) (vs : List Datum) (p : Path) (i : ℕ) (m : Slot) → length layout ≡ length vs
     → slot_of layout p ≡ Some i → slice_get layout i ≡ Some m → m.is_input ≡ false
-    → get (variables_in layout vs) p ≡ slice_get vs i
+    → get (variables_with layout vs) p ≡ slice_get vs i
 get_variable [] vs p i m len h at out = absurd (cc)
 get_variable (l ∷ ls) [] p i m len h at out = absurd (omega arith)
 get_variable (l ∷ ls) (v ∷ vs) p i m len h at out =
@@ -60,7 +60,7 @@ get_input (l ∷ ls) (v ∷ vs) p i m len h at out =
     input_cases l ls v vs p i m (same_path p l.path) l.is_input (slot_of ls p) refl refl at out
     (λ j is there. get_input ls vs p j m (omega arith) is there out) h
 
--- what has a value among the variables or the inputs has a slot of its kind
+-- a path with a value among the variables or the inputs has a slot of its kind
 pub record HasSlot (layout : List Slot) (p : Path) (input : Bool) : Type 0 where
   pub number : ℕ
   pub slot : Slot
@@ -78,14 +78,14 @@ here_or l ls v w s p sort true e is rest h = record { number = 0; slot = l; at =
 here_or l ls v w s p sort false e is rest h = behind_slot l ls p sort (rest h)
 
 variable_found : (l : Slot) (ls : List Slot) (v w : Datum) (vs : List Datum) (p : Path) (input : Bool)
-    → l.is_input ≡ input → (get (variables_in ls vs) p ≡ Some w → HasSlot ls p false)
-    → get (if input then variables_in ls vs else (l.path, v) ∷ variables_in ls vs) p ≡ Some w → HasSlot (l ∷ ls) p false
+    → l.is_input ≡ input → (get (variables_with ls vs) p ≡ Some w → HasSlot ls p false)
+    → get (if input then variables_with ls vs else (l.path, v) ∷ variables_with ls vs) p ≡ Some w → HasSlot (l ∷ ls) p false
 variable_found l ls v w vs p true e rest h = behind_slot l ls p false (rest h)
 variable_found l ls v w vs p false e rest h =
-    here_or l ls v w (variables_in ls vs) p false (same_path p l.path) e (same_path_is p l.path) rest h
+    here_or l ls v w (variables_with ls vs) p false (same_path p l.path) e (same_path_is p l.path) rest h
 
 pub variable_has : (layout : List Slot) (vs : List Datum) (p : Path) (w : Datum)
-    → get (variables_in layout vs) p ≡ Some w → HasSlot layout p false
+    → get (variables_with layout vs) p ≡ Some w → HasSlot layout p false
 variable_has [] vs p w h = absurd (cc)
 variable_has (l ∷ ls) [] p w h = absurd (cc)
 variable_has (l ∷ ls) (v ∷ vs) p w h = variable_found l ls v w vs p l.is_input refl (variable_has ls vs p w) h
@@ -128,14 +128,14 @@ none_where s p h = cases (get s p) h
 
 pub seen_slot : (layout : List Slot) (vs : List Datum) → IsLayout layout → length layout ≡ length vs
     → (k : ℕ) (l : Slot) → slice_get layout k ≡ Some l
-    → seen (inputs_in layout vs) (variables_in layout vs) l.path ≡ slice_get vs k
+    → seen (inputs_in layout vs) (variables_with layout vs) l.path ≡ slice_get vs k
 seen_slot layout vs distinct len k l at = by_sort l.is_input refl
   where
     by_sort : (input : Bool) → l.is_input ≡ input
-        → seen (inputs_in layout vs) (variables_in layout vs) l.path ≡ slice_get vs k
+        → seen (inputs_in layout vs) (variables_with layout vs) l.path ≡ slice_get vs k
     by_sort true e =
         let a = get_input layout vs l.path k l len (distinct k l at) at e in
-        let b = none_where (variables_in layout vs) l.path (λ w h. let f = one_sort layout distinct k l false at
+        let b = none_where (variables_with layout vs) l.path (λ w h. let f = one_sort layout distinct k l false at
         (variable_has layout vs l.path w h) in let g : true ≡ false = sym e ∙ f in absurd (cc)) in
         rw (a, b) (either (slice_get vs k))
     by_sort false e =
@@ -145,8 +145,8 @@ seen_slot layout vs distinct len k l at = by_sort l.is_input refl
         rw (b, a) refl
 
 behind_written : (e : Path × Datum) (ls : List Slot) (vs : List Datum) (j : ℕ) (old v : Datum) (b : Bool)
-    → behind_first e (if b then Ok (variables_in ls (slice_set vs j v)) else Err ill_typed)
-    ≡ (if b then Ok (e ∷ variables_in ls (slice_set vs j v)) else Err ill_typed)
+    → with_entry e (if b then Ok (variables_with ls (slice_set vs j v)) else Err ill_typed)
+    ≡ (if b then Ok (e ∷ variables_with ls (slice_set vs j v)) else Err ill_typed)
 behind_written e ls vs j old v true = refl
 behind_written e ls vs j old v false = refl
 
@@ -154,10 +154,10 @@ assigned_cases : (l : Slot) (ls : List Slot) (u : Datum) (vs : List Datum) (p : 
     (t input : Bool) (o : Option ℕ) → (l.is_input ≡ input) → (t ≡ same_path p l.path) → slice_get (l ∷ ls) i ≡ Some m
     → m.is_input ≡ false → slice_get (u ∷ vs) i ≡ Some old
     → ((j : ℕ) → o ≡ Some j → slice_get ls j ≡ Some m → slice_get vs j ≡ Some old
-    → assigned (variables_in ls vs) p v ≡ written_slot ls vs j old v)
+    → assigned (variables_with ls vs) p v ≡ after_write ls vs j old v)
     → (if t then Some 0 else option_map suc o) ≡ Some i
-    → assigned (if input then variables_in ls vs else (l.path, u) ∷ variables_in ls vs) p v
-    ≡ (if may_replace old v then Ok (variables_in (l ∷ ls) (slice_set (u ∷ vs) i v)) else Err ill_typed)
+    → assigned (if input then variables_with ls vs else (l.path, u) ∷ variables_with ls vs) p v
+    ≡ (if may_replace old v then Ok (variables_with (l ∷ ls) (slice_set (u ∷ vs) i v)) else Err ill_typed)
 assigned_cases l ls u vs p i m old v true true o e t at out here rest h =
     let z : i ≡ 0 = cc in let q : Some l ≡ Some m = rw z at at in let r : l ≡ m = cc in
     let w : true ≡ false = sym e ∙ ap (λ x. x.is_input) r ∙ out in absurd (cc)
@@ -176,7 +176,7 @@ assigned_cases l ls u vs p i m old v false false (Some j) e t at out here rest h
 assigned_at : (layout : List Slot) (vs : List Datum) (p : Path) (i : ℕ) (m : Slot) (old v : Datum)
     → length layout ≡ length vs → slot_of layout p ≡ Some i → slice_get layout i ≡ Some m → m.is_input ≡ false
     → slice_get vs i ≡ Some old
-    → assigned (variables_in layout vs) p v ≡ written_slot layout vs i old v
+    → assigned (variables_with layout vs) p v ≡ after_write layout vs i old v
 assigned_at [] vs p i m old v len h at out here = absurd (cc)
 assigned_at (l ∷ ls) [] p i m old v len h at out here = absurd (omega arith)
 assigned_at (l ∷ ls) (u ∷ vs) p i m old v len h at out here =
@@ -185,13 +185,13 @@ assigned_at (l ∷ ls) (u ∷ vs) p i m old v len h at out here =
 
 pub assigned_slot : (layout : List Slot) (vs : List Datum) → IsLayout layout → length layout ≡ length vs
     → (k : ℕ) (l : Slot) (old v : Datum) → slice_get layout k ≡ Some l → l.is_input ≡ false → slice_get vs k ≡ Some old
-    → assigned (variables_in layout vs) l.path v ≡ written_slot layout vs k old v
+    → assigned (variables_with layout vs) l.path v ≡ after_write layout vs k old v
 assigned_slot layout vs distinct len k l old v at out here =
     assigned_at layout vs l.path k l old v len (distinct k l at) at out here
 
 none_behind : (e : Path × Datum) (s : Store) (p : Path) (v : Datum) (b : Bool)
     → (get s p ≡ None → assigned s p v ≡ Err ill_typed) → (if b then Some e.1 else get s p) ≡ None
-    → (if b then replaced e v s else behind_first e (assigned s p v)) ≡ Err ill_typed
+    → (if b then replaced e v s else with_entry e (assigned s p v)) ≡ Err ill_typed
 none_behind e s p v true ih g = absurd (cc)
 none_behind e s p v false ih g = rw (ih g) refl
 
@@ -200,8 +200,8 @@ none_assigned [] p v h = refl
 none_assigned (e ∷ s) p v h = none_behind e s p v (same_path p e.0) (none_assigned s p v) h
 
 pub assigned_input : (layout : List Slot) (vs : List Datum) → IsLayout layout → (k : ℕ) (l : Slot) (v : Datum)
-    → slice_get layout k ≡ Some l → l.is_input ≡ true → assigned (variables_in layout vs) l.path v ≡ Err ill_typed
+    → slice_get layout k ≡ Some l → l.is_input ≡ true → assigned (variables_with layout vs) l.path v ≡ Err ill_typed
 assigned_input layout vs distinct k l v at e =
-    none_assigned (variables_in layout vs) l.path v
-    (none_where (variables_in layout vs) l.path (λ w h. let f = one_sort layout distinct k l false at
+    none_assigned (variables_with layout vs) l.path v
+    (none_where (variables_with layout vs) l.path (λ w h. let f = one_sort layout distinct k l false at
     (variable_has layout vs l.path w h) in let g : true ≡ false = sym e ∙ f in absurd (cc)))

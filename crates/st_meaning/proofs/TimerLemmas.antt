@@ -152,7 +152,7 @@ started_along done (c ∷ calls) t h =
     rw e (started_along (done ++ c ∷ []) calls (called_timer on_delay t c)
     (on_cases done c.now c.pt c.input t.q t.et t.run t.start h))
 
--- a running timer that was started so long ago
+-- a running timer that was started at least `pt` ago
 long_since : (calls : List TimerCall) (pt now : ℕ) (t : Timer) → StartedAt calls t.start → 0 < pt
     → int_le (pos pt) (elapsed now t) ≡ true → WasOnFor calls pt now
 long_since calls pt now t h positive q =

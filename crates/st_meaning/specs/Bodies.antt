@@ -1,4 +1,4 @@
--- What a program is that calls nothing: its externals stand for globals, and its statements are its body.
+-- A program that calls nothing: its externals stand for globals, and its statements are its body.
 use Rattle.std.specs.Prelude.{List, [], ◌∷◌, ◌++◌, Bool, true, false, if◌then◌else◌, map}
 use Rattle.st_types.specs.declared.identifier.Identifier.{Identifier}
 use Rattle.st_types.specs.declared.path.Owner.{Owner}

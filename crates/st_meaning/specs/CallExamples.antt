@@ -13,7 +13,7 @@ use Rattle.st_meaning.specs.Loops.{End}
 use Rattle.st_meaning.specs.Evaluation.{element_at}
 use Rattle.st_meaning.specs.Runs.{Program, ran}
 use Rattle.st_meaning.specs.ProgramExamples.{identifier, target, name, number, set, own, owner, int, datum, body_of, if_then}
-use Rattle.st_meaning.specs.ProgramExamples.{truth, one_more, A, I, P, X}
+use Rattle.st_meaning.specs.ProgramExamples.{bool_literal, one_more, A, I, P, X}
 
 abbrev pub Q : Name
 Q = codes "Q"
@@ -138,5 +138,5 @@ calling_with f e = call (identifier f) (exprs_of (e ∷ []))
 -- FOR i := 1 TO 5 DO WHILE TRUE DO IF i = 2 THEN RETURN; END_IF; EXIT; END_WHILE; k := k + 1; END_FOR;
 abbrev pub returning_at_2 : Stmt
 returning_at_2 = FOR (identifier I) (number Int (pos 1)) (number Int (pos 5)) None
-    (stmts_of (WHILE (truth true) (stmts_of (if_then (binary Equal (name I) (number Int (pos 2))) (RETURN ∷ [])
+    (stmts_of (WHILE (bool_literal true) (stmts_of (if_then (binary Equal (name I) (number Int (pos 2))) (RETURN ∷ [])
     ∷ EXIT 0 ∷ [])) ∷ one_more ∷ []))

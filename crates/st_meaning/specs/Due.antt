@@ -1,4 +1,4 @@
--- When a program is due, what waits, and what runs first.
+-- When a program is due, which activations wait, and which one runs first.
 use Rattle.std.specs.Prelude.{◌≡◌, ℕ, zero, suc, ◌+◌, ◌-◌, ◌/◌, ◌<◌, ◌≤◌, ◌==◌, nat_lt, Bool, true, false, not, ◌&&◌}
 use Rattle.std.specs.Prelude.{◌||◌, if◌then◌else◌, List, [], ◌∷◌, ◌++◌, length, fold, slice_index_or}
 use Rattle.st_types.specs.declared.entry.Activation.{Activation}
@@ -9,7 +9,7 @@ pub record SampledRow : Type 0 where
   pub moment : ℕ
   pub samples : List Bool
 
--- a Done of a program, with how many rows stood before it
+-- a Done of a program, with how many rows were before it
 pub record Served : Type 0 where
   pub program : ℕ
   pub rows : ℕ
@@ -25,8 +25,8 @@ sample samples task = slice_index_or samples task false
 abbrev pub sampled_at : List SampledRow → ℕ → SampledRow
 sampled_at sampled k = slice_index_or sampled k record { moment = 0; samples = [] }
 
--- what a task meets at a row: whether the row is the life's first, SINGLE at the row before and at this one, and the
--- moments of the life's first row, of the row before and of this one
+-- a row as a task sees it: whether it is the life's first, SINGLE at the row before and at this one, and the moments of the
+-- life's first row, of the row before and of this one
 pub record Sampling : Type 0 where
   pub is_first : Bool
   pub single_before : Bool
@@ -35,8 +35,8 @@ pub record Sampling : Type 0 where
   pub last : ℕ
   pub moment : ℕ
 
--- A program is due where SINGLE rose since the row before. Else, where SINGLE is FALSE and there is an interval, it is
--- due at the first row and wherever more whole intervals have gone by since the first row than at the row before.
+-- A program is due if SINGLE rose since the row before. Else, if SINGLE is FALSE and there is an interval, it is due at the
+-- first row and whenever more whole intervals have gone by since the first row than at the row before.
 abbrev pub rule : ℕ → Sampling → Bool
 rule interval s =
     (s.single && not s.single_before)
@@ -63,15 +63,15 @@ abbrev pub due : List Schedule → ℕ → List SampledRow → ℕ → Bool
 due schedules p sampled k =
     nat_lt p (length schedules) && (nat_lt k (length sampled) && is_due (schedule_at schedules p) sampled k)
 
--- how many rows stood before the program's last Done
+-- how many rows were before the program's last Done
 abbrev pub last_served : ℕ → ℕ → Served → ℕ
 last_served p n r = if r.program == p then r.rows else n
 
 abbrev pub served : ℕ → List Served → ℕ
 served p runs = fold (last_served p) 0 runs
 
--- An activation waits where its program is due at its row, that row stands after the program's last Done, and the
--- program is due at no row between the two.
+-- An activation waits if its program is due at its row, that row is after the program's last Done, and the program is due at
+-- no row between the two.
 pub record Waits (schedules : List Schedule) (h : History) (a : Activation) : Type 0 where
   pub is : due schedules a.program h.sampled a.row ≡ true
   pub unserved : served a.program h.runs ≤ a.row
@@ -111,7 +111,7 @@ one_more p n r = if r.program == p then n + 1 else n
 abbrev pub run_count : ℕ → List Served → ℕ
 run_count p runs = fold (one_more p) 0 runs
 
--- The overruns of a program are the rows at which it is due, less its Dones, less one where it waits.
+-- The overruns of a program are the rows at which it is due, less its Dones, less one if it waits.
 pub record HasOverruns (schedules : List Schedule) (h : History) (p n : ℕ) : Type 0 where
   pub waiting : (k : ℕ) → Waits schedules h record { program = p; row = k }
       → due_count schedules p h.sampled (length h.sampled) ≡ run_count p h.runs + n + 1

@@ -85,7 +85,7 @@ written t x = record { place = 0; type_name = t; name = x }
 abbrev pub typed : Name → Name → Expr
 typed t x = literal (literals.Enumerated (written (Some t) x))
 
--- a label of a name, and what it becomes
+-- a label of a name, and the label of its value
 abbrev pub name_label : Name → Label
 name_label x = labels.Enumerated (written None x)
 

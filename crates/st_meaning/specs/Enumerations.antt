@@ -1,4 +1,4 @@
--- The enumerated types of a text, and what the names of their values stand for.
+-- The enumerated types of a text, and the values of their names.
 use Rattle.std.specs.Prelude.{ℕ, ◌+◌, List, [], ◌∷◌, length, Option, Some, None, option_map, bytes_eq, if◌then◌else◌}
 use Rattle.std.specs.Prelude.{option_and_then, false}
 use Rattle.st_types.specs.declared.identifier.Identifier.{Identifier}
@@ -59,12 +59,12 @@ abbrev pub members_named : List Enumeration → Name → List Member
 members_named [] x = []
 members_named (e ∷ es) x = elim (member_of x e) [ Some m ↦ m ∷ members_named es x | None ↦ members_named es x ]
 
--- the one that there is; none where there are several
+-- the only one; none if there are several
 abbrev pub only_one : List Member → Option Member
 only_one (m ∷ []) = Some m
 only_one _ = None
 
--- a name alone stands for a value where exactly one enumerated type has it
+-- a name alone stands for a value if exactly one enumerated type has it
 abbrev pub member_named : List TypeDeclaration → Name → Option Member
 member_named ts x = only_one (members_named (enumerations_of ts) x)
 
@@ -72,7 +72,7 @@ member_named ts x = only_one (members_named (enumerations_of ts) x)
 abbrev pub member_of_type : List TypeDeclaration → Name → Name → Option Member
 member_of_type ts t x = option_and_then (member_of x) (enumeration_named (enumerations_of ts) t)
 
--- what a value that is written so stands for
+-- the value that is written so
 abbrev pub member_written : List TypeDeclaration → EnumeratedValue → Option Member
 member_written ts v = elim v.type_name [ Some t ↦ member_of_type ts t v.name | None ↦ member_named ts v.name ]
 

@@ -12,35 +12,35 @@ use Rattle.st_types.specs.Expressions.{no_selectors, selector_then}
 use Rattle.st_meaning.specs.Failures.{valueless, or_failure, failing}
 use Rattle.st_meaning.specs.Stores.{Store, has_part}
 use Rattle.st_meaning.specs.Ticks.{Run, ◌>>=◌, give, fault, attempt}
-use Rattle.st_meaning.specs.Operators.{value_of_literal, apply, apply_unary, truth}
+use Rattle.st_meaning.specs.Operators.{value_of_literal, apply, apply_unary, condition_of}
 use Rattle.st_meaning.specs.StandardFunctions.{Standard, standard_of, standard_value}
 use Rattle.st_meaning.specs.Scopes.{Scope, path_in, member_at, seen}
 
--- an element of what a path leads to
+-- an element of the array at a path
 abbrev pub element_at : Path → ℤ → Path
 element_at p z = record { owner = p.owner; name = p.name; steps = p.steps ++ Element z ∷ [] }
 
--- the element at a subscript; F3 where it is out of bounds, so that no variable is there
+-- the element at a subscript; F3 if it is out of bounds, so that no variable is there
 abbrev pub bounded : Store → Store → Path → Run Path
 bounded image s p = if has_part image p || has_part s p then give p else fault Index
 
--- a number that its type does not hold is no value; no store has one
+-- a number that its type does not hold isn't a value; no store has one
 abbrev pub known : Option Datum → Option Datum
 known (Some v) = if holds v.kind v.number then Some v else None
 known None = None
 
 -- the value of the input or the variable at a path
 abbrev pub looked_up : Scope → Store → Path → Run Datum
-looked_up w s p = attempt w.stand_ins (or_failure valueless (known (seen w.image s p)))
+looked_up w s p = attempt w.stuck_faults (or_failure valueless (known (seen w.image s p)))
 
 -- a call of a standard function or one of the text
 abbrev pub called : Scope → Option Standard → List ℕ → List Datum → Run Datum
-called w (Some f) x vs = attempt w.stand_ins (standard_value f vs)
+called w (Some f) x vs = attempt w.stuck_faults (standard_value f vs)
 called w None x vs = w.units.functions x vs
 
 abbrev mutual
   pub value : Scope → Store → Expr → Run Datum
-  value w s (literal l) = attempt w.stand_ins (value_of_literal l)
+  value w s (literal l) = attempt w.stuck_faults (value_of_literal l)
   value w s (read v) = do
     p ← place w s v
     looked_up w s p
@@ -50,11 +50,11 @@ abbrev mutual
   value w s (parenthesis at e) = value w s e
   value w s (unary op at e) = do
     x ← value w s e
-    attempt w.stand_ins (failing (apply_unary op x))
+    attempt w.stuck_faults (failing (apply_unary op x))
   value w s (binary op l r) = do
     x ← value w s l
     y ← value w s r
-    attempt w.stand_ins (apply op x y)
+    attempt w.stuck_faults (apply op x y)
 
   pub values : Scope → Store → Exprs → Run (List Datum)
   values w s no_exprs = give []
@@ -83,4 +83,4 @@ abbrev mutual
 unfoldable pub truth_of : Scope → Expr → Store → Run Bool
 truth_of w e s = do
   v ← value w s e
-  attempt w.stand_ins (truth v)
+  attempt w.stuck_faults (condition_of v)

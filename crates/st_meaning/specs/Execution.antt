@@ -1,4 +1,4 @@
--- What statements do. Each takes a tick as it begins, before all else.
+-- The effect of statements. Each takes a tick as it begins, before all else.
 use Rattle.std.specs.Prelude.{ℤ, pos, int_le, List, [], ◌∷◌, Bool, false, ◌&&◌, if◌then◌else◌, Option, Some, None}
 use Rattle.std.specs.Ordering.{int_eq}
 use Rattle.std.specs.List.{list_any}
@@ -10,13 +10,13 @@ use Rattle.st_types.specs.Expressions.{Expr, Variable}
 use Rattle.st_types.specs.Statements.{Argument, given, copied, Stmt, empty, assign, invoke, IF, CASE, FOR, WHILE}
 use Rattle.st_types.specs.Statements.{REPEAT, EXIT, RETURN, Stmts, no_stmts, stmt_then, Arms, no_arms, arm_then}
 use Rattle.st_types.specs.Statements.{CaseArms, no_case_arms, case_arm_then}
-use Rattle.st_meaning.specs.Failures.{ill_typed, StandIns, or_failure}
+use Rattle.st_meaning.specs.Failures.{ill_typed, StuckFaults, or_failure}
 use Rattle.st_meaning.specs.Stores.{Store, get, assigned}
 use Rattle.st_meaning.specs.Ticks.{Run, ◌>>=◌, ◌>>◌, give, fault, attempt, tick}
 use Rattle.st_meaning.specs.Operators.{number_of}
 use Rattle.st_meaning.specs.Scopes.{Name, Scope, path_in, member_at, block_named}
 use Rattle.st_meaning.specs.Evaluation.{value, place, truth_of}
-use Rattle.st_meaning.specs.Loops.{End, goes_on, exits, returns, behind, looped, guarded, until, runs_on, step_on}
+use Rattle.st_meaning.specs.Loops.{End, goes_on, exits, returns, continue_with, looped, guarded, until, runs_on, step_on}
 use Rattle.st_meaning.specs.Loops.{no_step, nonzero}
 
 -- a label holds the selector's number; a name that stands for no value holds none
@@ -35,28 +35,28 @@ given_inputs w s (given x e ∷ rest) = do
 given_inputs w s (copied x v ∷ rest) = given_inputs w s rest
 
 -- then assigned; an input that is not given keeps its value
-abbrev pub assigned_inputs : StandIns → Path → List (Name × Datum) → Store → Run Store
-assigned_inputs stand_ins at [] s = give s
-assigned_inputs stand_ins at (e ∷ es) s = do
-  t ← attempt stand_ins (assigned s (member_at at e.0) e.1)
-  assigned_inputs stand_ins at es t
+abbrev pub assigned_inputs : StuckFaults → Path → List (Name × Datum) → Store → Run Store
+assigned_inputs stuck_faults at [] s = give s
+assigned_inputs stuck_faults at (e ∷ es) s = do
+  t ← attempt stuck_faults (assigned s (member_at at e.0) e.1)
+  assigned_inputs stuck_faults at es t
 
 -- the outputs of a block call, copied in written order
 abbrev pub copied_outputs : Scope → Path → List Argument → Store → Run Store
 copied_outputs w at [] s = give s
 copied_outputs w at (given x e ∷ rest) s = copied_outputs w at rest s
 copied_outputs w at (copied x v ∷ rest) s = do
-  o ← attempt w.stand_ins (or_failure ill_typed (get s (member_at at x.name)))
+  o ← attempt w.stuck_faults (or_failure ill_typed (get s (member_at at x.name)))
   p ← place w s v
-  t ← attempt w.stand_ins (assigned s p o)
+  t ← attempt w.stuck_faults (assigned s p o)
   copied_outputs w at rest t
 
 -- the body of the block of an instance
 abbrev pub ran_block : Scope → Path → Option Name → Store → Run Store
-ran_block w at None s = fault w.stand_ins.wrong
+ran_block w at None s = fault w.stuck_faults.wrong
 ran_block w at (Some b) s = w.units.blocks b at s
 
--- the step of a FOR: 1 where none is written
+-- the step of a FOR: 1 if none is written
 abbrev pub step_of : Scope → Store → Option Expr → Run ℤ
 step_of w s None = give (pos 1)
 step_of w s (Some e) = do
@@ -68,14 +68,14 @@ abbrev pub assigning : Scope → Variable → Expr → Store → Run End
 assigning w v e s = do
   x ← value w s e
   p ← place w s v
-  t ← attempt w.stand_ins (assigned s p x)
+  t ← attempt w.stuck_faults (assigned s p x)
   give (goes_on t)
 
 -- a call of an instance at a path: its inputs, its body, its outputs
 abbrev pub invoking : Scope → Path → Option Name → List Argument → Store → Run End
 invoking w at block arguments s = do
   vs ← given_inputs w s arguments
-  t ← assigned_inputs w.stand_ins at vs s
+  t ← assigned_inputs w.stuck_faults at vs s
   u ← ran_block w at block t
   z ← copied_outputs w at arguments u
   give (goes_on z)
@@ -87,8 +87,8 @@ counting w x start limit step body s = do
   n ← value w s limit
   d ← step_of w s step
   nonzero d
-  t ← attempt w.stand_ins (assigned s x i)
-  looped (guarded (runs_on w.stand_ins x n.number d) body) (step_on w.stand_ins x d) t
+  t ← attempt w.stuck_faults (assigned s x i)
+  looped (guarded (runs_on w.stuck_faults x n.number d) body) (step_on w.stuck_faults x d) t
 
 abbrev mutual
   pub exec : Scope → Stmt → Store → Run End
@@ -112,7 +112,7 @@ abbrev mutual
   exec_all w no_stmts s = give (goes_on s)
   exec_all w (stmt_then x xs) s = do
     e ← exec w x s
-    behind e (exec_all w xs)
+    continue_with e (exec_all w xs)
 
   -- the statements of the first condition that holds, or those after them all
   pub exec_arms : Scope → Arms → (Store → Run End) → Store → Run End

@@ -1,4 +1,4 @@
--- The layout of a plan: its slots, the text of what a record keeps, and how long a record is.
+-- The layout of a plan: its slots, the layout text of a record, and how long a record is.
 use Rattle.std.specs.Prelude.{ℕ, ◌+◌, List, [], ◌∷◌, ◌++◌, length, map, true, false, if◌then◌else◌, Option, Some}
 use Rattle.std.specs.Prelude.{None, codes, slice_get}
 use Rattle.std.specs.Fmt.{signed_decimal}

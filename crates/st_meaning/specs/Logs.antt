@@ -1,4 +1,4 @@
--- What a log makes of the variables, and what it may hold.
+-- The variables after a log, and the entries that it may hold.
 use Rattle.std.specs.Prelude.{◌≡◌, ℕ, nat_lt, Bool, true, List, [], ◌∷◌, ◌++◌, fold, slice_index_or, Option, Some, None}
 use Rattle.std.specs.Prelude.{option_map, false, count_by}
 use Rattle.st_types.specs.declared.entry.Entry.{Entry}
@@ -66,7 +66,7 @@ outcomes_from plan past (e ∷ log) = outcome_at plan past e ∷ outcomes_from p
 abbrev pub beginning : Store → Past
 beginning s = record { rows = []; history = no_history; store = s }
 
--- what the entries make, one after another
+-- the past after the entries, one after another
 abbrev pub past_of : Plan → Store → Log → Past
 past_of plan start log = fold (with_entry plan) (beginning start) log
 

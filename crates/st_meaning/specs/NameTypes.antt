@@ -1,4 +1,4 @@
--- What a text declares: the types of its variables, and what its calls take and give.
+-- The declarations of a text: the types of its variables, and of the arguments and results of its calls.
 use Rattle.std.specs.Prelude.{Bool, true, false, List, [], ◌∷◌, ◌++◌, Bool, if◌then◌else◌, Option, Some, None}
 use Rattle.std.specs.Prelude.{option_map, option_and_then, bytes_eq}
 use Rattle.std.specs.List.{list_any}
@@ -87,7 +87,7 @@ abbrev pub member_kind : List BlockMember → Name → Option Kind
 member_kind [] x = None
 member_kind (m ∷ ms) x = if bytes_eq x m.0 then Some m.1 else member_kind ms x
 
--- what a declared type is
+-- the definition of a declared type
 abbrev pub definition_of : Declared → VariableType → Option TypeDefinition
 definition_of text (types.Array a) = Some (array a)
 definition_of text (types.Simple (Elementary k at)) = None
@@ -135,7 +135,7 @@ block_variable text standard_ones wanted (types.Simple (Named b)) x =
     standard_or_own (Some k) = option_map elementary (member_kind (standard_ones k) x)
     standard_or_own None = variable_of_block text wanted b.name x
 
--- what stands after a dot: a field of a structure, or an output of an instance
+-- the member after a dot: a field of a structure, or an output of an instance
 abbrev pub member_type : Declared → VariableType → Name → Option TypeDefinition → Option VariableType
 member_type text t x (Some (structure fields)) = field_type fields x
 member_type text t x (Some (array a)) = None
@@ -146,17 +146,17 @@ abbrev pub selected_type : Declared → VariableType → Selector → Option Var
 selected_type text t (member x) = member_type text t x.name (definition_of text t)
 selected_type text t (subscript e) = element_type (definition_of text t)
 
-abbrev pub type_behind : Declared → Selectors → VariableType → Option VariableType
-type_behind text no_selectors t = Some t
-type_behind text (selector_then x xs) t = option_and_then (type_behind text xs) (selected_type text t x)
+abbrev pub type_after_selectors : Declared → Selectors → VariableType → Option VariableType
+type_after_selectors text no_selectors t = Some t
+type_after_selectors text (selector_then x xs) t = option_and_then (type_after_selectors text xs) (selected_type text t x)
 
--- the elementary type that a type is
+-- the elementary type of a type, if it is one
 abbrev pub kind_of_type : VariableType → Option Kind
 kind_of_type (types.Simple (Elementary k at)) = Some k
 kind_of_type (types.Simple (Named x)) = None
 kind_of_type (types.Array a) = None
 
--- the elementary or enumerated type that a type is, by the types of the text
+-- the elementary or enumerated type of a type, if it is one, by the types of the text
 abbrev pub kind_among : List TypeDeclaration → VariableType → Option Kind
 kind_among ts (types.Simple (Elementary k at)) = Some k
 kind_among ts (types.Simple (Named x)) = option_map kind_of_enumeration (enumeration_named (enumerations_of ts) x.name)
@@ -165,7 +165,7 @@ kind_among ts (types.Array a) = None
 -- the elementary or enumerated type of a variable of a unit
 abbrev pub kind_of_variable : Declared → OrganisationUnit → Variable → Option Kind
 kind_of_variable text u (variable x xs) =
-    option_and_then (kind_among text.types) (option_and_then (type_behind text xs) (variable_type u x.name))
+    option_and_then (kind_among text.types) (option_and_then (type_after_selectors text xs) (variable_type u x.name))
 
 -- the type of a function's result
 abbrev pub result_kind : Declared → UnitSort → Option Kind

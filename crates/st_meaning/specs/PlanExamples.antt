@@ -1,4 +1,4 @@
--- Words for worked examples of what is due.
+-- Words for worked examples of programs that are due.
 use Rattle.std.specs.Prelude.{ℕ, zero, suc, List, [], ◌∷◌, ◌++◌, length, Bool, true, false}
 use Rattle.st_meaning.specs.declared.plan.Schedule.{Schedule}
 use Rattle.st_types.specs.declared.entry.Activation.{Activation}
@@ -9,7 +9,7 @@ abbrev pub rows_at : List ℕ → List SampledRow
 rows_at [] = []
 rows_at (t ∷ ts) = record { moment = t; samples = false ∷ [] } ∷ rows_at ts
 
--- one program every so many milliseconds
+-- one program with this interval in milliseconds
 abbrev pub every : ℕ → List Schedule
 every interval = record { resource = 0; task = 0; interval = interval; priority = 0 } ∷ []
 

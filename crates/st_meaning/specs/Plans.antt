@@ -1,4 +1,4 @@
--- The plan of a text as data: what the runtime needs of it.
+-- The plan of a text as data, for the runtime.
 use Rattle.std.specs.Prelude.{ℕ, pos, nat_lt, Bool, true, false, ◌&&◌, List, [], ◌∷◌, map, slice_index_or}
 use Rattle.std.specs.Prelude.{slice_get, Option, Some, None}
 use Rattle.std.specs.List.{list_any}
@@ -18,19 +18,19 @@ use Rattle.st_types.specs.Rows.{Latch}
 use Rattle.st_meaning.specs.Runs as runs
 use Rattle.st_meaning.specs.Runs.{outcome_of, store_after}
 
--- what makes a task due beside its interval: its SINGLE is absent, an input or a global
+-- the trigger that makes a task due beside its interval: its SINGLE is absent, an input or a global
 pub data Trigger : Type 0 where
   no_single : Trigger
   single_input : ℕ → Trigger
   single_global : Path → Trigger
 
--- INTERVAL in milliseconds, 0 where there is none; the least PRIORITY runs first
+-- INTERVAL in milliseconds, 0 if there is none; the least PRIORITY runs first
 pub record Task : Type 0 where
   pub single : Trigger
   pub interval : ℕ
   pub priority : ℕ
 
--- an instance of a program: where it runs, and what
+-- an instance of a program: where it runs, and its body
 pub record ProgramInstance : Type 0 where
   pub resource : ℕ
   pub task : ℕ
@@ -52,8 +52,7 @@ abbrev pub initial_value : Kind → Option Datum → Datum
 initial_value k (Some v) = v
 initial_value k None = record { kind = k; number = pos 0 }
 
--- Retention goes by the innermost declaration that says something of it; the declarations on the way stand from the
--- outermost in.
+-- Retention follows the innermost declaration that specifies it; the declarations on the way are from the outermost in.
 abbrev pub retained_so_far : Bool → List (Option Retention) → Bool
 retained_so_far so [] = so
 retained_so_far so (None ∷ inner) = retained_so_far so inner
@@ -77,14 +76,14 @@ image_of [] vs = []
 image_of (i ∷ is) [] = []
 image_of (i ∷ is) (v ∷ vs) = (i.path, v) ∷ image_of is vs
 
--- a value that its type holds for each input
+-- for each input a value that its type holds
 abbrev pub holds_each : List PlanInput → List Datum → Bool
 holds_each [] [] = true
 holds_each (i ∷ is) (v ∷ vs) = same_kind i.kind v.kind && (holds v.kind v.number && holds_each is vs)
 holds_each [] (v ∷ vs) = false
 holds_each (i ∷ is) [] = false
 
--- a row has a value of its type for each input of the plan, and its moment is in its limit
+-- a row has a value of its type for each input of the plan, and its moment is within its limit
 abbrev pub fits : Plan → Latch → Bool
 fits plan row = holds_each plan.inputs row.image && nat_lt row.moment MOMENT_LIMIT
 
@@ -102,7 +101,7 @@ schedule_of tasks p = record {
 abbrev pub schedules_of : Plan → List Schedule
 schedules_of plan = map (schedule_of plan.tasks) plan.programs
 
--- SINGLE of a task at a row: an input's value there, or a global's before the row; FALSE where the task has none
+-- SINGLE of a task at a row: an input's value there, or a global's before the row; FALSE if the task has none
 abbrev pub is_on : Option Datum → Bool
 is_on None = false
 is_on (Some v) = is_true v
@@ -115,7 +114,7 @@ sample_of s image (single_global p) = is_on (get s p)
 abbrev pub samples_of : Plan → Store → List Datum → List Bool
 samples_of plan s image = map (λ t. sample_of s image t.single) plan.tasks
 
--- the variables after a program ran on a row; one that is not there does nothing
+-- the variables after a program ran on a row; a program that doesn't exist does nothing
 abbrev pub after_run : Plan → Option ProgramInstance → Store → Latch → Store
 after_run plan None s row = s
 after_run plan (Some p) s row = store_after p.code plan.budget s (image_of plan.inputs row.image) row.moment

@@ -11,7 +11,7 @@ use Rattle.st_types.specs.declared.operator.BinaryOperator.TheVariants.{Divide}
 use Rattle.st_types.specs.declared.path.Owner.{Owner}
 use Rattle.st_types.specs.Values.{Datum}
 use Rattle.st_types.specs.Paths.{Path}
-use Rattle.st_types.specs.Values.{datum_of_truth}
+use Rattle.st_types.specs.Values.{bool_datum}
 use Rattle.st_meaning.specs.StandardBlocks as standard
 use Rattle.st_meaning.specs.StandardBlocks.{stepped}
 use Rattle.st_types.specs.Expressions.{Expr, literal, read, call, binary, exprs_of, Variable, variable, subscript}
@@ -84,8 +84,8 @@ three_variables = record {
 abbrev pub its_text : Declared
 its_text = record { types = []; units = three_variables ∷ [] }
 
-abbrev pub truth : Bool → Expr
-truth b = literal (literals.Truth 0 b)
+abbrev pub bool_literal : Bool → Expr
+bool_literal b = literal (literals.Truth 0 b)
 
 abbrev pub owner : Owner
 owner = record { resource = codes "R"; instance = codes "P" }
@@ -189,7 +189,7 @@ square = record {
 abbrev pub squared : ℤ → List Stmt
 squared z = set Y (call (identifier (codes "SQ")) (exprs_of (number Dint z ∷ []))) ∷ []
 
--- the outputs of a block after each of its calls, which are a moment with the inputs; it has so many inputs and outputs
+-- the outputs of a block, by its numbers of inputs and outputs, after each of its calls, which are a moment with the inputs
 abbrev pub outputs_of : standard.StandardBlock → ℕ → ℕ → List (ℕ × List Datum) → List Datum → List (List Datum)
 outputs_of b inputs outputs [] members = []
 outputs_of b inputs outputs (c ∷ calls) members =
@@ -201,7 +201,7 @@ abbrev pub fresh_members : standard.StandardBlock → List Datum
 fresh_members b = map (λ m. datum m.1 (pos 0)) (standard.members_of b)
 
 abbrev pub bool : Bool → Datum
-bool = datum_of_truth
+bool = bool_datum
 
 abbrev pub int : ℤ → Datum
 int z = datum Int z

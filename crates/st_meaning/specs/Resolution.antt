@@ -1,5 +1,5 @@
--- The types of untyped literals. Each takes the type that its place expects, which the parsed tree and its declarations
--- tell.
+-- The types of untyped literals. Each takes the type that its place expects, which follows from the parsed tree and its
+-- declarations.
 use Rattle.std.specs.Prelude.{ℕ, List, [], ◌∷◌, Bool, true, false, ◌&&◌, if◌then◌else◌, Option, Some, None}
 use Rattle.std.specs.Prelude.{option_map, is_some}
 use Rattle.st_types.specs.declared.kind.Kind.{Kind}
@@ -59,7 +59,7 @@ is_whole_or_bits sorts.Duration = false
 is_whole_or_bits sorts.Truth = false
 is_whole_or_bits sorts.Place = false
 
--- the type that an untyped expression takes: LINT where nothing is expected that it may be
+-- the type that an untyped expression takes: LINT if none is expected that it may have
 abbrev pub taken_kind : Option Kind → Kind
 taken_kind None = Lint
 taken_kind (Some k) = if is_whole_or_bits (row_of k).sort then k else Lint
@@ -83,14 +83,14 @@ kind_of_literal ts (literals.Enumerated v) = option_map (λ m. m.kind) (member_w
 abbrev pub place_of_variable : Variable → ℕ
 place_of_variable (variable x xs) = x.place
 
--- what a name alone stands for where no variable of the unit has it
+-- the value of a name alone, if no variable of the unit has this name
 abbrev pub member_read : Declared → OrganisationUnit → Variable → Option Member
 member_read text u (variable x no_selectors) =
     if is_some (variable_type u x.name) then None else member_named text.types x.name
 member_read text u (variable x (selector_then y ys)) = None
 
--- the common type of a standard function's operands, of those that have it; where the function has one such operand,
--- that is the first
+-- the common type of a standard function's operands, of those that have it; if the function has one such operand, that is
+-- the first
 abbrev pub common_kind : Standard → List (Option Kind) → Option Kind
 common_kind MIN (a ∷ b ∷ []) = or_kind a b
 common_kind MAX (a ∷ b ∷ []) = or_kind a b
@@ -99,7 +99,7 @@ common_kind SEL (g ∷ a ∷ b ∷ []) = or_kind a b
 common_kind _ (a ∷ rest) = a
 common_kind _ [] = None
 
--- the type that a standard function gives
+-- the type of a standard function's result
 abbrev pub standard_kind : Standard → List (Option Kind) → Option Kind
 standard_kind (CONVERT k l) ks = Some l
 standard_kind f ks = or_kind (common_kind f ks) (Some Lint)
@@ -117,7 +117,7 @@ abbrev pub result_of_unit : Declared → Option OrganisationUnit → Option Kind
 result_of_unit text None = None
 result_of_unit text (Some u) = result_kind text u.sort
 
--- what a function expects of its arguments
+-- the types that a function expects of its arguments
 abbrev pub inputs_of_function : Declared → UnitSort → List VariableBlock → List (Option Kind)
 inputs_of_function text (Function t) bs = input_kinds text bs
 inputs_of_function text FunctionBlock bs = []
@@ -157,8 +157,8 @@ abbrev pub other_kinds : List (Option Kind) → List (Option Kind)
 other_kinds [] = []
 other_kinds (k ∷ ks) = ks
 
--- what both operands of an operator expect, by whether the left and the right one are untyped: where both are, what
--- their whole place offers them; where one is, the type of the other; where none is, the left one's, as both are of one type
+-- the types that both operands of an operator expect, by whether the left and the right one are untyped: if both are, the
+-- type that their whole place offers; if one is, the type of the other; if none is, the left one's, as both are of one type
 abbrev pub expected_of_both : Option Kind → Option Kind → Option Kind → Bool → Bool → Option Kind
 expected_of_both offered left right true true = offered
 expected_of_both offered left right true false = right
@@ -171,8 +171,8 @@ operand_kind text u k op l r =
     expected_of_both (if is_joining op then k else None) (own_kind text u l) (own_kind text u r) (is_untyped l)
     (is_untyped r)
 
--- An expression at a place that expects a type: an untyped one takes it, and in a typed one each untyped part takes
--- what its own place expects.
+-- An expression at a place that expects a type: an untyped one takes it, and in a typed one each untyped part takes the type
+-- that its own place expects.
 abbrev mutual
   pub resolved_expr : Declared → OrganisationUnit → Option Kind → Expr → Expr
   resolved_expr text u k (literal l) = literal (taking_literal text.types (taken_kind k) l)
@@ -189,7 +189,7 @@ abbrev mutual
   resolved_exprs text u ks (expr_then e es) =
       expr_then (resolved_expr text u (first_kind ks) e) (resolved_exprs text u (other_kinds ks) es)
 
-  -- a subscript that is untyped is a LINT
+  -- an untyped subscript is a LINT
   pub resolved_variable : Declared → OrganisationUnit → Variable → Variable
   resolved_variable text u (variable x xs) = variable x (resolved_selectors text u xs)
 

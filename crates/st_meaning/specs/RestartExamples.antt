@@ -37,7 +37,7 @@ line path spelling number = record { path = path; spelling = spelling; number = 
 abbrev pub int_line : List ℕ → ℤ → KeptLine
 int_line path number = line path (codes "INT") number
 
--- what a life starts with that goes on from these lines
+-- the variables at the start of a life that goes on from these lines
 abbrev pub started_with : List KeptLine → Store
 started_with lines = (warm_start two_of_three (Some (record { lines = lines; moment = None }))).store
 

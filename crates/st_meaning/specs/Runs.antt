@@ -1,4 +1,4 @@
--- What a run of a program gives.
+-- The result of a run of a program.
 use Rattle.std.specs.Prelude.{ℕ, zero, suc, List, [], ◌∷◌, Option, Some, None, option_map, option_and_then, Result, Ok}
 use Rattle.std.specs.Prelude.{Err}
 use Rattle.st_types.specs.declared.fault.Fault.{Fault}
@@ -8,7 +8,7 @@ use Rattle.st_types.specs.Values.{Datum}
 use Rattle.st_types.specs.Paths.{Path}
 use Rattle.st_meaning.specs.declared.outcome.Outcome.{Outcome}
 use Rattle.st_meaning.specs.declared.outcome.Outcome.TheVariants.{Done, Faulted}
-use Rattle.st_meaning.specs.Failures.{Failure, ill_typed, StandIns, in_runs, or_failure}
+use Rattle.st_meaning.specs.Failures.{Failure, ill_typed, StuckFaults, in_runs, or_failure}
 use Rattle.st_meaning.specs.Stores.{Store, get, assigned}
 use Rattle.st_meaning.specs.Ticks.{Run, ◌>>=◌, give, fault, attempt, proceed}
 use Rattle.st_meaning.specs.StandardBlocks as standard
@@ -25,19 +25,19 @@ store_of (exits s) = s
 store_of (returns s) = s
 
 -- a function's variables as a call begins: its inputs have the arguments' values
-abbrev pub begun : Store → List Name → List Datum → Result Store Failure
-begun s [] [] = Ok s
-begun s (x ∷ xs) (v ∷ vs) = proceed (assigned s (unowned x) v) (λ t. begun t xs vs)
-begun s _ _ = Err ill_typed
+abbrev pub bound_inputs : Store → List Name → List Datum → Result Store Failure
+bound_inputs s [] [] = Ok s
+bound_inputs s (x ∷ xs) (v ∷ vs) = proceed (assigned s (unowned x) v) (λ t. bound_inputs t xs vs)
+bound_inputs s _ _ = Err ill_typed
 
 -- a function's body on fresh variables; its result is the variable of its name
-abbrev pub function_value : StandIns → Units → ℕ → Function → List Datum → Run Datum
-function_value stand_ins units now f vs = do
-  s ← attempt stand_ins (begun f.fresh f.inputs vs)
+abbrev pub function_value : StuckFaults → Units → ℕ → Function → List Datum → Run Datum
+function_value stuck_faults units now f vs = do
+  s ← attempt stuck_faults (bound_inputs f.fresh f.inputs vs)
   e ← exec_all
-      (record { units = units; frame = of_call; body = f.body; image = []; now = now; stand_ins = stand_ins })
+      (record { units = units; frame = of_call; body = f.body; image = []; now = now; stuck_faults = stuck_faults })
       f.body.statements s
-  attempt stand_ins (or_failure ill_typed (get (store_of e) (unowned f.name)))
+  attempt stuck_faults (or_failure ill_typed (get (store_of e) (unowned f.name)))
 
 -- the values of an instance's members
 abbrev pub member_values : Store → Path → List BlockMember → Option (List Datum)
@@ -50,46 +50,46 @@ members_assigned s at (m ∷ ms) (v ∷ vs) = proceed (assigned s (member_at at 
 members_assigned s at _ _ = Ok s
 
 -- a call of a standard block: its members step
-abbrev pub standard_call : StandIns → standard.StandardBlock → ℕ → Path → Store → Run Store
-standard_call stand_ins b now at s = do
-  vs ← attempt stand_ins (or_failure ill_typed (member_values s at (standard.members_of b)))
-  attempt stand_ins (members_assigned s at (standard.members_of b) (stepped b now vs))
+abbrev pub standard_call : StuckFaults → standard.StandardBlock → ℕ → Path → Store → Run Store
+standard_call stuck_faults b now at s = do
+  vs ← attempt stuck_faults (or_failure ill_typed (member_values s at (standard.members_of b)))
+  attempt stuck_faults (members_assigned s at (standard.members_of b) (stepped b now vs))
 
 -- a call of a block of the text: its body runs on the instance's variables
-abbrev pub block_call : StandIns → Units → Store → ℕ → Block → Path → Store → Run Store
-block_call stand_ins units image now b at s = do
+abbrev pub block_call : StuckFaults → Units → Store → ℕ → Block → Path → Store → Run Store
+block_call stuck_faults units image now b at s = do
   e ← exec_all
-      (record { units = units; frame = of_block at; body = b.body; image = image; now = now; stand_ins = stand_ins })
+      (record { units = units; frame = of_block at; body = b.body; image = image; now = now; stuck_faults = stuck_faults })
       b.body.statements s
   give (store_of e)
 
 -- a function of the text on its arguments
-abbrev pub function_call : StandIns → Library → Units → ℕ → Name → List Datum → Run Datum
-function_call stand_ins library units now f vs = do
-  g ← attempt stand_ins (or_failure ill_typed (function_in library.functions f))
-  function_value stand_ins units now g vs
+abbrev pub function_call : StuckFaults → Library → Units → ℕ → Name → List Datum → Run Datum
+function_call stuck_faults library units now f vs = do
+  g ← attempt stuck_faults (or_failure ill_typed (function_in library.functions f))
+  function_value stuck_faults units now g vs
 
 -- a block on its instance: a standard one, or one of the text
-abbrev pub instance_call : StandIns → Library → Store → Units → ℕ → Name → Option standard.StandardBlock → Path → Store
+abbrev pub instance_call : StuckFaults → Library → Store → Units → ℕ → Name → Option standard.StandardBlock → Path → Store
     → Run Store
-instance_call stand_ins library image units now b (Some k) at s = standard_call stand_ins k now at s
-instance_call stand_ins library image units now b None at s = do
-  c ← attempt stand_ins (or_failure ill_typed (block_in library.blocks b))
-  block_call stand_ins units image now c at s
+instance_call stuck_faults library image units now b (Some k) at s = standard_call stuck_faults k now at s
+instance_call stuck_faults library image units now b None at s = do
+  c ← attempt stuck_faults (or_failure ill_typed (block_in library.blocks b))
+  block_call stuck_faults units image now c at s
 
--- what the units of a text do, where those that they call do this
-abbrev pub units_over : StandIns → Library → Store → ℕ → Units → Units
-units_over stand_ins library image now units = record {
-  functions = function_call stand_ins library units now;
-  blocks = λ b. instance_call stand_ins library image units now b (block_of b);
+-- the units of a text, if those that they call do this
+abbrev pub units_over : StuckFaults → Library → Store → ℕ → Units → Units
+units_over stuck_faults library image now units = record {
+  functions = function_call stuck_faults library units now;
+  blocks = λ b. instance_call stuck_faults library image units now b (block_of b);
 }
 
--- The units of a text, with calls at most n deep. Each call stands in a statement, which took a tick.
-unfoldable pub units_within : StandIns → Library → Store → ℕ → ℕ → Units
-units_within stand_ins library image now zero =
+-- The units of a text, with calls at most n deep. Each call is in a statement, which took a tick.
+unfoldable pub units_within : StuckFaults → Library → Store → ℕ → ℕ → Units
+units_within stuck_faults library image now zero =
     record { functions = λ f vs. fault Budget; blocks = λ b at s. fault Budget }
-units_within stand_ins library image now (suc n) =
-    units_over stand_ins library image now (units_within stand_ins library image now n)
+units_within stuck_faults library image now (suc n) =
+    units_over stuck_faults library image now (units_within stuck_faults library image now n)
 
 -- a program as its runs need it: the units of its text, its instance and its body
 pub record Program : Type 0 where
@@ -97,21 +97,21 @@ pub record Program : Type 0 where
   pub owner : Owner
   pub body : Body
 
--- where the program's body runs, with calls at most n deep, and with these faults for what no well-typed text meets
-abbrev pub scope_where : StandIns → Program → Store → ℕ → ℕ → Scope
-scope_where stand_ins p image now n = record {
-  units = units_within stand_ins p.library image now n;
+-- where the program's body runs, with calls at most n deep, and with these faults for failures that no well-typed text meets
+abbrev pub scope_where : StuckFaults → Program → Store → ℕ → ℕ → Scope
+scope_where stuck_faults p image now n = record {
+  units = units_within stuck_faults p.library image now n;
   frame = of_program p.owner;
   body = p.body;
   image = image;
   now = now;
-  stand_ins = stand_ins;
+  stuck_faults = stuck_faults;
 }
 
--- the program's statements with a budget of ticks, and with these faults for what no well-typed text meets
-unfoldable pub ran_where : StandIns → Program → Store → ℕ → ℕ → Store → Result (End × ℕ) Fault
-ran_where stand_ins p image now budget s =
-    exec_all (scope_where stand_ins p image now budget) p.body.statements s budget
+-- the program's statements with a budget of ticks, and with these faults for failures that no well-typed text meets
+unfoldable pub ran_where : StuckFaults → Program → Store → ℕ → ℕ → Store → Result (End × ℕ) Fault
+ran_where stuck_faults p image now budget s =
+    exec_all (scope_where stuck_faults p image now budget) p.body.statements s budget
 
 abbrev pub scope_of : Program → Store → ℕ → ℕ → Scope
 scope_of = scope_where in_runs

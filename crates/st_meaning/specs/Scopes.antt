@@ -1,4 +1,4 @@
--- What the names of a unit's body stand for.
+-- The variables and blocks that the names of a unit's body stand for.
 use Rattle.std.specs.Prelude.{ℕ, List, [], ◌∷◌, ◌++◌, Bool, if◌then◌else◌, Option, Some, None, bytes_eq}
 use Rattle.std.specs.List.{list_any}
 use Rattle.st_types.specs.declared.path.Owner.{Owner}
@@ -6,7 +6,7 @@ use Rattle.st_types.specs.declared.path.Step.TheVariants.{Member}
 use Rattle.st_types.specs.Values.{Datum}
 use Rattle.st_types.specs.Paths.{Path}
 use Rattle.st_types.specs.Statements.{Stmts}
-use Rattle.st_meaning.specs.Failures.{StandIns}
+use Rattle.st_meaning.specs.Failures.{StuckFaults}
 use Rattle.st_meaning.specs.Stores.{Store, get}
 use Rattle.st_meaning.specs.Ticks.{Run}
 
@@ -45,7 +45,7 @@ pub record Library : Type 0 where
 abbrev pub unowned : Name → Path
 unowned x = record { owner = None; name = x; steps = [] }
 
--- a member of what a path leads to
+-- a member of the structure or instance at a path
 abbrev pub member_at : Path → Name → Path
 member_at p x = record { owner = p.owner; name = p.name; steps = p.steps ++ Member x ∷ [] }
 
@@ -74,20 +74,20 @@ abbrev pub block_in : List Block → Name → Option Block
 block_in [] x = None
 block_in (b ∷ bs) x = if bytes_eq x b.name then Some b else block_in bs x
 
--- what the units of a text do: a function for its arguments, a block for its instance and the variables
+-- the units of a text: a function for its arguments, a block for its instance and the variables
 pub record Units : Type 0 where
   pub functions : Name → List Datum → Run Datum
   pub blocks : Name → Path → Store → Run Store
 
--- where a body runs: the units, its names, the inputs of the plant, the row's moment, and the faults that stand for
--- what no well-typed text meets
+-- where a body runs: the units, its names, the inputs of the plant, the row's moment, and the faults for failures that no
+-- well-typed text meets
 pub record Scope : Type 0 where
   pub units : Units
   pub frame : Frame
   pub body : Body
   pub image : Store
   pub now : ℕ
-  pub stand_ins : StandIns
+  pub stuck_faults : StuckFaults
 
 abbrev pub or_datum : Option Datum → Option Datum → Option Datum
 or_datum (Some v) other = Some v

@@ -7,7 +7,7 @@ use Rattle.st_types.specs.Paths.{Path, same_path}
 use Rattle.st_meaning.specs.Failures.{Failure, ill_typed}
 use Rattle.st_meaning.specs.Stores.{Store, may_replace}
 
--- a slot: whose value stands in it, of which type it is, and whether it comes from the plant
+-- a slot: whose value it holds, its type, and whether it comes from the plant
 pub record Slot : Type 0 where
   pub path : Path
   pub kind : Kind
@@ -27,10 +27,10 @@ abbrev pub AreOfTypes : List Slot → List Datum → Type 0
 AreOfTypes layout vs = map (λ v. v.kind) vs ≡ map (λ l. l.kind) layout
 
 -- the variables of slots with these values, and the inputs of the plant
-abbrev pub variables_in : List Slot → List Datum → Store
-variables_in [] vs = []
-variables_in (l ∷ ls) [] = []
-variables_in (l ∷ ls) (v ∷ vs) = if l.is_input then variables_in ls vs else (l.path, v) ∷ variables_in ls vs
+abbrev pub variables_with : List Slot → List Datum → Store
+variables_with [] vs = []
+variables_with (l ∷ ls) [] = []
+variables_with (l ∷ ls) (v ∷ vs) = if l.is_input then variables_with ls vs else (l.path, v) ∷ variables_with ls vs
 
 abbrev pub inputs_in : List Slot → List Datum → Store
 inputs_in [] vs = []
@@ -51,11 +51,11 @@ agrees vs [] = true
 agrees vs (c ∷ cells) = is_value (slice_get vs c.0) c.1 && agrees vs cells
 
 -- the values after these are written, the first of them first
-abbrev pub written : List Datum → List Cell → List Datum
-written vs [] = vs
-written vs (c ∷ cells) = written (slice_set vs c.0 c.1) cells
+abbrev pub after_writes : List Datum → List Cell → List Datum
+after_writes vs [] = vs
+after_writes vs (c ∷ cells) = after_writes (slice_set vs c.0 c.1) cells
 
--- the variables after a value is written to a slot, where it may take the place of the old one
-abbrev pub written_slot : List Slot → List Datum → ℕ → Datum → Datum → Result Store Failure
-written_slot layout vs k old v =
-    if may_replace old v then Ok (variables_in layout (slice_set vs k v)) else Err ill_typed
+-- the variables after a value is written to a slot, if it may take the place of the old one
+abbrev pub after_write : List Slot → List Datum → ℕ → Datum → Datum → Result Store Failure
+after_write layout vs k old v =
+    if may_replace old v then Ok (variables_with layout (slice_set vs k v)) else Err ill_typed

@@ -1,12 +1,12 @@
 -- The standard function blocks, as functions from the members before a call to those after it.
--- Members stand in the order of the layout: inputs, outputs, and those that are hidden from texts.
+-- Members are in the order of the layout: inputs, outputs, and those that are hidden from texts.
 use Rattle.std.specs.Prelude.{ℕ, ℤ, pos, ◌+ℤ◌, ◌-ℤ◌, int_lt, int_le, List, [], ◌∷◌, ◌++◌, Bool, true, false, ◌&&◌, ◌||◌}
 use Rattle.std.specs.Prelude.{not, if◌then◌else◌, Option, Some, None, codes, bytes_eq}
 use Rattle.std.specs.Int.{int_min, int_max}
 use Rattle.st_types.specs.declared.kind.Kind.{Kind}
 use Rattle.st_types.specs.declared.kind.Kind.TheVariants.{Int, Time, Bool as Boolean}
 use Rattle.st_types.specs.Kinds.{least, greatest}
-use Rattle.st_types.specs.Values.{Datum, datum_of_truth, is_true}
+use Rattle.st_types.specs.Values.{Datum, bool_datum, is_true}
 
 pub data StandardBlock : Type 0 where
   SR : StandardBlock
@@ -66,7 +66,7 @@ outputs_of TON = bool (codes "Q") ∷ (codes "ET", Time) ∷ []
 outputs_of TOF = bool (codes "Q") ∷ (codes "ET", Time) ∷ []
 outputs_of TP = bool (codes "Q") ∷ (codes "ET", Time) ∷ []
 
--- what texts can't reach
+-- the members that texts can't reach
 abbrev pub hidden_of : StandardBlock → List BlockMember
 hidden_of SR = []
 hidden_of RS = []
@@ -94,11 +94,11 @@ one_down z = if int_lt (least Int) z then z -ℤ pos 1 else z
 abbrev pub edge : Bool → Bool → Bool
 edge input memory = input && not memory
 
--- what a counter counts, where it is neither reset nor loaded
+-- the next count of a counter that is neither reset nor loaded
 abbrev pub counted : Bool → Bool → ℤ → ℤ
 counted up down z = if up && down then z else if up then one_up z else if down then one_down z else z
 
--- what the counters count: a reset or a load comes before the edges
+-- the next counts: a reset or a load comes before the edges
 abbrev pub up_count : Bool → Bool → ℤ → ℤ
 up_count reset up z = if reset then pos 0 else counted up false z
 
@@ -108,7 +108,7 @@ down_count load pv down z = if load then pv else counted false down z
 abbrev pub up_down_count : Bool → Bool → ℤ → Bool → Bool → ℤ → ℤ
 up_down_count reset load pv up down z = if reset then pos 0 else if load then pv else counted up down z
 
--- what the bistables keep: SR is set first, and RS reset first
+-- the next states of the bistables: SR is set first, and RS reset first
 abbrev pub set_first : Bool → Bool → Bool → Bool
 set_first set reset q = set || (not reset && q)
 
@@ -122,7 +122,7 @@ pub record Timer : Type 0 where
   pub run : Bool
   pub start : ℤ
 
--- a timer that is to run: it starts where it did not run
+-- a timer that is to run: it starts unless it runs
 abbrev pub running : ℕ → Timer → Timer
 running now t = if t.run then t else record { q = t.q; et = t.et; run = true; start = pos now }
 
@@ -173,30 +173,30 @@ time z = record { kind = Time; number = z }
 abbrev pub timer_stepped : (ℕ → Bool → ℤ → Timer → Timer) → ℕ → Datum → Datum → Timer → List Datum
 timer_stepped step now input pt t =
     let u = step now (is_true input) (int_max (pos 0) pt.number) t in
-    input ∷ pt ∷ datum_of_truth u.q ∷ time u.et ∷ datum_of_truth u.run ∷ time u.start ∷ []
+    input ∷ pt ∷ bool_datum u.q ∷ time u.et ∷ bool_datum u.run ∷ time u.start ∷ []
 
 abbrev pub timer_of : Datum → Datum → Datum → Datum → Timer
 timer_of q et run start = record { q = is_true q; et = et.number; run = is_true run; start = start.number }
 
 -- the members after a call at a moment
 abbrev pub stepped : StandardBlock → ℕ → List Datum → List Datum
-stepped SR now (s1 ∷ r ∷ q1 ∷ []) = s1 ∷ r ∷ datum_of_truth (set_first (is_true s1) (is_true r) (is_true q1)) ∷ []
-stepped RS now (s ∷ r1 ∷ q1 ∷ []) = s ∷ r1 ∷ datum_of_truth (reset_first (is_true s) (is_true r1) (is_true q1)) ∷ []
+stepped SR now (s1 ∷ r ∷ q1 ∷ []) = s1 ∷ r ∷ bool_datum (set_first (is_true s1) (is_true r) (is_true q1)) ∷ []
+stepped RS now (s ∷ r1 ∷ q1 ∷ []) = s ∷ r1 ∷ bool_datum (reset_first (is_true s) (is_true r1) (is_true q1)) ∷ []
 stepped R_TRIG now (clk ∷ q ∷ m ∷ []) =
-    clk ∷ datum_of_truth (edge (is_true clk) (is_true m)) ∷ datum_of_truth (is_true clk) ∷ []
+    clk ∷ bool_datum (edge (is_true clk) (is_true m)) ∷ bool_datum (is_true clk) ∷ []
 stepped F_TRIG now (clk ∷ q ∷ m ∷ []) =
-    clk ∷ datum_of_truth (edge (not (is_true clk)) (is_true m)) ∷ datum_of_truth (not (is_true clk)) ∷ []
+    clk ∷ bool_datum (edge (not (is_true clk)) (is_true m)) ∷ bool_datum (not (is_true clk)) ∷ []
 stepped CTU now (cu ∷ r ∷ pv ∷ q ∷ cv ∷ m ∷ []) =
     let z = up_count (is_true r) (edge (is_true cu) (is_true m)) cv.number in
-    cu ∷ r ∷ pv ∷ datum_of_truth (int_le pv.number z) ∷ int z ∷ datum_of_truth (is_true cu) ∷ []
+    cu ∷ r ∷ pv ∷ bool_datum (int_le pv.number z) ∷ int z ∷ bool_datum (is_true cu) ∷ []
 stepped CTD now (cd ∷ ld ∷ pv ∷ q ∷ cv ∷ m ∷ []) =
     let z = down_count (is_true ld) pv.number (edge (is_true cd) (is_true m)) cv.number in
-    cd ∷ ld ∷ pv ∷ datum_of_truth (int_le z (pos 0)) ∷ int z ∷ datum_of_truth (is_true cd) ∷ []
+    cd ∷ ld ∷ pv ∷ bool_datum (int_le z (pos 0)) ∷ int z ∷ bool_datum (is_true cd) ∷ []
 stepped CTUD now (cu ∷ cd ∷ r ∷ ld ∷ pv ∷ qu ∷ qd ∷ cv ∷ mu ∷ md ∷ []) =
     let z = up_down_count (is_true r) (is_true ld) pv.number (edge (is_true cu) (is_true mu))
     (edge (is_true cd) (is_true md)) cv.number in
-    cu ∷ cd ∷ r ∷ ld ∷ pv ∷ datum_of_truth (int_le pv.number z) ∷ datum_of_truth (int_le z (pos 0)) ∷ int z
-    ∷ datum_of_truth (is_true cu) ∷ datum_of_truth (is_true cd) ∷ []
+    cu ∷ cd ∷ r ∷ ld ∷ pv ∷ bool_datum (int_le pv.number z) ∷ bool_datum (int_le z (pos 0)) ∷ int z
+    ∷ bool_datum (is_true cu) ∷ bool_datum (is_true cd) ∷ []
 stepped TON now (input ∷ pt ∷ q ∷ et ∷ run ∷ start ∷ []) = timer_stepped on_delay now input pt (timer_of q et run start)
 stepped TOF now (input ∷ pt ∷ q ∷ et ∷ run ∷ start ∷ []) =
     timer_stepped off_delay now input pt (timer_of q et run start)

@@ -59,7 +59,7 @@ lesser a b = if int_le a.number b.number then a else b
 abbrev pub greater : Datum → Datum → Datum
 greater a b = if int_le b.number a.number then a else b
 
--- the bits of x moved up by n places, of so many; zeros follow, and what leaves the width is lost
+-- the bits of x moved up by n places, in a width; zeros follow, and bits that leave the width are lost
 abbrev pub bits_up : ℕ → ℕ → ℕ → ℕ
 bits_up width x n = if nat_le width n then 0 else (x * 2 ^ n) % 2 ^ width
 
@@ -67,7 +67,7 @@ bits_up width x n = if nat_le width n then 0 else (x * 2 ^ n) % 2 ^ width
 abbrev pub bits_down : ℕ → ℕ → ℕ → ℕ
 bits_down width x n = if nat_le width n then 0 else x / 2 ^ n
 
--- the bits of x turned up by n places: what leaves at the top comes in below
+-- the bits of x rotated up by n places: bits that leave at the top come in below
 abbrev pub bits_turned : ℕ → ℕ → ℕ → ℕ
 bits_turned width x n = bits_up width x (n % width) + bits_down width x (width - n % width)
 
@@ -79,11 +79,11 @@ shifted move x (negsuc n) = Err Range
 abbrev pub turned_down : ℕ → ℕ → ℕ → ℕ
 turned_down width x n = bits_turned width x (width - n % width)
 
--- the value as one of another type; F4 where that does not hold it
+-- the value as one of another type; F4 if that type does not hold it
 abbrev pub conversion : Kind → ℤ → Result Datum Fault
 conversion l z = if holds l z then Ok (record { kind = l; number = z }) else Err Conversion
 
--- Arguments that do not fit stand in no text that is well typed.
+-- No well-typed text has arguments that do not fit.
 abbrev pub standard_value : Standard → List Datum → Result Datum Failure
 standard_value ABS (x ∷ []) = failing (in_range x.kind (pos (unsigned_abs x.number)))
 standard_value MIN (a ∷ b ∷ []) = Ok (lesser a b)

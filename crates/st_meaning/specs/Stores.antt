@@ -20,18 +20,18 @@ get (e ∷ s) p = if same_path p e.0 then Some e.1 else get s p
 abbrev pub may_replace : Datum → Datum → Bool
 may_replace old new = same_kind old.kind new.kind && holds new.kind new.number
 
--- the first variable with a new value, where it may take it
+-- the first variable with a new value, if it may take it
 abbrev pub replaced : Path × Datum → Datum → Store → Result Store Failure
 replaced e v s = if may_replace e.1 v then Ok ((e.0, v) ∷ s) else Err ill_typed
 
-abbrev pub behind_first : Path × Datum → Result Store Failure → Result Store Failure
-behind_first e (Ok t) = Ok (e ∷ t)
-behind_first e (Err f) = Err f
+abbrev pub with_entry : Path × Datum → Result Store Failure → Result Store Failure
+with_entry e (Ok t) = Ok (e ∷ t)
+with_entry e (Err f) = Err f
 
--- the store after an assignment, where there is such a variable
+-- the store after an assignment, if there is such a variable
 abbrev pub assigned : Store → Path → Datum → Result Store Failure
 assigned [] p v = Err ill_typed
-assigned (e ∷ s) p v = if same_path p e.0 then replaced e v s else behind_first e (assigned s p v)
+assigned (e ∷ s) p v = if same_path p e.0 then replaced e v s else with_entry e (assigned s p v)
 
 -- some variable is this one or a part of it
 abbrev pub has_part : Store → Path → Bool
@@ -41,7 +41,7 @@ has_part s p = list_any (λ e. is_within p e.0) s
 abbrev pub shape_of : Store → List (Path × Kind)
 shape_of s = map (λ e. (e.0, e.1.kind)) s
 
--- each path stands once
+-- each path occurs once
 abbrev pub is_distinct : List (Path × Kind) → Bool
 is_distinct [] = true
 is_distinct (e ∷ es) = not (list_any (λ d. same_path e.0 d.0) es) && is_distinct es
@@ -51,7 +51,7 @@ abbrev pub all_held : Store → Bool
 all_held [] = true
 all_held (e ∷ s) = holds e.1.kind e.1.number && all_held s
 
--- Each path of a store stands once, in it and in the image, and each value is one that its type holds.
+-- Each path of a store occurs once, in it and in the image, and each value is one that its type holds.
 pub record IsStore (image s : Store) : Type 0 where
   pub once : is_distinct (shape_of image ++ shape_of s) ≡ true
   pub held : all_held s ≡ true

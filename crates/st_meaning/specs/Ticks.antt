@@ -1,8 +1,8 @@
--- What takes ticks: from the ticks that are left, a result with those left after it, or a fault.
+-- Runs that take ticks: from the ticks that are left, a result with those left after it, or a fault.
 use Rattle.std.specs.Prelude.{ℕ, zero, suc, Result, Ok, Err}
 use Rattle.st_types.specs.declared.fault.Fault.{Fault}
 use Rattle.st_types.specs.declared.fault.Fault.TheVariants.{Budget}
-use Rattle.st_meaning.specs.Failures.{Failure, StandIns, fault_for}
+use Rattle.st_meaning.specs.Failures.{Failure, StuckFaults, fault_for}
 
 abbrev pub Run : Type 0 → Type 0
 Run A = ℕ → Result (A × ℕ) Fault
@@ -31,12 +31,12 @@ abbrev pub take : {A : Type 0} → Result A Fault → Run A
 take (Ok a) = give a
 take (Err e) = fault e
 
--- the same of a part that may fail for what no well-typed text meets
-abbrev pub attempt : {A : Type 0} → StandIns → Result A Failure → Run A
-attempt stand_ins (Ok a) = give a
-attempt stand_ins (Err e) = fault (fault_for stand_ins e)
+-- the same of a part that may fail in a way that no well-typed text meets
+abbrev pub attempt : {A : Type 0} → StuckFaults → Result A Failure → Run A
+attempt stuck_faults (Ok a) = give a
+attempt stuck_faults (Err e) = fault (fault_for stuck_faults e)
 
--- one part after another, where neither takes ticks
+-- one part after another, if neither takes ticks
 abbrev pub proceed : {A B : Type 0} → Result A Failure → (A → Result B Failure) → Result B Failure
 proceed (Ok a) f = f a
 proceed (Err e) f = Err e

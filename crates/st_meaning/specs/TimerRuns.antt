@@ -26,7 +26,7 @@ abbrev pub AllOn : List TimerCall → Type 0
 AllOn [] = Unit {0}
 AllOn (c ∷ calls) = (c.input ≡ true) × AllOn calls
 
--- IN was TRUE at the first of the last calls and ever since, and that was at least so long ago
+-- IN was TRUE at the first of the last calls and ever since, and that was at least `pt` ago
 pub record WasOnFor (calls : List TimerCall) (pt now : ℕ) : Type 0 where
   pub before : List TimerCall
   pub first : TimerCall

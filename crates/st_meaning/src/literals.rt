@@ -18,7 +18,7 @@ pub fn number_of(number: &Number) -> i128
     }
 }
 
-/// The type that is written, or else that which the literal's place in the text gives.
+/// The type that is written, or else the one that the literal's place in the text gives.
 fn kind_of(number: &Number) -> Option<Kind>
     ensures { result ≡ kind_of_number number.now }
 {
@@ -28,8 +28,7 @@ fn kind_of(number: &Number) -> Option<Kind>
     }
 }
 
-/// The value of a literal of a whole number or bit string; F1 where its type does not hold it, and F4 where it has
-/// none.
+/// The value of a literal of a whole number or bit string; F1 if its type does not hold it, and F4 if it has none.
 pub fn value_of_number(number: &Number) -> Result<Value, Fault>
     ensures { result ≡ run_result (value_of_number number.now) }
 {

@@ -7,7 +7,7 @@ ghost use Rattle.st_meaning.specs.NameTypes.{kind_of_type, type_in, type_in_bloc
 
 use st_types::{Declaration, Identifier, Kind, Name, SimpleType, VariableBlock, VariableType};
 
-/// The elementary type that a declared type is.
+/// The elementary type of a declared type, if it is one.
 pub fn kind_of_type(declared: &VariableType) -> Option<Kind>
     ensures { result ≡ kind_of_type declared.now }
 {

@@ -2,7 +2,7 @@
 
 use st_types::{Kind, Path, Value};
 
-/// A variable of the layout that is no input of the plant.
+/// A variable of the layout that isn't an input of the plant.
 pub struct PlanVariable {
     pub path: Path,
     /// The value that it starts with: its declared one, else 0, FALSE or T#0s.
@@ -40,7 +40,7 @@ pub struct Schedule {
     pub resource: usize,
     /// The number of its task in declaration order, from 0.
     pub task: usize,
-    /// The INTERVAL of its task in milliseconds; 0 where there is none.
+    /// The INTERVAL of its task in milliseconds; 0 if there is none.
     pub interval: u64,
     /// The PRIORITY of its task; the least number runs first.
     pub priority: u64,

@@ -1,4 +1,4 @@
-//! Laws and worked examples of what is due, what waits and what a log makes of the variables.
+//! Laws and worked examples of the activations that are due and wait, and of the variables after a log.
 
 ghost use Rattle.std.specs.Prelude.{◌≡◌, ℕ, ◌+◌, ◌<◌, ◌≤◌, ◌∷◌, ◌++◌, [], List, length, Bool, true, false, Option};
 ghost use Rattle.st_types.specs.declared.entry.Entry.{Entry};
@@ -13,7 +13,7 @@ ghost use Rattle.st_types.specs.declared.entry.Activation.{Activation};
 ghost use Rattle.st_meaning.specs.Logs.{Log, IsLegal, past_of, with_entry, row_count, done_count};
 ghost use Rattle.st_meaning.specs.PlanExamples.{every, rows_at, dues, three_programs, four_rows, of, ran_3, ran_3_1, ran_all};
 
-/// A program every 10 ms is due at the first row, and where a further whole interval has gone by since then.
+/// A program every 10 ms is due at the first row, and if a further whole interval has gone by since then.
 pub fn intervals()
     ensures from_5 { dues (every 10) 0 (rows_at (5 ∷ 14 ∷ 15 ∷ 40 ∷ [])) ≡ true ∷ false ∷ true ∷ true ∷ [] }
     ensures from_0 { dues (every 10) 0 (rows_at (0 ∷ 9 ∷ 10 ∷ 25 ∷ 29 ∷ 30 ∷ [])) ≡ true ∷ false ∷ true ∷ true ∷ false
@@ -22,7 +22,7 @@ pub fn intervals()
         ∷ false ∷ false ∷ [] }
 {}
 
-/// SINGLE makes due where it rises, and holds the interval back while it is TRUE.
+/// A program is due when SINGLE rises; while it is TRUE, the interval is held back.
 pub fn single_and_interval()
     ensures both { dues three_programs 0 four_rows.sampled ≡ true ∷ true ∷ false ∷ true ∷ [] }
     ensures interval { dues three_programs 1 four_rows.sampled ≡ true ∷ false ∷ false ∷ true ∷ [] }
@@ -54,9 +54,9 @@ pub fn one_activation_waits()
         → Waits schedules (with_run h p) record { program = p; row = k } → ⊥ }
 {}
 
-/// An activation that was served never waits again, whatever rows and Dones follow: a program's last Done stands after
-/// the row that it served and after no more rows than there are, at first and after each row and each Done.
-pub fn served_for_good()
+/// An activation that was served never waits again, whatever rows and Dones follow: a program's last Done is after the row
+/// that it served and after no more rows than there are, at first and after each row and each Done.
+pub fn served_once()
     ensures by_its_done { (schedules : List Schedule) (h : History) (p k : ℕ)
         → Waits schedules h record { program = p; row = k } → k < served p (with_run h p).runs }
     ensures over_dones { (h : History) (p q k : ℕ) → k < served p h.runs → served p h.runs ≤ length h.sampled
@@ -72,8 +72,8 @@ pub fn served_for_good()
         → Waits schedules h record { program = p; row = k } → ⊥ }
 {}
 
-/// There is no overrun at first. A row at which a waiting program is due is one more; one at which it is not due is
-/// none, nor is one at which nothing of it waits. A Done takes none away.
+/// There is no overrun at first. A row at which a waiting program is due is one more; one at which it is not due is none,
+/// nor is one at which nothing of it waits. A Done takes none away.
 pub fn overruns_are_rows_that_meet_a_waiting_program()
     ensures none_at_first { (schedules : List Schedule) (p : ℕ) → HasOverruns schedules no_history p 0 }
     ensures met { (schedules : List Schedule) (h : History) (moment : ℕ) (samples : List Bool) (p k n : ℕ)
@@ -93,14 +93,14 @@ pub fn overruns_are_rows_that_meet_a_waiting_program()
         record { program = p; row = k } → HasOverruns schedules h p n → HasOverruns schedules (with_run h p) p n }
 {}
 
-/// What a log with one entry more makes is one step further.
+/// The state after a log with one entry more is one step further.
 pub fn logs_grow_by_one_step()
     ensures { (plan : Plan) (start : Store) (log : List Entry) (e : Entry)
         → past_of plan start (log ++ e ∷ []) ≡ with_entry plan (past_of plan start log) e }
 {}
 
-/// Each entry of a log is a row or a Done. What the log makes has as many rows, and as many Dones served. One entry
-/// more counts as what it is.
+/// Each entry of a log is a row or a Done. The state after a log has as many rows, and as many Dones served. One entry more
+/// adds one row or one Done.
 pub fn entries_are_counted()
     ensures each { (log : Log) → row_count log + done_count log ≡ length log }
     ensures rows { (plan : Plan) (start : Store) (log : Log)
@@ -113,7 +113,7 @@ pub fn entries_are_counted()
     ensures done_is_no_row { (log : Log) (a : Activation) → row_count (log ++ Done a ∷ []) ≡ row_count log }
 {}
 
-/// A legal log has an activation's Done at most once, whatever stands before, between and after.
+/// A legal log has an activation's Done at most once, whatever is before, between and after.
 #[tactic(auto, using(crate::proofs::OnceLemmas::done_once))]
 pub fn each_activation_is_done_once()
     ensures { (plan : Plan) (start : Store) (before : Option ℕ) (a : Activation) (log rest : Log)

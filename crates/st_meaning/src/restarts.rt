@@ -1,4 +1,4 @@
-//! Laws of what outlasts a log and a restart.
+//! Laws of the values that outlast a log and a restart.
 
 ghost use Rattle.std.specs.Prelude.{◌≡◌, ℕ, [], true, Option, Some, bytes_eq, if◌then◌else◌, map};
 ghost use Rattle.std.specs.List.{IsDistinct};

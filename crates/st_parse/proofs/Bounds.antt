@@ -10,7 +10,7 @@ use Rattle.st_parse.specs.Depths.{ValueWithin, FieldWithin, DefinitionWithin, Ty
 use Rattle.st_parse.specs.Depths.{BlockWithin, UnitWithin, GlobalWithin, GlobalBlockWithin, ConfigurationWithin}
 use Rattle.st_parse.specs.Depths.{ElementWithin, SourceWithin}
 
--- what is within a depth is within each greater one, and each is within some
+-- a text within a depth is within each greater one, and each text is within some depth
 pub record Bounded {A : Type 0} (W : ℕ → A → Type 0) : Type 0 where
   pub deeper : (d d' : ℕ) (x : A) → d ≤ d' → W d x → W d' x
   pub bound : (x : A) → (d : ℕ) × W d x

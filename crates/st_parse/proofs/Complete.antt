@@ -1,4 +1,4 @@
--- What is of the grammar is read: tokens, lists, numbers.
+-- Tokens of the grammar are read: single ones, lists, numbers.
 use Rattle.std.proofs.Common.{◌≡◌, ℕ, zero, suc, ◌<◌, ◌≤◌, Bool, true, false, cond, List, [], ◌∷◌, ◌++◌, length, Option}
 use Rattle.std.proofs.Common.{Some, None, Ok, refl, sym, ap, ◌∙◌, arith, append_assoc}
 use Rattle.std.proofs.lemmas.List.{append-nil}
@@ -21,7 +21,7 @@ pub one_complete : {A : Type 0} {of : Token → Option A} {ts us : Tokens} {x : 
     → one of ts ≡ Ok (x, us)
 one_complete (is eq) = rw eq refl
 
--- ---- what the next token is
+-- ---- the kind of the next token
 
 stands : (b : Bool) (at place : ℕ) → cond b (Some at) None ≡ Some place → b ≡ true
 stands true at place eq = refl

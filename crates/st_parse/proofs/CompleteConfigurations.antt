@@ -1,4 +1,4 @@
--- What is a configuration is read.
+-- A configuration is read.
 use Rattle.std.proofs.Common.{◌≡◌, ℕ, true, false, List, [], ◌∷◌, Option, Some, Ok, refl, subst}
 use Rattle.std.specs.List.{AllByRecursion}
 use Rattle.st_types.specs.declared.identifier.Identifier.{Identifier}

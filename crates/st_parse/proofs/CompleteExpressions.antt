@@ -1,4 +1,4 @@
--- What is an expression is read.
+-- An expression is read.
 use Rattle.std.proofs.Common.{◌≡◌, ℕ, zero, suc, ◌+◌, ◌<◌, ◌≤◌, ltb, cond, Bool, true, false, ◌||◌, List, [], ◌∷◌}
 use Rattle.std.proofs.Common.{length, Option, Some, None, Ok, Err, refl, ap, subst, ◌∙◌, arith, inl, inr}
 use Rattle.std.proofs.lemmas.Bool.{cases_Bool, ltb-false, ltb-true, leb-false, le-ltb, lt-leb, le-leb}
@@ -39,13 +39,13 @@ use Rattle.st_parse.proofs.Complete.{one_complete, mark_head, keyword_head, name
 use Rattle.st_parse.proofs.Complete.{Repeats, repeats_halt, repeats_step, several_complete, after_comma_complete}
 use Rattle.st_parse.proofs.Complete.{comma_next, listed_complete}
 
--- ---- what stands after
+-- ---- the tokens after it
 
--- nothing that makes a name more than itself
+-- no token that continues a name
 abbrev pub Closed : Tokens → Type 0
 Closed us = (next starts_selector us ≡ false) × (next (is_mark m.Open) us ≡ false)
 
--- nothing that goes on
+-- no token that continues an expression
 abbrev pub Stops : Tokens → Type 0
 Stops us = next continues us ≡ false
 
@@ -99,7 +99,7 @@ kind_closes _ op eq = absurd cc
 operator_closes : {us vs : Tokens} {op : BinaryOperator} → Is operator us op vs → Closed us
 operator_closes {op = op} (is {t} eq) = kind_closes t.kind op eq
 
--- an operator binds as much as it binds
+-- an operator has its own strength
 operator_next : (least : ℕ) {us vs : Tokens} {op : BinaryOperator} → Is operator us op vs → least ≤ binds_of op
     → next (goes_on least) us ≡ true
 operator_next least (is eq) le = rw eq (le-leb _ _ le)
@@ -205,7 +205,7 @@ inverted_complete expr s eq = let h = keyword_head w.Not (is_keyword w.Not) s in
 
 -- ---- operators
 
--- the operators after an expression make it another
+-- the operators after an expression make a longer one of it
 abbrev pub TurnsTo : ℕ → ℕ → Expr → Tokens → Expr → Tokens → Type 0
 TurnsTo below least a us y ws = (n : ℕ) → length us ≤ n
     → loops (goes_on least) (operation_within (expr_at below) below) n a us ≡ Ok (y, ws)
@@ -334,7 +334,7 @@ selectors_are : (expr : ℕ → Parser Expr) (ts us : Tokens) (xs : List Selecto
 unfolding selectors_at
 selectors_are expr ts us xs r = several_complete starts_selector (selector_at expr) ts us [] xs r
 
-close_no_comma : {ts us : Tokens} → Passes (mark m.Close) ts us → next (is_mark m.Comma) ts ≡ false
+pub close_no_comma : {ts us : Tokens} → Passes (mark m.Close) ts us → next (is_mark m.Comma) ts ≡ false
 unfolding same_mark
 close_no_comma c = mark_head m.Close (is_mark m.Comma) c.1
 
@@ -433,7 +433,7 @@ mutual
       (after_comma_complete (expr_at below 1) p (whole_complete below 1 1 us vs x (read_complete i) (omega arith)
       (omega arith) (omega arith) stop.1 stop.0)) (omega arith) (rest_complete r c below (omega arith))
 
--- ---- for those above
+-- ---- for other modules
 
 pub expr_complete : (depth : ℕ) {ts us : Tokens} {x : Expr} → IsExpr 1 ts x us → depth_of x ≤ depth → Stops us
     → expr_at depth 1 ts ≡ Ok (x, us)

@@ -1,4 +1,4 @@
--- What is an initial value is read.
+-- An initial value is read.
 use Rattle.std.proofs.Common.{◌≡◌, ℕ, zero, suc, ◌≤◌, true, false, List, [], ◌∷◌, Some, Ok, refl, sym, ap, subst, ◌∙◌}
 use Rattle.std.proofs.Common.{arith, inl, inr}
 use Rattle.std.proofs.lemmas.Bool.{cases_Bool}
@@ -29,6 +29,7 @@ use Rattle.st_parse.proofs.ExpressionFacts.{is_less}
 use Rattle.st_parse.proofs.SoundInitials.{element_less, member_less, initial_some}
 use Rattle.st_parse.proofs.Complete.{one_complete, mark_head, whole_head, Repeats, repeats_halt, repeats_step}
 use Rattle.st_parse.proofs.Complete.{after_comma_complete, comma_next, listed_complete}
+use Rattle.st_parse.proofs.CompleteExpressions.{close_no_comma}
 
 literal_plain : (x : MarkType) (at : ℕ) (k : TokenKind) (l : Literal) → constant_in at k ≡ Some l → is_mark x k ≡ false
 literal_plain x at (Mark y) l eq = absurd cc
@@ -86,7 +87,7 @@ number_element initial below t rest w eq plain = rw (eq, plain) refl
 abbrev answer : {A : Type 0} → A → Tokens → Outcome A
 answer x us = Ok (x, us)
 
-same_pair : {A : Type 0} (x y : A) (us vs : Tokens) → answer x us ≡ answer y vs
+pub same_pair : {A : Type 0} (x y : A) (us vs : Tokens) → answer x us ≡ answer y vs
     → (let p : A × Tokens = (x, us) in p ≡ (y, vs))
 same_pair x y us vs e = cc
 
@@ -151,7 +152,7 @@ member_is : (initial : Parser Initial) {ts us vs ws : Tokens} {x : Identifier} {
 unfolding member_at
 member_is initial n o eq = rw (one_complete n, one_complete o.1, eq) refl
 
--- ---- what stands after an element
+-- ---- the tokens after an element
 
 elements_plain : {us vs ws : Tokens} {xs : List Element} → IsMoreElements us xs vs → Passes (mark m.CloseBracket) vs ws
     → next (is_mark m.Open) us ≡ false
@@ -162,10 +163,6 @@ elements_plain (next_element p e r) c = mark_head m.Comma (is_mark m.Open) p.1
 bracket_no_comma : {ts us : Tokens} → Passes (mark m.CloseBracket) ts us → next (is_mark m.Comma) ts ≡ false
 unfolding same_mark
 bracket_no_comma c = mark_head m.CloseBracket (is_mark m.Comma) c.1
-
-close_no_comma : {ts us : Tokens} → Passes (mark m.Close) ts us → next (is_mark m.Comma) ts ≡ false
-unfolding same_mark
-close_no_comma c = mark_head m.Close (is_mark m.Comma) c.1
 
 -- ---- all
 

@@ -1,4 +1,4 @@
--- What is a repeated or an optional part is read.
+-- A repeated or an optional part is read.
 use Rattle.std.proofs.Common.{◌≡◌, ℕ, ◌<◌, Bool, true, false, List, [], ◌∷◌, length, Some, None, Ok, refl, ap, arith}
 use Rattle.std.specs.List.{AllByRecursion}
 use Rattle.st_types.specs.declared.identifier.Identifier.{Identifier}
@@ -47,7 +47,7 @@ pub optional_some : {A : Type 0} (f : TokenKind → Bool) (P : Parser A) {ts us 
 unfolding optional
 optional_some f P hit eq = rw (hit, eq) refl
 
--- names with commas between them
+-- names separated by commas
 names_repeat : {ts us : Tokens} {xs : List Identifier} → Many (AfterComma (Is name)) ts xs us
     → next (is_mark m.Comma) us ≡ false → Repeats (is_mark m.Comma) (comma (one name)) ts xs us
 names_repeat (no_more {ts}) miss = repeats_halt (is_mark m.Comma) (comma (one name)) ts miss

@@ -1,4 +1,4 @@
--- What is a whole text is read.
+-- A whole text is read.
 use Rattle.std.proofs.Common.{◌≡◌, ℕ, ◌<◌, true, List, [], ◌∷◌, length, Ok, refl, subst, ◌∙◌, arith}
 use Rattle.std.specs.List.{AllByRecursion}
 use Rattle.st_lex.specs.declared.keyword.Keyword.TheVariants as w

@@ -1,4 +1,4 @@
--- What is a statement is read.
+-- A statement is read.
 use Rattle.std.proofs.Common.{true≢false, ◌≡◌, ℕ, zero, suc, ◌+◌, ◌-◌, ◌≤◌, max, Bool, true, false, List, [], ◌∷◌}
 use Rattle.std.proofs.Common.{Option, Some, Ok, refl, ap, subst, ◌∙◌, arith, ◌<◌, ◌||◌, ◌++◌, length, None, sym}
 use Rattle.std.proofs.Common.{append_assoc, inl, inr}
@@ -44,7 +44,7 @@ use Rattle.st_parse.proofs.StatementFacts.{argument_less, arm_less, stmt_less, s
 use Rattle.st_parse.proofs.Complete.{one_complete, mark_kind, keyword_kind, name_in_is, mark_head, keyword_head}
 use Rattle.st_parse.proofs.Complete.{name_head, whole_head, number_complete, Repeats, repeats_halt, repeats_step}
 use Rattle.st_parse.proofs.Complete.{several_complete, after_comma_complete, comma_next, listed_complete}
-use Rattle.st_parse.proofs.CompleteExpressions.{Stops, stops_all, close_stops, comma_stops, open_first}
+use Rattle.st_parse.proofs.CompleteExpressions.{Stops, stops_all, close_stops, comma_stops, open_first, close_no_comma}
 use Rattle.st_parse.proofs.CompleteExpressions.{expr_complete, variable_of_complete}
 use Rattle.std.proofs.lemmas.Bool.{cases_Bool}
 use Rattle.std.proofs.lemmas.List.{append-nil}
@@ -52,7 +52,7 @@ use Rattle.st_types.specs.declared.literal.EnumeratedValue.{EnumeratedValue}
 use Rattle.st_lex.specs.declared.token.Token.{Token}
 use Rattle.st_parse.proofs.SoundTurns.{halts, turn_is}
 
--- ---- what stands after
+-- ---- the tokens after it
 
 keyword_stops : (x : KeywordType) {ts us : Tokens} → Passes (keyword x) ts us → continues (Keyword x) ≡ false → Stops ts
 keyword_stops x p eq = keyword_head x continues p.1 ∙ eq
@@ -145,13 +145,9 @@ label_complete (range a b i o j eq) bare =
     rw (h.1, number_complete i, d, one_complete o.1, number_complete j, eq) refl
 label_complete (named v i eq) bare = rw (value_head i, one_complete i, eq) refl
 
-colon_no_comma : {ts us : Tokens} → Passes (mark m.Colon) ts us → next (is_mark m.Comma) ts ≡ false
+pub colon_no_comma : {ts us : Tokens} → Passes (mark m.Colon) ts us → next (is_mark m.Comma) ts ≡ false
 unfolding same_mark
 colon_no_comma c = mark_head m.Colon (is_mark m.Comma) c.1
-
-close_no_comma : {ts us : Tokens} → Passes (mark m.Close) ts us → next (is_mark m.Comma) ts ≡ false
-unfolding same_mark
-close_no_comma c = mark_head m.Close (is_mark m.Comma) c.1
 
 more_labels_complete : {ts us vs : Tokens} {xs : List Label} → IsMoreLabels ts xs us → Passes (mark m.Colon) us vs
     → Repeats (is_mark m.Comma) (after_comma label_at) ts xs us
@@ -338,7 +334,7 @@ arguments_complete below (argument {ts} {us} {vs} {x} {xs} i r) c low =
     some_arguments_complete below ts vs (x ∷ xs) (argument_open i) (listed_complete (argument_at below)
     (argument_complete below i (omega arith) (rest_stops r c)) (more_arguments_complete below r c (omega arith)))
 
--- ---- statements that hold no statement
+-- ---- statements without statements in them
 
 by_keyword : {A : Type 0} (f : TokenKind → Parser A) (x : KeywordType) {ts us : Tokens} → Passes (keyword x) ts us
     → by_kind f ts ≡ f (Keyword x) ts
@@ -392,7 +388,7 @@ module _ (below : ℕ) (line : Parser Stmt) where
   unfolding stmt_at return_at
   return_complete o = by_keyword (stmt_by below line) w.Return o ∙ rw (one_complete o.1) refl
 
-  -- ---- statements that hold statements
+  -- ---- statements with statements in them
 
   arm_is : (ts us vs ws : Tokens) (x : Expr) (body : List Stmt) → expr_at below 1 ts ≡ Ok (x, us)
       → Passes (keyword w.Then) us vs → lines line vs ≡ Ok (body, ws) → arm_at below line ts ≡ Ok ((x, stmts_of body), ws)
@@ -482,7 +478,7 @@ module _ (below : ℕ) (line : Parser Stmt) where
   repeat_is o same u eq c = by_keyword (stmt_by below line) w.Repeat o
       ∙ rw (one_complete o.1, same, one_complete u.1, eq, one_complete c.1) refl
 
--- ---- where lists of statements end
+-- ---- the ends of lists of statements
 
 else_next : (f : TokenKind → Bool) (x : KeywordType) {ts us vs : Tokens} {xs : List Stmt} → IsElse ts xs us
     → Passes (keyword x) us vs → f (Keyword w.Else) ≡ false → f (Keyword x) ≡ false → next f ts ≡ false
@@ -684,7 +680,7 @@ mutual
       (subst (λ (ys : List Stmt). Arrives (suc below) (line_at (suc below)) (with_body a ys) ws arms zs)
       (sym (append_assoc a.body (x ∷ []) xs)) others))
 
-  -- other arms behind those so far
+  -- other arms after those so far
   arms_arrive : {ts us vs ws : Tokens} {arms : List CaseArm} {other : List Stmt} → IsCaseArms ts arms us
       → IsElse us other vs → Passes (keyword w.EndCase) vs ws → (below : ℕ) → deepest_case_arm (case_arms_of arms)
       ≤ below → (a : Arms) → Arrives below (line_at below) a ts (all_arms a ++ arms) us

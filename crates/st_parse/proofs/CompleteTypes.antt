@@ -1,4 +1,4 @@
--- What is a type is read.
+-- A type is read.
 use Rattle.std.proofs.Common.{◌≡◌, ℕ, ◌≤◌, true, false, List, Option, Some, Ok, refl, subst}
 use Rattle.std.specs.List.{AllByRecursion}
 use Rattle.st_lex.specs.declared.token.TokenKind.{TokenKind}
@@ -97,7 +97,7 @@ module _ (depth : ℕ) where
   unfolding same_keyword
   structure_head s = keyword_head w.Struct (is_keyword w.Array) s.1
 
-  -- a parenthesis begins an enumerated type alone
+  -- a parenthesis begins an enumerated type only
   structure_unopened : {ts us : Tokens} → Passes (keyword w.Struct) ts us → next (is_mark m.Open) ts ≡ false
   structure_unopened s = keyword_head w.Struct (is_mark m.Open) s.1
 

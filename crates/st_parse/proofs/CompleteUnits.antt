@@ -1,4 +1,4 @@
--- What is a function, a function block or a program is read.
+-- A function, a function block or a program is read.
 use Rattle.std.proofs.Common.{◌≡◌, ℕ, ◌<◌, ◌≤◌, Bool, true, false, List, [], ◌∷◌, length, Option, Some, Ok, refl, subst}
 use Rattle.std.proofs.Common.{◌∙◌}
 use Rattle.std.specs.List.{AllByRecursion}
@@ -20,7 +20,7 @@ use Rattle.st_parse.specs.Parsers.{Parser, one}
 use Rattle.st_parse.specs.Statements.{IsStmts, no_stmt, stmt}
 use Rattle.st_parse.specs.StatementReading.{stmts_at, starts_stmt}
 use Rattle.st_parse.proofs.Complete.{one_complete, mark_head, keyword_head, name_head}
-use Rattle.st_parse.proofs.CompleteStatements.{all_complete, stmt_next}
+use Rattle.st_parse.proofs.CompleteStatements.{all_complete, stmt_next, colon_no_comma}
 use Rattle.st_parse.specs.Lists.{Many, no_more, one_more, Listed, listed as with_commas, Optional, absent, present}
 use Rattle.st_parse.specs.Units.{retention, retention_in, IsDeclaration, IsExternal, IsFunctionSection}
 use Rattle.st_parse.specs.Units.{IsOwnSection, IsBlockSection, IsExternalSection, IsBlock, IsProgramBlock}
@@ -170,10 +170,6 @@ external_section_complete (u.constant i k q) n = rw (one_complete i.1, constant_
 external_heads : {ts us : Tokens} {s : Section} → IsExternalSection ts s us → next (is_keyword w.VarExternal) ts ≡ true
 external_heads (u.variable i q) = external_head i
 external_heads (u.constant i k q) = external_head i
-
-colon_no_comma : {ts us : Tokens} → Passes (mark m.Colon) ts us → next (is_mark m.Comma) ts ≡ false
-unfolding same_mark
-colon_no_comma c = mark_head m.Colon (is_mark m.Comma) c.1
 
 pub names_at_complete : {ts us vs : Tokens} {xs : List Identifier} → Listed (Is name) ts xs us
     → Passes (mark m.Colon) us vs → names_at ts ≡ Ok (xs, us)

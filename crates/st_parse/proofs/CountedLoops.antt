@@ -13,7 +13,7 @@ one_more f n at below e = let turn : n - at ≡ suc (n - (at + 1)) = omega arith
 pub no_more : {X : Type 0} {x : X} (f : ℕ → X) (n at : ℕ) → n ≤ at → x ≡ f (n - at) → x ≡ f 0
 no_more f n at done e = let none : n - at ≡ 0 = omega arith in e ∙ ap f none
 
--- what the turns give where the tokens do not go on, where one more is taken, and where none is left
+-- the result of the turns if the tokens don't go on, if one more is taken, and if none is left
 pub stopped : {S : Type 0} (f : TokenKind → Bool) (step : S → Parser S) (n at : ℕ) (s : S) (ts : Tokens)
     (whole : Outcome S) → at < n → whole ≡ loops f step (n - at) s ts → next f ts ≡ false → whole ≡ Ok (s, ts)
 unfolding loops
@@ -38,7 +38,7 @@ pub ended : {S : Type 0} (f : TokenKind → Bool) (step : S → Parser S) (n at 
 unfolding loops
 ended f step n at s ts whole done e = no_more (λ m. loops f step m s ts) n at done e
 
--- the same of one more item of a list
+-- the same for one more item of a list
 pub gathered : {A B : Type 0} (v : A → B) (f : TokenKind → Bool) (item : Parser B) (n at : ℕ) (found more : List A)
     (x : A) (ts us : Tokens) (whole : Outcome (List B)) → at < n
     → whole ≡ loops f (gather item) (n - at) (map v found) ts → next f ts ≡ true → item ts ≡ Ok (v x, us)

@@ -1,4 +1,4 @@
--- The grammar of expressions alone.
+-- Facts about the grammar of expressions.
 use Rattle.std.proofs.Common.{◌≡◌, ℕ, ◌<◌, ◌≤◌, Bool, true, false, ◌||◌, List, [], ◌∷◌, length, Option, refl, ◌⊎◌}
 use Rattle.std.proofs.Common.{arith, inl, inr}
 use Rattle.st_types.specs.declared.operator.BinaryOperator.{BinaryOperator}
@@ -10,7 +10,7 @@ use Rattle.st_types.specs.Expressions as e
 use Rattle.st_types.specs.Depths.{depth_of, depth_of_subscript, deepest, deepest_subscript}
 use Rattle.st_parse.specs.Tokens.{Tokens, Is, is}
 use Rattle.st_parse.specs.Operators.{binds_of}
-use Rattle.st_parse.specs.Laws.{Begins}
+use Rattle.st_parse.specs.Laws.{IsPrefix}
 use Rattle.st_parse.specs.Expressions.{IsExpr, literal, variable, call, parenthesis, negative, negated, inverted}
 use Rattle.st_parse.specs.Expressions.{binary, IsVariable, selected, IsSelectors, no_selector, selector}
 use Rattle.st_parse.specs.Expressions.{IsSelector, member, subscript, IsExprs, no_argument, argument}
@@ -102,12 +102,12 @@ binds_small ops.Multiply = omega arith
 binds_small ops.Divide = omega arith
 binds_small ops.Modulo = omega arith
 
--- how strongly an expression binds that has no sign
+-- how strongly an expression without a sign binds
 abbrev pub strength : Expr → ℕ
 strength (e.binary op l r) = binds_of op
 strength x = 8
 
--- ---- an expression that is there for the asking
+-- ---- an example of an expression
 
 abbrev pub a_name : Expr
 a_name = e.read (e.variable an_identifier e.no_selectors)
@@ -120,7 +120,7 @@ pub a_variable_is : (after : Tokens)
     → IsVariable (token_of (Name []) ∷ after) (e.variable an_identifier e.no_selectors) after
 a_variable_is after = selected an_identifier [] (is refl) no_selector refl
 
-pub expr_begins : (k : ℕ) → Begins (IsExpr k) []
+pub expr_begins : (k : ℕ) → IsPrefix (IsExpr k) []
 expr_begins k = record { more = token_of (Name []) ∷ []; tree = a_name; whole = λ after. name_is k after }
 
 pub or_false : (a b : Bool) → a || b ≡ false → (a ≡ false) × (b ≡ false)

@@ -1,5 +1,5 @@
--- Where a reading is refused no text begins so, and where it is not nothing else is read: what is sound, and complete
--- at each depth, has the clauses of the public calls.
+-- If a reading is refused no text begins with its tokens, and otherwise nothing else can be read: soundness and
+-- completeness at each depth give the clauses of the public calls.
 use Rattle.std.proofs.Common.{◌≡◌, ℕ, ◌+◌, ◌≤◌, ◌++◌, length, Result, Ok, Err, sym, ap, subst, ◌∙◌, arith}
 use Rattle.std.specs.Prelude.{IfOk, IfErr}
 use Rattle.st_types.specs.declared.limits.TheConstants.{MAX_DEPTH}

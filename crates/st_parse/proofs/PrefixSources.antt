@@ -1,4 +1,4 @@
--- Where a text is refused no text begins so: from sound and complete readings to what parsing answers.
+-- If a text is refused no text begins with its tokens: from sound and complete readings to the answers of parsing.
 use Rattle.std.proofs.Common.{◌≡◌, ℕ, ◌+◌, ◌-◌, false, [], ◌∷◌, ◌++◌, length, drop, Ok, Err, refl, sym, ap, subst, ◌∙◌}
 use Rattle.std.proofs.Common.{arith}
 use Rattle.std.proofs.lemmas.List.{append-nil, length-append}
@@ -11,20 +11,20 @@ use Rattle.st_parse.specs.Tokens.{Tokens, next}
 use Rattle.st_parse.specs.declared.fault.ReadError.{ReadError}
 use Rattle.st_parse.specs.declared.fault.ReadError.TheVariants as errors
 use Rattle.st_parse.specs.Parsers.{Outcome, Fails}
-use Rattle.st_parse.specs.Laws.{Begins}
+use Rattle.st_parse.specs.Laws.{IsPrefix}
 use Rattle.st_parse.proofs.Sound.{Told, Kept, Lost, Sunk}
 use Rattle.st_parse.proofs.SoundReadings.{told_by}
 use Rattle.st_parse.specs.Lists.{Many}
 use Rattle.st_parse.specs.Sources.{IsLibraryElement, IsSource}
 use Rattle.st_parse.specs.Depths.{SourceWithin}
 use Rattle.st_parse.specs.Places.{end_of, start_of, place_left, parse_error}
-use Rattle.st_parse.specs.Answers.{place_behind, BeginsSource, IsUnexpectedAt, IsTooDeepSource, Refused, Answers}
+use Rattle.st_parse.specs.Answers.{place_after, BeginsSource, IsUnexpectedAt, IsTooDeepSource, Refused, Answers}
 use Rattle.st_parse.specs.SourceReading.{is_token, source_at}
 use Rattle.st_parse.proofs.SoundSources.{sound_source}
 use Rattle.st_parse.proofs.CompleteSources.{source_complete}
 use Rattle.st_parse.proofs.Bounds.{bounded_source}
 
-begun : (front : Tokens) → Begins (Many IsLibraryElement) front → BeginsSource front
+begun : (front : Tokens) → IsPrefix (Many IsLibraryElement) front → BeginsSource front
 begun front b = record { more = b.more ++ []; source = b.tree; whole = b.whole [] }
 
 told : (ts : Tokens) → Told (λ n. source_at (MAX_DEPTH + n)) (Many IsLibraryElement)
@@ -44,7 +44,7 @@ kept_source ts us x k =
 
 lost_place : (ts : Tokens) (n : ℕ) → Lost (λ k. source_at (MAX_DEPTH + k)) (Many IsLibraryElement) ts n
     → (front : Tokens) × (rest : Tokens) × (ts ≡ front ++ rest) × (length rest ≡ n)
-    × IsUnexpectedAt ts (place_behind front rest)
+    × IsUnexpectedAt ts (place_after front rest)
 lost_place ts n l = (
   l.front,
   l.rest,
@@ -84,7 +84,7 @@ pub found_source : (ts us : Tokens) (x : Source) → source_at MAX_DEPTH ts ≡ 
 found_source ts us x eq = kept_source ts us x (told_as ts (Ok (x, us)) eq)
 
 pub unexpected : (ts : Tokens) (n : ℕ) → source_at MAX_DEPTH ts ≡ Err (Unexpected n) → (front : Tokens)
-    × (rest : Tokens) × (ts ≡ front ++ rest) × (length rest ≡ n) × IsUnexpectedAt ts (place_behind front rest)
+    × (rest : Tokens) × (ts ≡ front ++ rest) × (length rest ≡ n) × IsUnexpectedAt ts (place_after front rest)
 unexpected ts n eq = lost_place ts n (told_as ts (Err (Unexpected n)) eq)
 
 pub deep_source : (ts : Tokens) → source_at MAX_DEPTH ts ≡ Err Deep → IsTooDeepSource ts
@@ -96,7 +96,7 @@ only_ok ts us x source eq i low =
     let read = source_complete MAX_DEPTH i low in let both : (x, us) ≡ (source, []) = cc in
     ap (λ (p : Source × Tokens). p.0) both
 
--- tokens have one source, however deep
+-- tokens have one source, at any depth
 pub one_source : (ts : Tokens) (this that : Source) → IsSource ts this → IsSource ts that → this ≡ that
 one_source ts this that i j =
     let a = bounded_source.bound this in
@@ -118,12 +118,12 @@ rest_is front rest =
     let at : length (front ++ rest) - length rest ≡ length front = omega arith in
     ap (λ (k : ℕ). drop k (front ++ rest)) at ∙ drop-append_seam front rest
 
-start_is : (front rest : Tokens) → start_of (end_of 0 (front ++ rest)) rest ≡ place_behind front rest
+start_is : (front rest : Tokens) → start_of (end_of 0 (front ++ rest)) rest ≡ place_after front rest
 start_is front [] = ap (λ (ts : Tokens). end_of 0 ts) (append-nil front)
 start_is front (t ∷ rest) = refl
 
 place_is : (ts front rest : Tokens) (n : ℕ) → ts ≡ front ++ rest → length rest ≡ n
-    → place_left ts n ≡ place_behind front rest
+    → place_left ts n ≡ place_after front rest
 place_is ts front rest n parts count = rw (parts, sym count)
     (ap (λ (us : Tokens). start_of (end_of 0 (front ++ rest)) us) (rest_is front rest) ∙ start_is front rest)
 

@@ -1,5 +1,5 @@
--- The judgement of a reading, whatever it answers: what is read is of the grammar, and what stands before a refusal
--- begins some text of it. Each way of putting readings together is proved once.
+-- The judgement of a reading, whatever its answer: the part that is read is of the grammar, and the tokens before a
+-- refusal begin a text of it. Each way of combining readings is proved once.
 use Rattle.std.proofs.Common.{◌≡◌, ℕ, ◌<◌, Bool, true, false, [], ◌∷◌, ◌++◌, length, Option, Some, None, Ok, Err, refl}
 use Rattle.std.proofs.Common.{sym, ap, subst, ◌∙◌, arith, inl, inr, append_assoc}
 use Rattle.std.proofs.lemmas.Bool.{cases_Bool}
@@ -9,14 +9,13 @@ use Rattle.st_parse.specs.declared.fault.Refusal.TheVariants.{Unexpected, Deep}
 use Rattle.st_parse.specs.Tokens.{Tokens, next, Is, is}
 use Rattle.st_parse.specs.Parsers.{Outcome, Parser, and_then, ◌>>=◌, pure, taken, one, by_kind, if_next, guard}
 use Rattle.st_parse.specs.Parsers.{too_deep, sunk}
-use Rattle.st_parse.specs.Laws.{Grammar, SameHead, Begins}
+use Rattle.st_parse.specs.Laws.{Grammar, SameHead, IsPrefix}
 
--- a reading, and the same with so much more depth
+-- a reading, for each additional depth
 abbrev pub Family : Type 0 → Type 0
 Family A = ℕ → Parser A
 
--- x was read: it is of the grammar, whatever follows, and it is read at each greater depth where the next token is the
--- same
+-- x was read: it is of the grammar, whatever follows, and it is read at each greater depth if the next token is the same
 pub record Kept {A : Type 0} (P : Family A) (R : Grammar A) (D : A → Tokens → Type 0) (ts : Tokens) (x : A)
     (us : Tokens) : Type 0 where
   pub front : Tokens
@@ -25,24 +24,23 @@ pub record Kept {A : Type 0} (P : Family A) (R : Grammar A) (D : A → Tokens �
   pub is : (after : Tokens) → R (front ++ after) x after
   pub low : D x us
 
--- a token was unexpected: what stands before it begins some text, and so does it with no such next token at any greater
--- depth
+-- a token was unexpected: the tokens before it begin a text, and at any depth the same next token is unexpected there
 pub record Lost {A : Type 0} (P : Family A) (R : Grammar A) (ts : Tokens) (n : ℕ) : Type 0 where
   pub front : Tokens
   pub rest : Tokens
   pub parts : ts ≡ front ++ rest
   pub count : length rest ≡ n
   pub again : (e : ℕ) (more : Tokens) → SameHead rest more → P e (front ++ more) ≡ Err (Unexpected (length more))
-  pub begun : Begins R front
+  pub begun : IsPrefix R front
 
--- it was too deep: whatever follows a prefix, which begins some text
+-- it was too deep: whatever follows a prefix, which begins a text
 pub record Sunk {A : Type 0} (P : Family A) (R : Grammar A) (ts : Tokens) : Type 0 where
   pub front : Tokens
   pub rest : Tokens
   pub parts : ts ≡ front ++ rest
   pub head : (more : Tokens) → SameHead ts (front ++ more)
   pub again : (more : Tokens) → P 0 (front ++ more) ≡ Err Deep
-  pub begun : Begins R front
+  pub begun : IsPrefix R front
 
 abbrev pub Told : {A : Type 0} → Family A → Grammar A → (A → Tokens → Type 0) → Tokens → Outcome A → Type 0
 Told P R D ts (Ok p) = Kept P R D ts p.0 p.1
@@ -52,11 +50,11 @@ Told P R D ts (Err Deep) = Sunk P R ts
 abbrev pub Tells : {A : Type 0} → Family A → Grammar A → (A → Tokens → Type 0) → Type 0
 Tells P R D = (ts : Tokens) → Told P R D ts (P 0 ts)
 
--- nothing more is known of what was read
+-- nothing more is known about the part that was read
 abbrev pub Any : {A : Type 0} → A → Tokens → Type 0
 Any x us = Unit {0}
 
--- ---- productions, put together as readings are
+-- ---- productions, combined like readings
 
 abbrev pub Seq : {A B : Type 0} → Grammar A → (A → Grammar B) → Grammar B
 Seq {A} R S ts y vs = (x : A) × (us : Tokens) × R ts x us × S x us y vs
@@ -64,11 +62,11 @@ Seq {A} R S ts y vs = (x : A) × (us : Tokens) × R ts x us × S x us y vs
 pub data Made {A : Type 0} (y : A) : Tokens → A → Tokens → Type 0 where
   made : {ts : Tokens} {x : A} → x ≡ y → Made y ts x ts
 
-pub made_begins : {A : Type 0} (y : A) → Begins (Made y) []
+pub made_begins : {A : Type 0} (y : A) → IsPrefix (Made y) []
 made_begins y = record { more = []; tree = y; whole = λ after. made refl }
 
-pub seq_begins : {A B : Type 0} (R : Grammar A) (S : A → Grammar B) (front : Tokens) → Begins R front
-    → ((x : A) → Begins (S x) []) → Begins (Seq R S) front
+pub seq_begins : {A B : Type 0} (R : Grammar A) (S : A → Grammar B) (front : Tokens) → IsPrefix R front
+    → ((x : A) → IsPrefix (S x) []) → IsPrefix (Seq R S) front
 seq_begins R S front b some =
     let o = some b.tree in
     record {
@@ -79,7 +77,7 @@ seq_begins R S front b some =
     }
 
 pub begins_as : {A : Type 0} (R R' : Grammar A) → ((ts : Tokens) (x : A) (us : Tokens) → R ts x us → R' ts x us)
-    → (front : Tokens) → Begins R front → Begins R' front
+    → (front : Tokens) → IsPrefix R front → IsPrefix R' front
 begins_as R R' f front b = record {
   more = b.more;
   tree = b.tree;
@@ -87,10 +85,10 @@ begins_as R R' f front b = record {
       λ after. f (front ++ (b.more ++ after)) b.tree after (b.whole after);
 }
 
-pub one_begins : {A : Type 0} (of : Token → Option A) (t : Token) (x : A) → of t ≡ Some x → Begins (Is of) []
+pub one_begins : {A : Type 0} (of : Token → Option A) (t : Token) (x : A) → of t ≡ Some x → IsPrefix (Is of) []
 one_begins of t x eq = record { more = t ∷ []; tree = x; whole = λ after. is eq }
 
-pub token_begins : {A : Type 0} (of : Token → Option A) (t : Token) (x : A) → of t ≡ Some x → Begins (Is of) (t ∷ [])
+pub token_begins : {A : Type 0} (of : Token → Option A) (t : Token) (x : A) → of t ≡ Some x → IsPrefix (Is of) (t ∷ [])
 token_begins of t x eq = record { more = []; tree = x; whole = λ after. is eq }
 
 -- ---- heads
@@ -99,7 +97,7 @@ pub same_tokens : (ts : Tokens) → SameHead ts ts
 same_tokens [] = refl
 same_tokens (t ∷ ts) = (ts, refl)
 
--- a front and something that begins as the rest begin as the whole
+-- two continuations with the same first token have the same first token after a front
 pub same_front : (front rest ts more : Tokens) → ts ≡ front ++ rest → SameHead rest more → SameHead ts (front ++ more)
 same_front [] rest ts more e h = rw e h
 same_front (t ∷ front) rest ts more e h = rw e (front ++ more, refl)
@@ -115,8 +113,8 @@ module _ {A B : Type 0} (P : Family A) (Q : A → Family B) (R : Grammar A) (S :
   abbrev pub Both : Family B
   Both e = P e >>= (λ x. Q x e)
 
-  begun_after : (ts : Tokens) (x : A) (us : Tokens) → (k : Kept P R D ts x us) → (front : Tokens) → Begins (S x) front
-      → Begins (Seq R S) (k.front ++ front)
+  begun_after : (ts : Tokens) (x : A) (us : Tokens) → (k : Kept P R D ts x us) → (front : Tokens) → IsPrefix (S x) front
+      → IsPrefix (Seq R S) (k.front ++ front)
   begun_after ts x us k front b = record {
     more = b.more;
     tree = b.tree;
@@ -158,7 +156,7 @@ module _ {A B : Type 0} (P : Family A) (Q : A → Family B) (R : Grammar A) (S :
     begun = begun_after ts x us k l.front l.begun;
   }
 
-  pub then_at : ((x : A) → Begins (S x) []) → (ts : Tokens) (r : Outcome A) → Told P R D ts r
+  pub then_at : ((x : A) → IsPrefix (S x) []) → (ts : Tokens) (r : Outcome A) → Told P R D ts r
       → ((x : A) (us : Tokens) → r ≡ Ok (x, us) → Kept P R D ts x us → Told (Q x) (S x) E us (Q x 0 us))
       → Told Both (Seq R S) E ts (and_then r (λ x. Q x 0))
   then_at some ts (Ok p) k go = after_kept ts p.0 p.1 k (Q p.0 0 p.1) (go p.0 p.1 refl k)
@@ -179,9 +177,9 @@ module _ {A B : Type 0} (P : Family A) (Q : A → Family B) (R : Grammar A) (S :
     begun = seq_begins R S l.front l.begun some;
   }
 
-  pub told_then : ((x : A) → Begins (S x) []) → Tells P R D
+  pub restored_then : ((x : A) → IsPrefix (S x) []) → Tells P R D
       → ((x : A) (us : Tokens) → D x us → Told (Q x) (S x) E us (Q x 0 us)) → Tells Both (Seq R S) E
-  told_then some tells go ts = then_at some ts (P 0 ts) (tells ts) (λ x us eq k. go x us k.low)
+  restored_then some tells go ts = then_at some ts (P 0 ts) (tells ts) (λ x us eq k. go x us k.low)
 
 -- ---- other forms of the same
 
@@ -214,7 +212,7 @@ told_as P R R' D D' f g ts (Err Deep) l = record {
   begun = begins_as R R' f l.front l.begun;
 }
 
--- a reading that does as another where the tokens begin so
+-- a reading that agrees with another one if the tokens begin this way
 pub told_agree : {A : Type 0} (P Q : Family A) (R : Grammar A) (D : A → Tokens → Type 0) (ts : Tokens) (r : Outcome A)
     → ((e : ℕ) (more : Tokens) → SameHead ts more → Q e more ≡ P e more) → Told P R D ts r → Told Q R D ts r
 told_agree P Q R D ts (Ok p) agree k = record {
@@ -252,19 +250,19 @@ told_pure y D ts low =
     record { front = []; parts = refl; again = λ e more same. refl; is = λ after. made refl; low = low }
 
 -- a first token that is unexpected
-pub told_refuse : {A : Type 0} (P : Family A) (R : Grammar A) (D : A → Tokens → Type 0) (ts : Tokens) → Begins R []
+pub told_refuse : {A : Type 0} (P : Family A) (R : Grammar A) (D : A → Tokens → Type 0) (ts : Tokens) → IsPrefix R []
     → ((e : ℕ) (more : Tokens) → SameHead ts more → P e more ≡ Err (Unexpected (length more)))
     → Told P R D ts (Err (Unexpected (length ts)))
 told_refuse P R D ts some h = record { front = []; rest = ts; parts = refl; count = refl; again = h; begun = some }
 
-one_at : {A : Type 0} (of : Token → Option A) → Begins (Is of) [] → (t : Token) (ts : Tokens) (o : Option A) → of t ≡ o
+one_at : {A : Type 0} (of : Token → Option A) → IsPrefix (Is of) [] → (t : Token) (ts : Tokens) (o : Option A) → of t ≡ o
     → Told (λ e. one of) (Is of) Any (t ∷ ts) (taken o t ts)
 one_at of some t ts None eq =
     told_refuse (λ e. one of) (Is of) Any (t ∷ ts) some (λ e more same. rw same.1 (rw eq refl))
 one_at of some t ts (Some x) eq =
     record { front = t ∷ []; parts = refl; again = λ e more same. rw eq refl; is = λ after. is eq; low = tt }
 
-pub told_one : {A : Type 0} (of : Token → Option A) → Begins (Is of) [] → Tells (λ e. one of) (Is of) Any
+pub told_one : {A : Type 0} (of : Token → Option A) → IsPrefix (Is of) [] → Tells (λ e. one of) (Is of) Any
 told_one of some [] = told_refuse (λ e. one of) (Is of) Any [] some (λ e more same. rw same refl)
 told_one of some (t ∷ ts) = one_at of some t ts (of t) refl
 
@@ -281,16 +279,16 @@ module _ {A : Type 0} (f : TokenKind → Bool) (P Q : Family A) (R : Grammar A) 
         (λ e more same. let h : next f more ≡ false = next_same f ts more same ∙ miss in rw h refl) (misses miss))
   ]
 
-pub told_by_kind : {A : Type 0} (F : ℕ → TokenKind → Parser A) (R : Grammar A) (D : A → Tokens → Type 0) → Begins R []
+pub told_by_kind : {A : Type 0} (F : ℕ → TokenKind → Parser A) (R : Grammar A) (D : A → Tokens → Type 0) → IsPrefix R []
     → ((t : Token) (ts : Tokens) → Told (λ e. F e t.kind) R D (t ∷ ts) (F 0 t.kind (t ∷ ts)))
     → Tells (λ e. by_kind (F e)) R D
 told_by_kind F R D some tells [] = told_refuse (λ e. by_kind (F e)) R D [] some (λ e more same. rw same refl)
 told_by_kind F R D some tells (t ∷ ts) = told_agree (λ e. F e t.kind) (λ e. by_kind (F e)) R D (t ∷ ts)
     (F 0 t.kind (t ∷ ts)) (λ e more same. rw same.1 refl) (tells t ts)
 
--- where no depth is left
+-- if no depth is left
 module _ {A : Type 0} (f : TokenKind → Bool) (P : Family A) (R : Grammar A) (D : A → Tokens → Type 0)
-    (some : Begins R []) (starts : (t : Token) → f t.kind ≡ true → Begins R (t ∷ []))
+    (some : IsPrefix R []) (starts : (t : Token) → f t.kind ≡ true → IsPrefix R (t ∷ []))
     (none : (ts : Tokens) → P 0 ts ≡ too_deep f ts)
     (other : (e : ℕ) (ts : Tokens) → next f ts ≡ false → P e ts ≡ Err (Unexpected (length ts))) where
   sunk_at : (ts : Tokens) (b : Bool) → next f ts ≡ b → Told P R D ts (sunk b ts)
@@ -311,7 +309,7 @@ module _ {A : Type 0} (f : TokenKind → Bool) (P : Family A) (R : Grammar A) (D
 
 -- a test of depth, before a token that is known
 module _ {A : Type 0} (b : ℕ → Bool) (P : Family A) (R : Grammar A) (D : A → Tokens → Type 0) where
-  guard_at : (t : Token) (ts : Tokens) → Begins R (t ∷ []) → (c : Bool) → b 0 ≡ c → (c ≡ false → (e : ℕ) → b e ≡ false)
+  guard_at : (t : Token) (ts : Tokens) → IsPrefix R (t ∷ []) → (c : Bool) → b 0 ≡ c → (c ≡ false → (e : ℕ) → b e ≡ false)
       → (c ≡ false → Told P R D (t ∷ ts) (P 0 (t ∷ ts)))
       → Told (λ e. guard (b e) (P e)) R D (t ∷ ts) (guard c (P 0) (t ∷ ts))
   guard_at t ts some true eq up told = record {
@@ -326,12 +324,12 @@ module _ {A : Type 0} (b : ℕ → Bool) (P : Family A) (R : Grammar A) (D : A �
   guard_at t ts some false eq up told = told_agree P (λ e. guard (b e) (P e)) R D (t ∷ ts) (P 0 (t ∷ ts))
       (λ e more same. let h = up refl e in rw h refl) (told refl)
 
-  pub told_guard : (t : Token) (ts : Tokens) → Begins R (t ∷ []) → (b 0 ≡ false → (e : ℕ) → b e ≡ false)
+  pub told_guard : (t : Token) (ts : Tokens) → IsPrefix R (t ∷ []) → (b 0 ≡ false → (e : ℕ) → b e ≡ false)
       → (b 0 ≡ false → Told P R D (t ∷ ts) (P 0 (t ∷ ts)))
       → Told (λ e. guard (b e) (P e)) R D (t ∷ ts) (guard (b 0) (P 0) (t ∷ ts))
   told_guard t ts some up told = guard_at t ts some (b 0) refl up told
 
--- the same reading at other depths, no less than the first
+-- the same reading at other depths, none less than the first
 pub told_shift : {A : Type 0} (P : Family A) (g : ℕ → ℕ) (R : Grammar A) (D : A → Tokens → Type 0) → g 0 ≡ 0
     → (ts : Tokens) (r : Outcome A) → Told P R D ts r → Told (λ e. P (g e)) R D ts r
 told_shift P g R D none ts (Ok p) k =
@@ -354,19 +352,19 @@ told_shift P g R D none ts (Err Deep) l = record {
   begun = l.begun;
 }
 
--- of those that begin otherwise
+-- of those that begin differently
 abbrev pub Unless : {A : Type 0} → (TokenKind → Bool) → Grammar A → Grammar A
 Unless f R ts x us = R ts x us × (next f ts ≡ false)
 
 module _ {A : Type 0} (f : TokenKind → Bool) (P : Family A) (R : Grammar A) (D : A → Tokens → Type 0) (some :
-    Begins (Unless f R) []) (less : (ts : Tokens) (x : A) (us : Tokens) → R ts x us → length us < length ts) where
+    IsPrefix (Unless f R) []) (less : (ts : Tokens) (x : A) (us : Tokens) → R ts x us → length us < length ts) where
   front_same : (front us ts after : Tokens) → ts ≡ front ++ us → next f ts ≡ false
       → length after < length (front ++ after) → next f (front ++ after) ≡ false
   front_same [] us ts after eq miss short = absurd (omega arith)
   front_same (t ∷ front) us ts after eq miss short = let e : next f ts ≡ f t.kind = ap (next f) eq in sym e ∙ miss
 
-  begun_unless : (front rest ts : Tokens) → ts ≡ front ++ rest → next f ts ≡ false → Begins R front
-      → Begins (Unless f R) front
+  begun_unless : (front rest ts : Tokens) → ts ≡ front ++ rest → next f ts ≡ false → IsPrefix R front
+      → IsPrefix (Unless f R) front
   begun_unless [] rest ts eq miss b = some
   begun_unless (t ∷ front) rest ts eq miss b = let e : next f ts ≡ f t.kind = ap (next f) eq in
       record { more = b.more; tree = b.tree; whole = λ after. (b.whole after, sym e ∙ miss) }

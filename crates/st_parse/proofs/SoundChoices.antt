@@ -1,4 +1,4 @@
--- What is read as the arms of a CASE are such, and what stands before a refusal begins some.
+-- Parts that are read as the arms of a CASE are arms, and the tokens before a refusal begin some.
 use Rattle.std.proofs.Common.{◌≡◌, ℕ, ◌+◌, ◌-◌, ◌<◌, ◌≤◌, List, [], ◌∷◌, ◌++◌, length, Option, Some, None, refl, sym}
 use Rattle.std.proofs.Common.{ap, subst, ◌∙◌, arith, append_assoc}
 use Rattle.st_types.specs.declared.identifier.Identifier.{Identifier}
@@ -76,7 +76,7 @@ sound_label = sound_if is_value sound_named_label sound_number_label
 
 -- ---- the labels of an arm
 
--- labels with their colon, and those behind a first one
+-- labels with their colon, and those after a first one
 abbrev Head : Grammar (List Label)
 Head ts ls us = (vs : Tokens) × IsLabels ts ls vs × Passes (mark m.Colon) vs us
 
@@ -124,12 +124,12 @@ part_less : (a : Arms) (ts : Tokens) (a' : Arms) (us : Tokens) → Part a ts a' 
 part_less a ts a' us (headed ls h eq) = head_less h
 part_less a ts a' us (stated x i eq) = line_less ts x us i
 
--- what completes the arms so far: statements of the last, and other arms
+-- the completion of the arms so far: statements of the last, and other arms
 abbrev Completes : Arms → Tokens → List CaseArm → Tokens → Type 0
 Completes a ts arms us = (xs : List Stmt) × (others : List CaseArm) × (vs : Tokens) × IsStmts ts xs vs
     × IsCaseArms vs others us × (arms ≡ a.before ++ (a.labels, stmts_of (a.body ++ xs)) ∷ others)
 
--- what completes the arms after such tokens completes those before them
+-- a completion of the arms after these tokens completes those before them
 abbrev Parts : Arms → Grammar Arms
 Parts a ts a' us = (arms : List CaseArm) (vs : Tokens) → Completes a' us arms vs → Completes a ts arms vs
 
@@ -164,7 +164,7 @@ completes_part a ts a' us arms vs (headed ls h eq) e =
 completes_part a ts a' us arms vs (stated x i eq) e =
     completes_stated a ts x us arms vs i (subst (λ (z : Arms). Completes z us arms vs) eq e)
 
--- the arms of a first head and what followed it
+-- the arms of a first head and those that followed it
 arms_are : (ts : Tokens) (ls : List Label) (us : Tokens) (a : Arms) (vs : Tokens) → Head ts ls us
     → Parts (first_arm ls) us a vs → IsCaseArms ts (all_arms a) vs
 arms_are ts ls us a vs h parts =

@@ -1,4 +1,4 @@
--- What is read as a configuration is one, and what stands before a refusal begins one.
+-- A part that is read as a configuration is one, and the tokens before a refusal begin one.
 use Rattle.std.proofs.Common.{ℕ, ◌+◌, true, List, Option, None, refl, sym, subst}
 use Rattle.st_types.specs.declared.identifier.Identifier.{Identifier}
 use Rattle.st_lex.specs.declared.token.TokenKind.TheVariants.{Keyword, Number, Duration, Address}

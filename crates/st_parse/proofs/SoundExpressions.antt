@@ -1,7 +1,7 @@
--- What is read as an expression is one, and what stands before a refusal begins one.
+-- A part that is read as an expression is one, and the tokens before a refusal begin one.
 use Rattle.std.proofs.Common.{◌≡◌, ℕ, zero, suc, ◌+◌, ◌<◌, ◌≤◌, ltb, leb, cond, Bool, true, false, ◌||◌, ◌&&◌, List, []}
 use Rattle.std.proofs.Common.{◌∷◌, length, Option, Some, None, Ok, Err, refl, sym, ap, subst, ◌∙◌, ◌⊎◌, arith, inl, inr}
-use Rattle.std.proofs.lemmas.Bool.{cases_Bool, ltb-false, ltb-true, leb-true, leb-false, le-ltb, lt-leb, le-leb}
+use Rattle.std.proofs.lemmas.Bool.{cases_Bool, ltb-false, ltb-true, leb-true, leb-false, le-ltb, lt-leb, le-leb, and_parts}
 use Rattle.st_types.specs.declared.identifier.Identifier.{Identifier}
 use Rattle.st_types.specs.declared.literal.Literal.{Literal}
 use Rattle.st_types.specs.declared.literal.Literal.TheVariants as literals
@@ -27,7 +27,7 @@ use Rattle.st_parse.specs.ExpressionReading.{read_of, arguments_at, call_of, nam
 use Rattle.st_parse.specs.ExpressionReading.{operand_at, negative_of, negated_of, minus_at, not_at, unary_at}
 use Rattle.st_parse.specs.ExpressionReading.{operation_of, operation_within, operations_of, operators_at, expr_at}
 use Rattle.st_parse.specs.ExpressionReading.{variable_at}
-use Rattle.st_parse.specs.Laws.{Grammar, Begins}
+use Rattle.st_parse.specs.Laws.{Grammar, IsPrefix}
 use Rattle.st_parse.specs.Expressions.{IsExpr, literal, variable, call, parenthesis, negative, negated, inverted}
 use Rattle.st_parse.specs.Expressions.{binary, IsVariable, selected, IsSelectors, no_selector, selector}
 use Rattle.st_parse.specs.Expressions.{IsSelector, member, subscript, IsExprs, no_argument, argument}
@@ -45,7 +45,7 @@ use Rattle.st_parse.proofs.ExpressionFacts.{is_less, expr_less, selector_less, w
 use Rattle.st_parse.proofs.ExpressionFacts.{binds_small, strength, a_name, name_is, expr_begins, a_variable_is}
 use Rattle.st_parse.proofs.ExpressionFacts.{or_false, or_true}
 
--- at most so deep, and no such operator comes next
+-- at most this deep, and no such operator comes next
 abbrev pub LowExpr : ℕ → ℕ → Expr → Tokens → Type 0
 LowExpr depth least x us = (depth_of x ≤ depth) × (next (goes_on least) us ≡ false)
 
@@ -72,7 +72,7 @@ pub record AfterMinus (at : ℕ) (us : Tokens) (y : Expr) (vs : Tokens) : Type 0
   pub low : (k : ℕ) (ts : Tokens) → k ≤ 8 → Is (mark m.Minus) ts at us → IsExpr k ts y vs
   pub plain : strength y ≡ 8
 
--- ---- what takes no expression
+-- ---- parts without expressions
 
 is_literal_operand : (ts : Tokens) (x : Expr) (us : Tokens) → Seq (Is literal_of) (λ l. Made (e.literal l)) ts x us
     → IsOperand ts x us
@@ -105,7 +105,7 @@ unfolding member_at
 sound_member n = sound_as is_member (λ x us d. d) (sound_then (sound_mark m.Dot)
     (λ at. sound_then sound_name (λ x. sound_pure (e.member x) (LowSelector n) (λ c us. omega arith))))
 
--- ---- what takes expressions one level down
+-- ---- parts with expressions one level down
 
 is_subscript : (ts : Tokens) (s : Selector) (us : Tokens) → Seq (Is (mark m.OpenBracket))
     (λ at. Seq (IsExpr 1) (λ x. Seq (Is (mark m.CloseBracket)) (λ end. Made (e.subscript x)))) ts s us
@@ -122,7 +122,7 @@ is_variable : (x : Identifier) (ts us vs : Tokens) (xs : List Selector) (v : Var
     → IsSelectors us xs vs → v ≡ e.variable x (selectors_of xs) → IsVariable ts v vs
 is_variable x ts us vs xs v n s eq = selected x xs n s eq
 
--- what is selected of a name
+-- the selection after a name
 abbrev pub Selected : Identifier → Grammar Variable
 Selected x = Seq IsSelectors (λ xs. Made (e.variable x (selectors_of xs)))
 
@@ -164,7 +164,7 @@ negated_less : (at : ℕ) (ts : Tokens) (x : Expr) (us : Tokens)
 negated_less at ts x us (inner, vs, i, made eq) = expr_less i
 
 negated_begins : (at : ℕ)
-    → Begins (Unless is_number (Seq (IsExpr operand_level) (λ inner. Made (e.unary Negate at inner)))) []
+    → IsPrefix (Unless is_number (Seq (IsExpr operand_level) (λ inner. Made (e.unary Negate at inner)))) []
 negated_begins at = record {
   more = token_of (Name []) ∷ [];
   tree = e.unary Negate at a_name;
@@ -249,7 +249,7 @@ module _ (below : ℕ) (expr : ℕ → ℕ → Parser Expr)
       (λ at. sound_then (sound_expr 1 (omega arith)) (λ x. sound_then (sound_mark m.Close) (λ end.
       sound_pure (e.parenthesis at x) (Low (below + 1)) (λ c us. let l = c.0.1.1.0 in omega arith)))))
 
-  operand_begins : Begins IsOperand []
+  operand_begins : IsPrefix IsOperand []
   operand_begins = record {
     more = token_of (Name []) ∷ [];
     tree = a_name;
@@ -282,7 +282,7 @@ module _ (below : ℕ) (expr : ℕ → ℕ → Parser Expr)
   sound_negated_of at = sound_then (sound_expr 9 (omega arith))
       (λ x. sound_pure (e.unary Negate at x) (Low (below + 1)) (λ c us. let l = c.1.1.0 in omega arith))
 
-  after_minus_begins : (at : ℕ) → Begins (AfterMinus at) []
+  after_minus_begins : (at : ℕ) → IsPrefix (AfterMinus at) []
   after_minus_begins at =
       begins_as (Unless is_number (Seq (IsExpr operand_level) (λ inner. Made (e.unary Negate at inner))))
       (AfterMinus at) (is_negated at) [] (negated_begins at)
@@ -318,7 +318,7 @@ module _ (below : ℕ) (expr : ℕ → ℕ → Parser Expr)
 
   -- ---- operators
 
-  -- one operator that binds at least so, and its right operand
+  -- one operator that binds at least as strongly as this, and its right operand
   record OneOperation (least : ℕ) (a : Expr) (ts : Tokens) (x : Expr) (us : Tokens) : Type 0 where
     pub op : BinaryOperator
     pub right : Expr
@@ -329,7 +329,7 @@ module _ (below : ℕ) (expr : ℕ → ℕ → Parser Expr)
     pub operand : IsExpr (binds_of op + 1) rest right us
     pub whole : x ≡ e.binary op a right
 
-  -- what operators after it make of an expression
+  -- an expression with the operators after it
   abbrev Grown : ℕ → Expr → Grammar Expr
   Grown least a ts x us = (whole : Tokens) → IsExpr (strength a) whole a ts → least ≤ strength a
       → IsExpr least whole x us
@@ -371,7 +371,7 @@ module _ (below : ℕ) (expr : ℕ → ℕ → Parser Expr)
     whole = eq;
   }
 
-  right_begins : (a : Expr) (op : BinaryOperator) → Begins (Right a op) []
+  right_begins : (a : Expr) (op : BinaryOperator) → IsPrefix (Right a op) []
   right_begins a op = seq_begins (IsExpr (binds_of op + 1)) (λ b. Made (e.binary op a b)) []
       (expr_begins (binds_of op + 1)) (λ b. made_begins (e.binary op a b))
 
@@ -401,7 +401,7 @@ module _ (below : ℕ) (expr : ℕ → ℕ → Parser Expr)
   -- ---- tests
 
   one_begun : (least : ℕ) (a : Expr) (t : Token) (op : BinaryOperator) → operator t ≡ Some op → least ≤ binds_of op
-      → binds_of op ≤ strength a → Begins (OneOperation least a) (t ∷ [])
+      → binds_of op ≤ strength a → IsPrefix (OneOperation least a) (t ∷ [])
   one_begun least a t op eq strong weak = record {
     more = token_of (Name []) ∷ [];
     tree = e.binary op a a_name;
@@ -484,11 +484,7 @@ module _ (below : ℕ) (expr : ℕ → ℕ → Parser Expr)
   told_operand ts = told_as (λ e. operand_at (expr e)) IsOperand (IsExpr 9) (Low (below + 1)) (LowExpr (below + 1) 9)
       (λ ts x us o. o.any 9) (λ x us d. (d, none_binds us)) ts (operand_at (expr 0) ts) (told_by sound_operand ts)
 
--- ---- where no depth is left
-
-and_true : (a b : Bool) → a && b ≡ true → (a ≡ true) × (b ≡ true)
-and_true true b eq = (refl, eq)
-and_true false b eq = absurd cc
+-- ---- if no depth is left
 
 operand_refuses : (expr : ℕ → Parser Expr) (k : TokenKind) (ts : Tokens) → starts_operand k ≡ false
     → operand_by expr k ts ≡ Err (Unexpected (length ts))
@@ -515,7 +511,7 @@ unary_refuses : (expr : ℕ → Parser Expr) (ts : Tokens) → next starts_opera
 unfolding unary_at
 unary_refuses expr ts a b c = rw (b, c) (operand_at_refuses expr ts a)
 
--- what begins no expression begins none of whatever level
+-- a token that doesn't begin an expression begins none of any level
 starts_nothing : (least : ℕ) (ts : Tokens) → next (starts_expr least) ts ≡ false → (next starts_operand ts ≡ false)
     × (least ≤ 8 → (next (is_mark m.Minus) ts ≡ false) × (next (is_keyword w.Not) ts ≡ false))
 starts_nothing least [] eq = (refl, λ le. (refl, refl))
@@ -540,14 +536,14 @@ expr_refuses (suc below) least ts eq =
           rw miss (operators_refuse (expr_at below) below least ts (unary_refuses (expr_at below) ts o.0 s.0 s.1))
     ]
 
-literal_begun : (least : ℕ) (t : Token) (l : Literal) → literal_of t ≡ Some l → Begins (IsExpr least) (t ∷ [])
+literal_begun : (least : ℕ) (t : Token) (l : Literal) → literal_of t ≡ Some l → IsPrefix (IsExpr least) (t ∷ [])
 literal_begun least t l eq = record { more = []; tree = e.literal l; whole = λ after. literal l (is eq) refl }
 
 abbrev close_token : Token
 close_token = token_of (Mark m.Close)
 
 operand_begun : (least : ℕ) (t : Token) (k : TokenKind) → t.kind ≡ k → starts_operand k ≡ true
-    → Begins (IsExpr least) (t ∷ [])
+    → IsPrefix (IsExpr least) (t ∷ [])
 operand_begun least t (Number n) eq yes' =
     literal_begun least t (literals.Number (unsigned t.start n)) (ap (literal_in t.start) eq)
 operand_begun least t (Truth b) eq yes' = literal_begun least t (literals.Truth t.start b) (ap (literal_in t.start) eq)
@@ -574,7 +570,7 @@ operand_begun least t (Mark k) eq yes' =
 operand_begun least t _ eq yes' = absurd cc
 
 sign_begun : (least : ℕ) (t : Token) → least ≤ 8 → (is_mark m.Minus t.kind ≡ true) ⊎ (is_keyword w.Not t.kind ≡ true)
-    → Begins (IsExpr least) (t ∷ [])
+    → IsPrefix (IsExpr least) (t ∷ [])
 sign_begun least t le (inl sign) =
     record {
       more = token_of (Name []) ∷ [];
@@ -590,11 +586,11 @@ sign_begun least t le (inr word) =
           inverted t.start a_name le (is (keyword_at w.Not t (keyword_is w.Not t.kind word))) (name_is 9 after) refl;
     }
 
-expr_begun : (least : ℕ) (t : Token) → starts_expr least t.kind ≡ true → Begins (IsExpr least) (t ∷ [])
+expr_begun : (least : ℕ) (t : Token) → starts_expr least t.kind ≡ true → IsPrefix (IsExpr least) (t ∷ [])
 expr_begun least t eq =
     elim (or_true (starts_operand t.kind) (leb least 8 && (is_mark m.Minus t.kind || is_keyword w.Not t.kind)) eq) [
       | inl a ↦ operand_begun least t t.kind refl a
-      | inr b ↦ let c = and_true (leb least 8) (is_mark m.Minus t.kind || is_keyword w.Not t.kind) b in
+      | inr b ↦ let c = and_parts (leb least 8) (is_mark m.Minus t.kind || is_keyword w.Not t.kind) b in
           sign_begun least t (leb-true _ _ c.0) (or_true (is_mark m.Minus t.kind) (is_keyword w.Not t.kind) c.1)
     ]
 
@@ -658,7 +654,7 @@ told_expr (suc below) least le = told_deeper below (told_expr below) least le
 
 -- ---- variables
 
-pub variable_begins : Begins IsVariable []
+pub variable_begins : IsPrefix IsVariable []
 variable_begins = record {
   more = token_of (Name []) ∷ [];
   tree = e.variable an_identifier e.no_selectors;
@@ -691,7 +687,7 @@ variable_none : (ts : Tokens) → variable_at (0 + 0) ts ≡ too_deep is_name ts
 unfolding variable_at
 variable_none ts = refl
 
-variable_begun : (t : Token) (k : TokenKind) → t.kind ≡ k → is_name k ≡ true → Begins IsVariable (t ∷ [])
+variable_begun : (t : Token) (k : TokenKind) → t.kind ≡ k → is_name k ≡ true → IsPrefix IsVariable (t ∷ [])
 variable_begun t (Name x) eq named' =
     record {
       more = [];

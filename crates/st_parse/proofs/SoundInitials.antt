@@ -1,4 +1,4 @@
--- What is read as an initial value is one, and what stands before a refusal begins one.
+-- A part that is read as an initial value is one, and the tokens before a refusal begin one.
 use Rattle.std.proofs.Common.{◌≡◌, ℕ, zero, suc, ◌+◌, ◌<◌, ◌≤◌, true, false, ◌||◌, List, [], ◌∷◌, length, Some, None, Err}
 use Rattle.std.proofs.Common.{refl, ap, arith, inl, inr}
 use Rattle.st_types.specs.declared.literal.Number.{Number as NumberLeaf}
@@ -18,7 +18,7 @@ use Rattle.st_parse.specs.Parsers.{Parser, if_next, too_deep}
 use Rattle.st_parse.specs.InitialReading.{starts_constant, starts_initial, negative_constant_at, literal_constant_at, defaults_of}
 use Rattle.st_parse.specs.InitialReading.{member_at, structure_at, single_at, repeated_of, repetition_of}
 use Rattle.st_parse.specs.InitialReading.{counted_at, element_at, list_at, initial_at}
-use Rattle.st_parse.specs.Laws.{Grammar, Begins}
+use Rattle.st_parse.specs.Laws.{Grammar, IsPrefix}
 use Rattle.st_parse.specs.Initials.{IsConstant, literal, negative, IsInitial, constant, list, structure}
 use Rattle.st_parse.specs.Initials.{IsElements, elements, IsMoreElements, no_more_elements, next_element}
 use Rattle.st_parse.specs.Initials.{IsElement, single, repeated, defaults, IsMembers, members, IsMoreMembers}
@@ -40,7 +40,7 @@ LowElement depth x us = depth_of_element x ≤ depth
 abbrev pub LowMember : ℕ → Member → Tokens → Type 0
 LowMember depth x us = depth_of_initial x.1 ≤ depth
 
--- ---- the grammar alone
+-- ---- facts about the grammar
 
 constant_less : {ts us : Tokens} {l : Literal} → IsConstant ts l us → length us < length ts
 constant_less (literal p) = is_less p
@@ -98,10 +98,10 @@ a_constant = i.constant (literals.Number a_number)
 constant_is : (after : Tokens) → IsInitial (number_token ∷ after) a_constant after
 constant_is after = constant (literals.Number a_number) (literal (is refl)) refl
 
-pub initial_begins : Begins IsInitial []
+pub initial_begins : IsPrefix IsInitial []
 initial_begins = record { more = number_token ∷ []; tree = a_constant; whole = λ after. constant_is after }
 
-element_begins : Begins IsElement []
+element_begins : IsPrefix IsElement []
 element_begins = record {
   more = number_token ∷ [];
   tree = i.single a_constant;
@@ -109,7 +109,7 @@ element_begins = record {
       λ after. single a_constant (constant_is after) refl;
 }
 
--- ---- what takes no initial value
+-- ---- parts without initial values
 
 is_negative_constant : (ts : Tokens) (x : Initial) (us : Tokens)
     → Seq IsNegative (λ n. Made (i.constant (literals.Number n))) ts x us → IsInitial ts x us
@@ -146,7 +146,7 @@ is_list : (ts : Tokens) (x : Initial) (us : Tokens) → Seq (Is (mark m.OpenBrac
     → IsInitial ts x us
 is_list ts x us (at, vs, o, (xs, ws, s, (end, zs, c, made eq))) = list at xs o s (end, c) eq
 
--- what stands after a count
+-- the part after a count
 abbrev pub AfterWhole : NumberLeaf → Grammar Element
 AfterWhole n us y vs = (ts : Tokens) → Is whole ts n us → IsElement ts y vs
 
@@ -241,7 +241,7 @@ module _ (depth : ℕ) (initial : ℕ → Parser Initial) (tells : Tells initial
       (λ xs. sound_then (sound_mark m.CloseBracket) (λ end. sound_pure (i.list at (elements_of xs))
       (LowInitial (depth + 1)) (λ c us. let l = each_element depth xs c.0.1.1.0 in omega arith)))))
 
--- ---- where no depth is left
+-- ---- if no depth is left
 
 starts_nothing : (ts : Tokens) → next starts_initial ts ≡ false → (next (is_mark m.OpenBracket) ts ≡ false)
     × (next (is_mark m.Open) ts ≡ false) × (next (is_mark m.Minus) ts ≡ false) × (next starts_constant ts ≡ false)
@@ -286,7 +286,7 @@ unfolding element_at single_at
 element_refuses initial zero ts eq same = rw eq refl
 element_refuses initial (suc below) ts eq same = let n = no_number ts (starts_nothing ts eq).3 in rw (n, same) refl
 
-literal_begun : (t : Token) (k : TokenKind) → t.kind ≡ k → starts_constant k ≡ true → Begins IsInitial (t ∷ [])
+literal_begun : (t : Token) (k : TokenKind) → t.kind ≡ k → starts_constant k ≡ true → IsPrefix IsInitial (t ∷ [])
 literal_begun t (Number n) eq yes' = record {
   more = [];
   tree = i.constant (literals.Number (unsigned t.start n));
@@ -318,7 +318,7 @@ literal_begun t (Name x) eq yes' = record {
 }
 literal_begun t _ eq yes' = absurd cc
 
-minus_begun : (t : Token) → t.kind ≡ Mark m.Minus → Begins IsInitial (t ∷ [])
+minus_begun : (t : Token) → t.kind ≡ Mark m.Minus → IsPrefix IsInitial (t ∷ [])
 minus_begun t eq =
     record {
       more = number_token ∷ [];
@@ -331,7 +331,7 @@ minus_begun t eq =
 abbrev bracket_token : Token
 bracket_token = token_of (Mark m.CloseBracket)
 
-list_begun : (t : Token) → t.kind ≡ Mark m.OpenBracket → Begins IsInitial (t ∷ [])
+list_begun : (t : Token) → t.kind ≡ Mark m.OpenBracket → IsPrefix IsInitial (t ∷ [])
 list_begun t eq = record {
   more = number_token ∷ bracket_token ∷ [];
   tree = i.list t.start (elements_of (i.single a_constant ∷ []));
@@ -346,7 +346,7 @@ close_token = token_of (Mark m.Close)
 abbrev assign_token : Token
 assign_token = token_of (Mark m.Assign)
 
-structure_begun : (t : Token) → t.kind ≡ Mark m.Open → Begins IsInitial (t ∷ [])
+structure_begun : (t : Token) → t.kind ≡ Mark m.Open → IsPrefix IsInitial (t ∷ [])
 structure_begun t eq = record {
   more = token_of (Name []) ∷ assign_token ∷ number_token ∷ close_token ∷ [];
   tree = i.structure t.start (members_of ((an_identifier, a_constant) ∷ []));
@@ -355,7 +355,7 @@ structure_begun t eq = record {
       (constant_is (close_token ∷ after)) refl) no_more_members) (0, is (mark_at m.Close close_token refl)) refl;
 }
 
-pub initial_begun : (t : Token) → starts_initial t.kind ≡ true → Begins IsInitial (t ∷ [])
+pub initial_begun : (t : Token) → starts_initial t.kind ≡ true → IsPrefix IsInitial (t ∷ [])
 initial_begun t eq = elim (or_true (is_mark m.OpenBracket t.kind || is_mark m.Open t.kind || is_mark m.Minus t.kind)
     (starts_constant t.kind) eq) [
       | inl a ↦ elim (or_true (is_mark m.OpenBracket t.kind || is_mark m.Open t.kind) (is_mark m.Minus t.kind) a) [
@@ -368,7 +368,7 @@ initial_begun t eq = elim (or_true (is_mark m.OpenBracket t.kind || is_mark m.Op
       | inr a ↦ literal_begun t t.kind refl a
     ]
 
-element_begun : (t : Token) → starts_initial t.kind ≡ true → Begins IsElement (t ∷ [])
+element_begun : (t : Token) → starts_initial t.kind ≡ true → IsPrefix IsElement (t ∷ [])
 element_begun t eq = let b = initial_begun t eq in
     record { more = b.more; tree = i.single b.tree; whole = λ after. single b.tree (b.whole after) refl }
 

@@ -6,12 +6,12 @@ use Rattle.st_lex.specs.declared.token.TokenKind.{TokenKind}
 use Rattle.st_lex.specs.declared.mark.Mark.TheVariants as m
 use Rattle.st_parse.specs.Tokens.{Tokens, next, Is, is, mark, is_mark, Passes}
 use Rattle.st_parse.specs.Parsers.{pure, gather, several, after_comma, listed}
-use Rattle.st_parse.specs.Laws.{Grammar, Begins}
+use Rattle.st_parse.specs.Laws.{Grammar, IsPrefix}
 use Rattle.st_parse.proofs.Sound.{Family, Told, Tells, Seq, Made, made, made_begins, then_at, told_pure}
 use Rattle.st_parse.proofs.SoundTurns.{told_turns}
 use Rattle.st_parse.proofs.SoundReadings.{Sound, sound_then, sound_as, sound_under, sound_mark}
 
--- each of the list is so
+-- each element of the list has the property
 abbrev pub Each : {A : Type 0} → (A → Type 0) → List A → Type 0
 Each L [] = Unit {0}
 Each L (x ∷ xs) = L x × Each L xs
@@ -60,7 +60,7 @@ module _ {A : Type 0} (f : TokenKind → Bool) (P : Family A) (One : Grammar A) 
       (λ s us. ([], nil us, sym (append-nil s))) more (λ s us s' vs o. shorter s us o.0 o.1 s' vs o.2 o.3)
       (λ s us i hit. gather_told s us i (tells us hit)) found ts all
 
-  pub more_begins : (found : List A) → Begins (More found) []
+  pub more_begins : (found : List A) → IsPrefix (More found) []
   more_begins found = record { more = []; tree = found ++ []; whole = λ after. ([], nil after, refl) }
 
   pub sound_several : {C : Type 0} (found : List A) → (C → Each L found) → Sound C P One (λ x us. L x)
@@ -99,7 +99,7 @@ module _ {A : Type 0} (P : Family A) (One : Grammar A) (Rest List1 : Grammar (Li
   all_listed : (ts : Tokens) (ys : List A) (vs : Tokens) → Seq One (λ x. Others (x ∷ [])) ts ys vs → List1 ts ys vs
   all_listed ts ys vs s = subst (λ (zs : List A). List1 ts zs vs) (sym s.3.2) (make ts s.0 s.1 s.3.0 vs s.2 s.3.1)
 
-  -- items behind a first one
+  -- items after a first one
   pub sound_more : {C : Type 0} (x : A) → (C → L x) → Sound C P One (λ x us. L x)
       → Sound C (λ e. several (is_mark m.Comma) (after_comma (P e)) (x ∷ []))
       (λ ts ys us. (xs : List A) × Rest ts xs us × (ys ≡ (x ∷ []) ++ xs))

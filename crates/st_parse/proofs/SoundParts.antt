@@ -1,4 +1,4 @@
--- Repeated and optional parts are sound: what is read is of the grammar.
+-- Repeated and optional parts are sound: a part that is read is of the grammar.
 use Rattle.std.proofs.Common.{◌≡◌, ◌<◌, ◌≤◌, Bool, false, List, [], ◌∷◌, length, Option, Some, None, IfSome, sym, subst}
 use Rattle.std.proofs.Common.{arith}
 use Rattle.std.specs.List.{AllByRecursion}
@@ -93,7 +93,7 @@ module _ {A : Type 0} (f : TokenKind → Bool) (P : Family A) (One : Grammar A) 
       (sound_as there (λ o us d. d) (sound_then p (λ x. sound_pure (Some x) (λ o us. IfSome o L) (λ c us. c.1.1))))
       (sound_as not_there (λ o us d. d) (sound_pure None (λ o us. IfSome o L) (λ c us. tt)))
 
--- names with commas between them
+-- names separated by commas
 pub sound_names : {C : Type 0}
     → Sound C (λ e. listed (one name)) (Listed (Is name)) (λ xs us. next (is_mark m.Comma) us ≡ false)
 sound_names = sound_as (λ ts xs us r. r) (λ xs us d. d.1)

@@ -1,4 +1,4 @@
--- Sound readings, each with some text of its grammar, put together; single tokens and numbers.
+-- Sound readings, each with a text of its grammar, put together; single tokens and numbers.
 use Rattle.std.proofs.Common.{◌≡◌, ℕ, Bool, true, false, [], Option, Some, None, refl, ap}
 use denote.Enum.Bare.{same_true, true_same}
 use Rattle.std.proofs.Common.{rules}
@@ -18,16 +18,16 @@ use Rattle.st_parse.specs.Tokens.{Tokens, Is, mark, keyword, name, whole, whole_
 use Rattle.st_parse.specs.Tokens.{negative_at, is_mark, is_keyword, same_mark, same_keyword, IsNumber, plain}
 use Rattle.st_parse.specs.Tokens.{negative}
 use Rattle.st_parse.specs.Parsers.{◌>>=◌, pure, one, if_next, number_at, negative_number_at}
-use Rattle.st_parse.specs.Laws.{Grammar, Begins}
+use Rattle.st_parse.specs.Laws.{Grammar, IsPrefix}
 use Rattle.st_parse.proofs.Sound.{Family, Tells, Any, Seq, Made, made, made_begins, seq_begins, begins_as}
 use Rattle.st_parse.proofs.Sound.{one_begins, told_as, then_at, told_pure, told_one, told_if}
 
--- Some text of the grammar exists, and under a condition the readings tell of it.
+-- There is a text of the grammar, and under a condition the readings are sound for it.
 pub record Sound {A : Type 0} (C : Type 0) (P : Family A) (R : Grammar A) (D : A → Tokens → Type 0) : Type 0 where
-  pub begins : Begins R []
+  pub begins : IsPrefix R []
   pub tells : C → Tells P R D
 
--- the condition, and what is known of what was read
+-- the condition, and the facts about the part that was read
 abbrev pub With : {A : Type 0} → Type 0 → (A → Tokens → Type 0) → A → Type 0
 With C D x = C × ((us : Tokens) × D x us)
 

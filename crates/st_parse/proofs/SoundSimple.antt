@@ -1,4 +1,4 @@
--- What is read as a statement that holds no statement is one, and what stands before a refusal begins one.
+-- A part that is read as a statement without statements in it is one, and the tokens before a refusal begin one.
 use Rattle.std.proofs.Common.{◌≡◌, ℕ, zero, suc, ◌+◌, ◌-◌, ◌≤◌, max, Bool, true, false, ◌||◌, List, [], ◌∷◌, ◌++◌}
 use Rattle.std.proofs.Common.{length, Option, Some, None, Err, refl, sym, ap, subst, arith, append_assoc}
 use Rattle.st_types.specs.declared.identifier.Identifier.{Identifier}
@@ -22,7 +22,7 @@ use Rattle.st_parse.specs.ExpressionReading.{expr_at, variable_at, variable_of, 
 use Rattle.st_parse.specs.StatementReading.{exit_at, return_at, assign_of, given_of, copied_of, argument_at}
 use Rattle.st_parse.specs.StatementReading.{arguments_at, invoke_of, named_at, by_at, step_at, bounds_at}
 use Rattle.st_parse.specs.StatementReading.{goes_on_named, named_of, named_line_of}
-use Rattle.st_parse.specs.Laws.{Grammar, Begins}
+use Rattle.st_parse.specs.Laws.{Grammar, IsPrefix}
 use Rattle.st_parse.specs.Expressions.{IsExpr, IsVariable, no_selector, selector, member, subscript, selected}
 use Rattle.st_parse.specs.Statements.{IsArgument, given, copied, IsMoreArguments, no_more_arguments, next_argument}
 use Rattle.st_parse.specs.Statements.{IsArguments, no_argument, argument, IsStep, no_step, step, IsStmt, assign}
@@ -245,7 +245,7 @@ module _ (below : ℕ) where
 
 -- ---- a statement with its semicolon
 
-pub line_begins : Begins IsLine []
+pub line_begins : IsPrefix IsLine []
 line_begins = record {
   more = semicolon ∷ [];
   tree = s.empty;
@@ -268,7 +268,7 @@ line_after x us y vs (z, ws, i, (at, zs, o, made eq)) ts n = (z, ws, i ts n, (at
 
 -- a statement that is whole but for its semicolon
 named_with_semicolon : (x : Identifier) (front more : Tokens) (y : Stmt)
-    → ((ts after : Tokens) → Is name ts x (front ++ (more ++ after)) → IsStmt ts y after) → Begins (LineAfter x) front
+    → ((ts after : Tokens) → Is name ts x (front ++ (more ++ after)) → IsStmt ts y after) → IsPrefix (LineAfter x) front
 named_with_semicolon x front more y is' = record {
   more = more ++ semicolon ∷ [];
   tree = y;
@@ -282,7 +282,7 @@ named_with_semicolon x front more y is' = record {
 }
 
 named_begun : (x : Identifier) (t : Token) (k : TokenKind) → t.kind ≡ k → goes_on_named k ≡ true
-    → Begins (LineAfter x) (t ∷ [])
+    → IsPrefix (LineAfter x) (t ∷ [])
 unfolding same_mark
 named_begun x t (Mark m.Open) eq start = named_with_semicolon x (t ∷ []) (sign m.Close ∷ []) (s.invoke x [])
     (λ ts after n. invoke x [] n (t.start, is (mark_at m.Open t eq)) no_argument (passes_sign m.Close after) refl)
@@ -307,7 +307,7 @@ named_begun x t (Mark m.OpenBracket) eq start = named_with_semicolon x (t ∷ []
     (passes_sign m.Assign (a_name_token ∷ after)) (name_is 1 after) refl)
 named_begun x t _ eq start = absurd cc
 
-named_line_begins : (x : Identifier) → Begins (LineAfter x) []
+named_line_begins : (x : Identifier) → IsPrefix (LineAfter x) []
 named_line_begins x = named_with_semicolon x [] (sign m.Open ∷ sign m.Close ∷ []) (s.invoke x [])
     (λ ts after n. invoke x [] n (passes_sign m.Open (sign m.Close ∷ after)) no_argument (passes_sign m.Close after)
     refl)

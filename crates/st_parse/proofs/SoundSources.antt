@@ -1,4 +1,4 @@
--- What is read as a whole text is one, and what stands before a refusal begins one.
+-- A part that is read as a whole text is one, and the tokens before a refusal begin one.
 use Rattle.std.proofs.Common.{◌≡◌, ℕ, ◌+◌, false, [], ◌∷◌, refl}
 use Rattle.st_lex.specs.declared.token.Token.{Token}
 use Rattle.st_lex.specs.declared.token.TokenKind.{TokenKind}
@@ -7,7 +7,7 @@ use Rattle.st_lex.specs.declared.keyword.Keyword.TheVariants as w
 use Rattle.st_types.specs.Sources.{LibraryElement, Source}
 use Rattle.st_types.specs.Sources as e
 use Rattle.st_parse.specs.Tokens.{Tokens, next}
-use Rattle.st_parse.specs.Laws.{Begins}
+use Rattle.st_parse.specs.Laws.{IsPrefix}
 use Rattle.st_parse.proofs.Sound.{Told, Seq, Made, made, told_refuse, told_by_kind}
 use Rattle.st_parse.proofs.SoundReadings.{Sound, told_by, sound_then, sound_pure, sound_as}
 use Rattle.st_parse.specs.Lists.{Many}
@@ -68,7 +68,7 @@ module _ (depth : ℕ) where
   sound_configuration_element = sound_as is_configuration (λ x us d. d) (sound_then (sound_configuration depth)
       (λ c. sound_pure (e.configuration c) (λ x us. ElementWithin depth x) (λ c us. c.1.1)))
 
-  element_begins : Begins IsLibraryElement []
+  element_begins : IsPrefix IsLibraryElement []
   element_begins = (sound_types_element {C = Unit {0}}).begins
 
   told_element_by : (t : Token) (ts : Tokens) (k : TokenKind) → t.kind ≡ k → Told (λ n. element_by (depth + n) k)

@@ -1,4 +1,4 @@
--- What is read as statements is some, and what stands before a refusal begins some.
+-- Parts that are read as statements are statements, and the tokens before a refusal begin some.
 use Rattle.std.proofs.Common.{◌≡◌, ℕ, zero, suc, ◌+◌, ◌-◌, ◌<◌, ◌≤◌, max, true, false, List, [], ◌∷◌, ◌++◌, length}
 use Rattle.std.proofs.Common.{None, Err, refl, sym, ap, subst, ◌∙◌, arith, append_assoc}
 use Rattle.st_lex.specs.declared.token.Token.{Token}
@@ -16,7 +16,7 @@ use Rattle.st_parse.specs.Parsers.{Parser, ◌>>=◌, ◌>>◌, pure, refuse, on
 use Rattle.st_parse.specs.StatementReading.{starts_stmt, arm_at, elsif_at, otherwise_at, else_at, if_at}
 use Rattle.st_parse.specs.StatementReading.{choices_at, case_at, for_at, while_at, repeat_at, stmt_by, stmt_at}
 use Rattle.st_parse.specs.StatementReading.{lines, line_at, stmts_at}
-use Rattle.st_parse.specs.Laws.{Grammar, Begins}
+use Rattle.st_parse.specs.Laws.{Grammar, IsPrefix}
 use Rattle.st_parse.specs.Expressions.{IsExpr}
 use Rattle.st_parse.specs.Statements.{no_argument, no_step, IsStmt, empty, invoke, choose, select, count}
 use Rattle.st_parse.specs.Statements.{repeat_while, repeat_until, exit, leave, IsStmts, no_stmt, IsElse, no_else}
@@ -121,10 +121,10 @@ is_repeat ts y us (at, vs, o, (body, ws, b, (a1, zs, u, (x, qs, i, (a2, rs, f, m
 is_empty : (ts : Tokens) (y : Stmt) (us : Tokens) → Made s.empty ts y us → IsStmt ts y us
 is_empty ts y us (made eq) = empty eq
 
-pub stmt_begins : Begins IsStmt []
+pub stmt_begins : IsPrefix IsStmt []
 stmt_begins = record { more = []; tree = s.empty; whole = λ after. empty refl }
 
-pub stmts_begins : Begins IsStmts []
+pub stmts_begins : IsPrefix IsStmts []
 stmts_begins = record { more = []; tree = []; whole = λ after. no_stmt }
 
 module _ (depth : ℕ) (line : ℕ → Parser Stmt) (tells : Tells line IsLine (LowStmt depth)) where
@@ -248,7 +248,7 @@ module _ (below : ℕ) (line : ℕ → Parser Stmt) (tells : Tells line IsLine (
   sound_line = sound_then sound_stmt
       (λ x. sound_then (sound_mark m.Semicolon) (λ at. sound_pure x (LowStmt (below + 1)) (λ c us. c.0.1.1)))
 
--- ---- where no depth is left
+-- ---- if no depth is left
 
 stmt_refuses : (below : ℕ) (line : Parser Stmt) (k : TokenKind) (ts : Tokens) → starts_stmt k ≡ false
     → stmt_by below line k ts ≡ Err (Unexpected (length ts))
@@ -271,7 +271,7 @@ line_refuses (suc below) (t ∷ ts) eq = rw (stmt_refuses below (line_at below) 
 
 -- a statement that is whole but for its semicolon
 with_semicolon : (t : Token) (more : Tokens) (x : Stmt) → ((after : Tokens) → IsStmt (t ∷ (more ++ after)) x after)
-    → Begins IsLine (t ∷ [])
+    → IsPrefix IsLine (t ∷ [])
 with_semicolon t more x is' = record {
   more = more ++ semicolon ∷ [];
   tree = x;
@@ -283,7 +283,7 @@ with_semicolon t more x is' = record {
   );
 }
 
-line_begun : (t : Token) (k : TokenKind) → t.kind ≡ k → starts_stmt k ≡ true → Begins IsLine (t ∷ [])
+line_begun : (t : Token) (k : TokenKind) → t.kind ≡ k → starts_stmt k ≡ true → IsPrefix IsLine (t ∷ [])
 line_begun t (Name x) eq start =
     with_semicolon t (sign m.Open ∷ sign m.Close ∷ []) (s.invoke (record { name = x; place = t.start }) [])
     (λ after. invoke (record { name = x; place = t.start }) [] (is (ap (name_in t.start) eq))

@@ -7,7 +7,7 @@ use Rattle.st_parse.specs.declared.fault.Refusal.{Refusal}
 use Rattle.st_parse.specs.declared.fault.Refusal.TheVariants.{Unexpected, Deep}
 use Rattle.st_parse.specs.Tokens.{Tokens, next}
 use Rattle.st_parse.specs.Parsers.{Outcome, Parser, and_then, loops, turns}
-use Rattle.st_parse.specs.Laws.{Grammar, SameHead, Begins}
+use Rattle.st_parse.specs.Laws.{Grammar, SameHead, IsPrefix}
 use Rattle.st_parse.proofs.Sound.{Kept, Told, same_front, next_same}
 
 pub halts : {S : Type 0} (f : TokenKind → Bool) (step : S → Parser S) (n : ℕ) (s : S) (ts : Tokens) → next f ts ≡ false
@@ -21,7 +21,7 @@ pub turn_is : {S : Type 0} (f : TokenKind → Bool) (step : S → Parser S) (n :
 unfolding loops
 turn_is f step n s ts eq = rw eq refl
 
--- the tokens after the first
+-- fewer tokens are left than before
 abbrev pub Shorter : Tokens → Tokens → Type 0
 Shorter us ts = length us < length ts
 
@@ -47,7 +47,7 @@ module _ {S : Type 0} (f : TokenKind → Bool) (step : ℕ → S → Parser S) (
     pub count : length rest ≡ n
     pub again : (e n : ℕ) (other : Tokens) → SameHead rest other → length (front ++ other) ≤ n
         → loops f (step e) n s (front ++ other) ≡ Err (Unexpected (length other))
-    pub begun : Begins (T s) front
+    pub begun : IsPrefix (T s) front
 
   record SunkTurns (s : S) (ts : Tokens) : Type 0 where
     pub front : Tokens
@@ -56,7 +56,7 @@ module _ {S : Type 0} (f : TokenKind → Bool) (step : ℕ → S → Parser S) (
     pub head : (other : Tokens) → SameHead ts (front ++ other)
     pub again : (n : ℕ) (other : Tokens) → length (front ++ other) ≤ n
         → loops f (step 0) n s (front ++ other) ≡ Err Deep
-    pub begun : Begins (T s) front
+    pub begun : IsPrefix (T s) front
 
   abbrev Turned : S → Tokens → Outcome S → Type 0
   Turned s ts (Ok p) = KeptTurns s ts p.0 p.1
@@ -90,7 +90,7 @@ module _ {S : Type 0} (f : TokenKind → Bool) (step : ℕ → S → Parser S) (
       )
 
   begun_onward : (s : S) (s' : S) (front others : Tokens) → ((after : Tokens) → One s (front ++ after) s' after)
-      → Begins (T s') others → Begins (T s) (front ++ others)
+      → IsPrefix (T s') others → IsPrefix (T s) (front ++ others)
   begun_onward s s' front others is b = record {
     more = b.more;
     tree = b.tree;
@@ -154,7 +154,7 @@ module _ {S : Type 0} (f : TokenKind → Bool) (step : ℕ → S → Parser S) (
       let m = some_turns n ts hit le in
       rw m.1 (turn_is f (step e) m.0 s ts hit ∙ ap (λ (r : Outcome S). and_then r (loops f (step e) m.0)) eq)
 
-  begun_turn : (s : S) (front : Tokens) → Begins (One s) front → Begins (T s) front
+  begun_turn : (s : S) (front : Tokens) → IsPrefix (One s) front → IsPrefix (T s) front
   begun_turn s front b = record {
     more = b.more;
     tree = b.tree;
@@ -198,7 +198,7 @@ module _ {S : Type 0} (f : TokenKind → Bool) (step : ℕ → S → Parser S) (
     | inr miss ↦ rw miss (stopped s (t ∷ ts) i miss)
   ]
 
-  -- and where they end
+  -- and how they end
   abbrev pub Ended : S → Tokens → Type 0
   Ended s ts = I s ts × (next f ts ≡ false)
 

@@ -1,4 +1,4 @@
--- What is read as a type is one, and what stands before a refusal begins one.
+-- A part that is read as a type is one, and the tokens before a refusal begin one.
 use Rattle.std.proofs.Common.{ℕ, ◌+◌, ◌≤◌, List, refl}
 use Rattle.std.specs.List.{AllByRecursion}
 use Rattle.st_types.specs.declared.kind.Kind.TheVariants.{Int}

@@ -1,4 +1,4 @@
--- What is read as a function, a function block or a program is one, and what stands before a refusal begins one.
+-- A part that is read as a function, a function block or a program is one, and the tokens before a refusal begin one.
 use Rattle.std.proofs.Common.{ℕ, ◌+◌, ◌<◌, ◌≤◌, length, None, refl}
 use Rattle.st_types.specs.declared.kind.Kind.TheVariants.{Int}
 use Rattle.st_types.specs.declared.data_type.SimpleType.TheVariants as simples

@@ -1,4 +1,4 @@
--- The grammar of statements alone.
+-- Facts about the grammar of statements.
 use Rattle.std.proofs.Common.{ℕ, ◌<◌, ◌≤◌, max, List, [], ◌∷◌, length, Option, arith}
 use Rattle.st_types.specs.declared.literal.Number.{Number as NumberLeaf}
 use Rattle.st_lex.specs.declared.mark.Mark.TheVariants as m

@@ -1,4 +1,4 @@
--- What the arms of a CASE stand for, as they are read.
+-- The arms of a CASE in the definitions, for those that the code reads.
 use Rattle.st_types.specs.StatementViews.{case_arm_view, stmt_view}
 use Rattle.st_parse.specs.declared.arms.Arms as code
 use Rattle.st_parse.specs.Parsers.{each}

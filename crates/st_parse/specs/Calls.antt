@@ -1,4 +1,4 @@
--- What the calls of a closure tell of the tokens that they are given.
+-- The contracts of a closure's calls, on the tokens that they are given.
 use Rattle.std.specs.Prelude.{◌≡◌, Bool, Result}
 use denote.Bor.{Bor}
 use Rattle.st_lex.specs.declared.token.TokenKind.{TokenKind}
@@ -6,7 +6,7 @@ use Rattle.st_parse.specs.declared.fault.ReadError.{ReadError}
 use Rattle.st_parse.specs.Tokens.{Tokens, next}
 use Rattle.st_parse.specs.Parsers.{Parser, Reads}
 
--- whether the next token is of such a kind
+-- whether the next token is of this kind
 abbrev pub Tests : (Bor Tokens → Bool → Type 0) → (TokenKind → Bool) → Type 0
 Tests post f = (ts : Bor Tokens) (r : Bool) → post ts r → r ≡ next f ts.now
 

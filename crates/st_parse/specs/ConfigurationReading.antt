@@ -77,7 +77,7 @@ priority_at = do
   one (mark m.Semicolon)
   pure p
 
--- when a task is due and what it comes before
+-- when a task is due, and its priority
 unfoldable pub terms_at : Parser (Option Identifier × Option ℕ × Priority)
 terms_at = do
   s ← optional (is_keyword w.Single) single_at

@@ -1,4 +1,4 @@
--- How deep the trees of a text may be: every initial value and every statement is at most so deep.
+-- How deep the trees of a text may be: every initial value and every statement is at most this deep.
 use Rattle.std.specs.Prelude.{ℕ, ◌≤◌, Option, IfSome}
 use Rattle.std.specs.List.{AllByRecursion}
 use Rattle.st_types.specs.Initials.{Initial}

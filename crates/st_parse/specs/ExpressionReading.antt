@@ -48,11 +48,11 @@ negative_of at = do
   n ← one whole
   pure (e.literal (literals.Number (negative_at at n)))
 
--- what may go on after an expression and make it a longer one
+-- tokens that may follow an expression and make it a longer one
 abbrev pub continues : TokenKind → Bool
 continues k = goes_on 1 k || (is_mark m.Open k || starts_selector k)
 
--- expr least: an expression one level down, of operators that bind at least so
+-- expr least: an expression one level down, of operators that bind at least as strongly as this
 module _ (expr : ℕ → Parser Expr) where
   unfoldable pub parenthesis_at : Parser Expr
   parenthesis_at = do
@@ -108,7 +108,7 @@ module _ (expr : ℕ → Parser Expr) where
   operand_by (Mark m.Open) = parenthesis_at
   operand_by k = refuse
 
-  -- what has no operator outside parentheses
+  -- an expression without an operator outside parentheses
   unfoldable pub operand_at : Parser Expr
   operand_at = by_kind operand_by
 
@@ -150,7 +150,7 @@ module _ (expr : ℕ → Parser Expr) where
       first ← unary_at
       operations_of least first
 
--- an expression of at most a depth, of operators that bind at least so
+-- an expression of at most a depth, of operators that bind at least as strongly as this
 unfoldable pub expr_at : ℕ → ℕ → Parser Expr
 expr_at zero least = too_deep (starts_expr least)
 expr_at (suc below) least =

@@ -15,7 +15,7 @@ use Rattle.st_parse.specs.Tokens.{negative_at, Is, Passes}
 use Rattle.st_parse.specs.Operators.{operator, binds_of, sign_level, operand_level}
 
 -- IsExpr k ts x us: the tokens ts are those of the expression x and then us. Outside parentheses x has only operators
--- that bind at least as k.
+-- that bind at least as strongly as k.
 mutual
   pub data IsExpr : ℕ → Tokens → Expr → Tokens → Type 0 where
     literal : {k : ℕ} {ts us : Tokens} {x : Expr} (l : Literal) → Is literal_of ts l us → x ≡ e.literal l

@@ -1,4 +1,4 @@
--- How deep a tree of a text may be, and after what an expression and statements end.
+-- How deep a tree of a text may be, and what may follow an expression and statements.
 use Rattle.std.specs.Prelude.{◌≡◌, ◌≤◌, false, List}
 use Rattle.st_types.specs.declared.limits.TheConstants.{MAX_DEPTH}
 use Rattle.st_types.specs.declared.literal.Number.{Number}
@@ -26,6 +26,6 @@ HasDepthOne n = Unit {0}
 abbrev pub EndsExpression : Tokens → Type 0
 EndsExpression us = next continues us ≡ false
 
--- before a token that begins no statement
+-- before a token that doesn't begin a statement
 abbrev pub EndsStatements : Tokens → Type 0
 EndsStatements us = next starts_stmt us ≡ false

@@ -47,7 +47,7 @@ binds_of Multiply = 7
 binds_of Divide = 7
 binds_of Modulo = 7
 
--- how strongly a sign or NOT binds, and what has no operator outside parentheses
+-- how strongly a sign or NOT binds, and an expression without an operator outside parentheses
 abbrev pub sign_level : ℕ
 sign_level = 8
 
@@ -58,6 +58,6 @@ abbrev pub is_within : ℕ → Option BinaryOperator → Bool
 is_within least None = false
 is_within least (Some op) = nat_le least (binds_of op)
 
--- an operator that binds at least so
+-- an operator that binds at least as strongly as this
 abbrev pub goes_on : ℕ → TokenKind → Bool
 goes_on least k = is_within least (operator_in k)

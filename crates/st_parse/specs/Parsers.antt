@@ -1,4 +1,4 @@
--- Reading from left to right, with the first fault that is met.
+-- Reading from left to right, up to the first fault.
 use Rattle.std.specs.Prelude.{◌≡◌, ℕ, zero, suc, Bool, List, [], ◌∷◌, ◌++◌, length, Option, Some, None, Result, Ok, Err}
 use Rattle.std.specs.Prelude.{if◌then◌else◌, map}
 use Rattle.std.specs.Global.{Vec}
@@ -14,7 +14,7 @@ use Rattle.st_parse.specs.declared.fault.ReadError.{ReadError}
 use Rattle.st_parse.specs.declared.fault.ReadError.TheVariants as errors
 use Rattle.st_parse.specs.Tokens.{Tokens, next, mark, keyword, whole, is_mark, negative_at}
 
--- what was read and the tokens after it, or why nothing was
+-- the part that was read and the tokens after it, or why nothing was read
 abbrev pub Outcome : Type 0 → Type 0
 Outcome A = Result (A × Tokens) Refusal
 
@@ -40,7 +40,7 @@ pure a = λ ts. Ok (a, ts)
 abbrev pub refuse : {A : Type 0} → Parser A
 refuse = λ ts. Err (Unexpected (length ts))
 
--- what a function returned, seen by view, is what reading gives, unless memory ran out
+-- the result of a function, seen by view, is that of the reading, unless an allocation failed
 abbrev pub Fails : {Y : Type 0} → ReadError → Result Y Refusal → Type 0
 Fails errors.Memory read = Unit {0}
 Fails (errors.Refused f) read = read ≡ Err f
@@ -53,13 +53,13 @@ Gives view (Err x) read = Fails x read
 abbrev pub Reads : {X A : Type 0} → (X → A) → Result (X × Bor Tokens) ReadError → Outcome A → Type 0
 Reads view result read = Gives (λ x. (view x.0, x.1.now)) result read
 
--- what was read before, beside what was read next
+-- the part that was read before, beside the one that was read next
 abbrev pub Beside : {X Y : Type 0} → X → Result (Y × Bor Tokens) ReadError → Result ((X × Y) × Bor Tokens) ReadError
     → Type 0
 Beside x next (Ok r) = (r.0.0 ≡ x) × (next ≡ Ok (r.0.1, r.1))
 Beside x next (Err e) = next ≡ Err e
 
--- a view of what is its own mirror, and of a list by one of its items
+-- a view of a type that is its own mirror, and of a list by one of its items
 abbrev pub as_is : {A : Type 0} → A → A
 as_is x = x
 
@@ -80,21 +80,21 @@ abbrev pub by_kind : {A : Type 0} → (TokenKind → Parser A) → Parser A
 by_kind f [] = refuse []
 by_kind f (t ∷ ts) = f t.kind (t ∷ ts)
 
--- one way where the next token is of such a kind, else the other
+-- one way if the next token is of this kind, otherwise the other
 abbrev pub if_next : {A : Type 0} → (TokenKind → Bool) → Parser A → Parser A → Parser A
 if_next f p q = λ ts. if next f ts then p ts else q ts
 
 abbrev pub guard : {A : Type 0} → Bool → Parser A → Parser A
 guard b p = λ ts. if b then Err Deep else p ts
 
--- where no depth is left: too deep, where something begins at all
+-- if no depth is left: too deep, if anything begins at all
 abbrev pub sunk : {A : Type 0} → Bool → Parser A
 sunk b = λ ts. if b then Err Deep else Err (Unexpected (length ts))
 
 abbrev pub too_deep : {A : Type 0} → (TokenKind → Bool) → Parser A
 too_deep f = λ ts. sunk (next f ts) ts
 
--- Turns, as long as the tokens go on so. The number bounds them, and each takes a token.
+-- Turns, as long as the next token is of this kind. The number bounds them, and each takes a token.
 unfoldable pub loops : {S : Type 0} → (TokenKind → Bool) → (S → Parser S) → ℕ → S → Parser S
 loops f step zero s = pure s
 loops f step (suc n) s = λ ts. if next f ts then and_then (step s ts) (loops f step n) else Ok (s, ts)
@@ -109,7 +109,7 @@ gather item found = item >>= (λ x. pure (found ++ x ∷ []))
 abbrev pub several : {A : Type 0} → (TokenKind → Bool) → Parser A → List A → Parser (List A)
 several f item = turns f (gather item)
 
--- items with commas between them
+-- items separated by commas
 unfoldable pub after_comma : {A : Type 0} → Parser A → Parser A
 after_comma item = one (mark m.Comma) >> item
 

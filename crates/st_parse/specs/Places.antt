@@ -12,12 +12,12 @@ abbrev pub end_of : ℕ → Tokens → ℕ
 end_of end [] = end
 end_of end (t ∷ ts) = end_of t.end ts
 
--- where the first of the tokens begins, or the place given where there is none
+-- where the first of the tokens begins, or the place given if there is none
 abbrev pub start_of : ℕ → Tokens → ℕ
 start_of end [] = end
 start_of end (t ∷ ts) = t.start
 
--- the token from which so many are left, or the end of the last where none is left
+-- the token from which `n` are left, or the end of the last if none is left
 abbrev pub place_left : Tokens → ℕ → ℕ
 place_left ts n = start_of (end_of 0 ts) (drop (length ts - n) ts)
 

@@ -23,11 +23,11 @@ starts_number k = is_number k || is_mark m.Minus k
 abbrev pub starts_label : TokenKind → Bool
 starts_label k = starts_number k || is_value k
 
--- what stands behind the first name of a statement
+-- tokens that may follow the first name of a statement
 abbrev pub goes_on_named : TokenKind → Bool
 goes_on_named k = is_mark m.Open k || (is_mark m.Assign k || starts_selector k)
 
--- what stands behind a label
+-- tokens that may follow a label
 abbrev pub ends_label : TokenKind → Bool
 ends_label k = is_mark m.Comma k || is_mark m.Colon k
 
@@ -43,7 +43,7 @@ starts_stmt (Keyword w.Exit) = true
 starts_stmt (Keyword w.Return) = true
 starts_stmt k = false
 
--- what stands in an arm of a CASE, or begins the next
+-- tokens that begin a part of an arm of a CASE, or the next arm
 abbrev pub starts_part : TokenKind → Bool
 starts_part k = starts_label k || starts_stmt k
 
@@ -82,7 +82,7 @@ head_at = do
   first ← label_at
   head_of first
 
--- The arms of a CASE as they are read: those before the last, and what stands in the last.
+-- The arms of a CASE as they are read: those before the last, and the statements of the last.
 pub record Arms : Type 0 where
   pub before : List CaseArm
   pub labels : List Label
@@ -184,7 +184,7 @@ module _ (below : ℕ) where
   unfoldable pub step_at : Parser (Option Expr)
   step_at = if_next (is_keyword w.By) by_at (pure None)
 
-  -- where a FOR begins and ends, and its step
+  -- the start and the limit of a FOR, and its step
   unfoldable pub bounds_at : Parser (Expr × Expr × Option Expr)
   bounds_at = do
     start ← expr_at below 1
@@ -206,7 +206,7 @@ module _ (below : ℕ) where
     y ← named_line_of below x
     pure (with_stmt a y)
 
-  -- what a name begins: another arm, or a statement of the last
+  -- the part that a name begins: another arm, or a statement of the last
   unfoldable pub named_part : Arms → Parser Arms
   named_part a = do
     x ← one name
@@ -256,7 +256,7 @@ module _ (below : ℕ) where
     unfoldable pub case_arms_at : Parser (List CaseArm)
     case_arms_at = if_next starts_label some_arms_at (pure [])
 
-    -- the arms of a CASE, and the statements behind ELSE
+    -- the arms of a CASE, and the statements after ELSE
     unfoldable pub choices_at : Parser (List CaseArm × List Stmt)
     choices_at = do
       one (keyword w.Of)

@@ -45,7 +45,7 @@ pub data IsLabels : Tokens → List Label → Tokens → Type 0 where
   labels : {ts us vs : Tokens} {x : Label} {xs : List Label} → IsLabel ts x us → IsMoreLabels us xs vs
       → IsLabels ts (x ∷ xs) vs
 
--- what stands after BY, or nothing
+-- the expression after BY, or nothing
 pub data IsStep : Tokens → Option Expr → Tokens → Type 0 where
   no_step : {ts : Tokens} → IsStep ts None ts
   step : {ts us vs : Tokens} {o : Option Expr} (x : Expr) → Passes (keyword w.By) ts us → IsExpr 1 us x vs → o ≡ Some x

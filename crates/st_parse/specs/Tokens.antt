@@ -19,7 +19,7 @@ use Rattle.st_lex.specs.contracts.keyword.Keyword as keyword_type
 abbrev pub Tokens : Type 0
 Tokens = List Token
 
--- whether the next token is of such a kind
+-- whether the next token is of this kind
 abbrev pub next : (TokenKind → Bool) → Tokens → Bool
 next f [] = false
 next f (t ∷ ts) = f t.kind
@@ -52,7 +52,7 @@ is_value (Name x) = true
 is_value (Enumerated t x) = true
 is_value k = false
 
--- What one token stands for. A mark or a keyword stands for its place.
+-- The meaning of one token. A mark or a keyword stands for its place.
 abbrev pub mark : MarkType → Token → Option ℕ
 mark x t = if is_mark x t.kind then Some t.start else None
 
@@ -132,7 +132,7 @@ constant t = constant_in t.start t.kind
 pub data Is {A : Type 0} (of : Token → Option A) : Tokens → A → Tokens → Type 0 where
   is : {t : Token} {us : Tokens} {x : A} → of t ≡ Some x → Is of (t ∷ us) x us
 
--- a mark or a keyword, at whatever place, and then the others
+-- a mark or a keyword, at any place, and then the others
 abbrev pub Passes : (Token → Option ℕ) → Tokens → Tokens → Type 0
 Passes of ts us = (at : ℕ) × Is of ts at us
 

@@ -94,7 +94,7 @@ external_section_at = do
   one (keyword w.VarExternal)
   if_next (is_keyword w.Constant) (constant_of sections.ConstantExternal) (pure sections.External)
 
--- a block that begins so, up to END_VAR
+-- a block that begins with this section, up to END_VAR
 unfoldable pub block_at : Parser Section → Parser Declaration → Parser VariableBlock
 block_at section item = do
   s ← section

@@ -75,7 +75,7 @@ pub data IsExternalSection : Tokens → Section → Tokens → Type 0 where
   constant : {ts us vs : Tokens} {s : Section} → Passes (keyword w.VarExternal) ts us
       → Passes (keyword w.Constant) us vs → s ≡ sections.ConstantExternal → IsExternalSection ts s vs
 
--- a block of variables that begins so, up to END_VAR
+-- a block of variables that begins with this section, up to END_VAR
 pub data IsBlock (IsSection : Tokens → Section → Tokens → Type 0) (IsOne : Tokens → Declaration → Tokens → Type 0) :
     Tokens → VariableBlock → Tokens → Type 0 where
   block : {ts us vs ws : Tokens} {b : VariableBlock} (s : Section) (ds : List Declaration)

@@ -10,7 +10,7 @@ use crate::fault::ReadError;
 use st_types::{CaseArm, Label, Stmt};
 use std::alloc::Global;
 
-/// The arms before the last, and what stands in the last.
+/// The arms before the last, and the statements of the last.
 #[derive(Drop)]
 pub struct Arms {
     before: Vec<CaseArm>,

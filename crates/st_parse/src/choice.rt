@@ -1,4 +1,4 @@
-//! CASE. A name in an arm begins a label or a statement, and what stands behind it says which.
+//! CASE. A name in an arm begins a label or a statement, and the next token decides which.
 
 ghost use Rattle.std.specs.Prelude.{◌≡◌, ◌≤◌, ◌<◌};
 ghost use Rattle.st_types.specs.declared.limits.TheConstants.{MAX_DEPTH};
@@ -25,10 +25,10 @@ type FoundArms<'a> = Result<(Arms, &'a [Token]), ReadError>;
 /// The arms of a CASE and the tokens after them.
 type FoundCaseArms<'a> = Result<(Vec<CaseArm>, &'a [Token]), ReadError>;
 
-/// The arms of a CASE with the statements behind its ELSE, and the tokens after them.
+/// The arms of a CASE with the statements after its ELSE, and the tokens after them.
 type FoundChoices<'a> = Result<((Vec<CaseArm>, Vec<Stmt>), &'a [Token]), ReadError>;
 
-/// Whether what stands in an arm comes next, or what begins the next arm.
+/// Whether a part of an arm comes next, or the beginning of the next arm.
 fn starts_part(tokens: &[Token]) -> bool
     ensures { result ≡ next reading.starts_part tokens.now }
 {

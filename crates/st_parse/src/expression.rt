@@ -22,7 +22,7 @@ use std::alloc::Global;
 /// How strongly a sign or NOT binds.
 const SIGN: usize = 8;
 
-/// The level of what has no operator outside parentheses.
+/// The level of an expression without an operator outside parentheses.
 const OPERAND: usize = 9;
 
 /// An expression and the tokens after it.
@@ -125,7 +125,7 @@ fn selectors<'a>(
 }
 
 /// `variable_of = selectors .`
-/// What is selected of a variable of this name, of subscripts one level down.
+/// The selection of a variable of this name, of subscripts one level down.
 #[cycle(expr)]
 #[tactic(auto, unfolding(crate::specs::ExpressionReading::variable_of))]
 pub fn variable_of<'a>(
@@ -353,7 +353,7 @@ fn operators(alloc: Global, below: usize, least: usize, tokens: &[Token]) -> Fou
 /// `expr = expr(1) .`
 /// `expr(k) = operators(k) .`
 /// `expr(9) = operand .`
-/// An expression of at most a depth, of operators that bind at least so.
+/// An expression of at most a depth, of operators that bind at least as strongly as this.
 #[cycle(expr)]
 #[tactic(auto, unfolding(crate::specs::ExpressionReading::expr_at))]
 pub fn expr(alloc: Global, depth: usize, least: usize, tokens: &[Token]) -> Found<'_>

@@ -9,7 +9,7 @@ use thiserror::Error;
 /// Why a part of a text is not read.
 #[derive(Clone, Copy, Debug, PartialEq, Eq)]
 pub enum Refusal {
-    /// A token is unexpected, of which so many are left, itself included; none where they ended too early.
+    /// A token is unexpected: the number of tokens from it on, itself included; 0 if they ended too early.
     Unexpected(usize),
     /// A tree would be deeper than 64.
     Deep,
@@ -25,13 +25,13 @@ pub enum ReadError {
 /// Why a text has no tree. A place is the offset of a byte in the text.
 #[derive(Clone, Copy, Debug, PartialEq, Eq, Error)]
 pub enum ParseError {
-    /// A token is unexpected, at its first byte. Where the tokens end too early, it is the end of the last.
+    /// A token is unexpected, at its first byte. If the tokens end too early, it is the end of the last.
     #[error("P1 at {0}")]
     Unexpected(usize),
     /// An expression, a statement or an initial value is deeper than 64.
     #[error("P2")]
     Deep,
-    /// Memory ran out.
+    /// An allocation failed.
     #[error("P3")]
     Memory,
 }

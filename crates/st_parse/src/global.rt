@@ -12,7 +12,7 @@ ghost use Rattle.st_parse.specs.ConfigurationReading as reading;
 use crate::data_type::{given_or_not, variable_type};
 use crate::fault::ReadError;
 use crate::list::several;
-use crate::names::names_behind;
+use crate::names::more_names;
 use crate::tokens::{begins_name, keyword, leads, mark, name, refused};
 use st_lex::{Keyword, Mark, Token, TokenKind};
 use st_types::{Address, GlobalBlock, GlobalDeclaration, GlobalNames, GlobalQualifier, Identifier};
@@ -44,12 +44,12 @@ fn located_of<'a>(name: Identifier, tokens: &'a [Token]) -> Names<'a>
     Ok((GlobalNames::Located(name, address), rest))
 }
 
-/// `listed_of = names_behind .`
+/// `listed_of = more_names .`
 #[tactic(auto, unfolding(crate::specs::ConfigurationReading::listed_of))]
 fn listed_of<'a>(alloc: Global, first: Identifier, tokens: &'a [Token]) -> Names<'a>
     ensures { Reads global_names_view result (reading.listed_of first tokens.now) }
 {
-    let (names, rest) = names_behind(alloc, first, tokens)?;
+    let (names, rest) = more_names(alloc, first, tokens)?;
     Ok((GlobalNames::Listed(names), rest))
 }
 

@@ -59,7 +59,7 @@ pub fn begins_label(tokens: &[Token]) -> bool
     begins_number(tokens) || begins(Mark::Minus, tokens) || begins_value(tokens)
 }
 
-/// Whether what stands behind a label comes next.
+/// Whether a token that may follow a label comes next.
 pub fn ends_label(tokens: &[Token]) -> bool
     ensures { result ≡ next reading.ends_label tokens.now }
 {

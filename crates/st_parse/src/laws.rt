@@ -2,7 +2,7 @@
 
 ghost use Rattle.std.specs.Prelude.{◌≡◌, ℕ, List};
 ghost use Rattle.st_types.specs.Sources.{Source};
-ghost use Rattle.st_lex.specs.Texts.{IsSpelledBy};
+ghost use Rattle.st_lex.specs.Texts.{Lexes};
 ghost use Rattle.st_parse.specs.Tokens.{Tokens};
 ghost use Rattle.st_parse.specs.Sources.{IsSource};
 
@@ -10,6 +10,6 @@ ghost use Rattle.st_parse.specs.Sources.{IsSource};
 pub fn a_text_has_one_tree()
     ensures tokens { (tokens : Tokens) (this that : Source) → IsSource tokens this → IsSource tokens that
         → this ≡ that }
-    ensures text { (text : List ℕ) (some others : Tokens) (this that : Source) → IsSpelledBy text some
-        → IsSpelledBy text others → IsSource some this → IsSource others that → this ≡ that }
+    ensures text { (text : List ℕ) (some others : Tokens) (this that : Source) → Lexes text some
+        → Lexes text others → IsSource some this → IsSource others that → this ≡ that }
 {}

@@ -1,6 +1,6 @@
 //! The tree of a text, from its tokens.
 //!
-//! A text has one tree or a first fault, never both. Above each reader stands its production: `a, b` is a and then b,
+//! A text has one tree or a first fault, never both. Above each reader is its production: `a, b` is a and then b,
 //! `a | b` one of the two, `[ a ]` a or nothing, `{ a }` any number of a. No tree is deeper than 64, and nothing here
 //! looks up a name.
 #![tactic(auto)]

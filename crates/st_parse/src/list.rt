@@ -12,7 +12,7 @@ use st_types::Tree;
 use std::alloc::Global;
 
 /// `several(item) = { item } .`
-/// Parts after those that were found, as long as what is left begins so.
+/// Parts after those that were found, as long as the next token begins one.
 pub fn several<
     'a,
     T: Tree + Drop,

@@ -27,9 +27,9 @@ fn next_name(alloc: Global, tokens: &[Token]) -> Result<(Identifier, &[Token]), 
     name(alloc, rest)
 }
 
-/// `names_behind = { next_name } .`
+/// `more_names = { next_name } .`
 /// Names after a first one.
-pub fn names_behind<'a>(alloc: Global, first: Identifier, tokens: &'a [Token]) -> Names<'a>
+pub fn more_names<'a>(alloc: Global, first: Identifier, tokens: &'a [Token]) -> Names<'a>
     ensures { Reads vec_items result
         (parsers.several (tokens_of.is_mark Comma) (parsers.after_comma (one tokens_of.name)) (first ∷ []) tokens.now) }
 {
@@ -43,11 +43,11 @@ pub fn names_behind<'a>(alloc: Global, first: Identifier, tokens: &'a [Token]) -
     )
 }
 
-/// `names = name, names_behind .`
+/// `names = name, more_names .`
 #[tactic(auto, unfolding(crate::specs::UnitReading::names_at, crate::specs::Parsers::listed))]
 pub fn names(alloc: Global, tokens: &[Token]) -> Names<'_>
     ensures { Reads vec_items result (reading.names_at tokens.now) }
 {
     let (first, rest) = name(alloc, tokens)?;
-    names_behind(alloc, first, rest)
+    more_names(alloc, first, rest)
 }

@@ -1,11 +1,11 @@
-//! What was read, kept beside what is read next.
+//! A part that was read, kept beside the next one.
 
 ghost use Rattle.st_parse.specs.Parsers.{Beside};
 
 use crate::fault::ReadError;
 use st_lex::Token;
 
-/// What was read before, what is read next, and the tokens after it.
+/// The part that was read before, the next one, and the tokens after it.
 pub fn beside<'a, A: Drop, B>(
     first: A,
     next: Result<(B, &'a [Token]), ReadError>,

@@ -17,9 +17,9 @@ use std::alloc::Global;
 
 /// The tree of a text from its tokens.
 ///
-/// P1 at the first byte of a token with which what was read no longer begins any text of the grammar, or at the end of
-/// the last token where the tokens end too early. P2 where an expression, a statement or an initial value would be
-/// deeper than 64. P3 out of memory.
+/// P1 at the first byte of a token with which the tokens so far no longer begin any text of the grammar, or at the end
+/// of the last token if the tokens end too early. P2 if an expression, a statement or an initial value would be deeper
+/// than 64. P3 if an allocation fails.
 pub fn parse(alloc: Global, tokens: &[Token]) -> Result<Source, ParseError>
     ensures found { IfOk result
         (λ parsed. IsSource tokens.now (source_view parsed) × SourceWithin MAX_DEPTH (source_view parsed)) }

@@ -29,8 +29,7 @@ fn place_left(tokens: &[Token], left: usize) -> usize
 
 /// Why a text of these tokens has no tree: a refusal as the text's reader sees it.
 ///
-/// P1 has the place of the unexpected token's first byte, or of the end of the last token where the tokens end too
-/// early.
+/// P1 has the place of the unexpected token's first byte, or of the end of the last token if the tokens end too early.
 pub fn parse_error(tokens: &[Token], error: ReadError) -> ParseError
     ensures { result ≡ places.parse_error tokens.now error }
 {

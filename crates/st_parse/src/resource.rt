@@ -123,7 +123,7 @@ fn priority(tokens: &[Token]) -> Result<(Priority, &[Token]), ReadError>
 }
 
 /// `terms = single_or_not, interval_or_not, priority .`
-/// When a task is due and what it comes before.
+/// When a task is due, and its priority.
 #[tactic(auto, unfolding(crate::specs::ConfigurationReading::terms_at))]
 fn terms(alloc: Global, tokens: &[Token]) -> FoundTerms<'_>
     ensures { Reads as_is result (reading.terms_at tokens.now) }

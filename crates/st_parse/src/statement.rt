@@ -31,7 +31,7 @@ pub type Block<'a> = Result<(Vec<Stmt>, &'a [Token]), ReadError>;
 /// A condition with its statements and the tokens after them.
 type FoundArm<'a> = Result<(Arm, &'a [Token]), ReadError>;
 
-/// Where a FOR begins and ends, its step, and the tokens after them.
+/// The start and the limit of a FOR, its step, and the tokens after them.
 type FoundBounds<'a> = Result<((Expr, Expr, Option<Expr>), &'a [Token]), ReadError>;
 
 pub fn starts_stmt(tokens: &[Token]) -> bool
@@ -54,7 +54,7 @@ pub fn starts_stmt(tokens: &[Token]) -> bool
     }
 }
 
-/// Whether what goes on after the first name of a statement comes next.
+/// Whether a token that may follow the first name of a statement comes next.
 fn goes_on_named(tokens: &[Token]) -> bool
     ensures { result ≡ next reading.goes_on_named tokens.now }
 {
@@ -135,7 +135,7 @@ fn named(alloc: Global, below: usize, tokens: &[Token]) -> Found<'_>
 }
 
 /// `closed = ";" .`
-/// A statement with the semicolon behind it.
+/// A statement with the semicolon after it.
 fn closed(found: Stmt, tokens: &[Token]) -> Found<'_>
     ensures { Reads stmt_view result (reading.closed (stmt_view found) tokens.now) }
 {
@@ -266,8 +266,8 @@ fn elsif<'a, L: Fn(&[Token]) -> Found<'_>>(
 }
 
 /// `more_arms = { elsif } .`
-/// Arms behind a first one.
-fn arms_behind<'a, L: Fn(&[Token]) -> Found<'_>>(
+/// Arms after a first one.
+fn more_arms<'a, L: Fn(&[Token]) -> Found<'_>>(
     alloc: Global,
     below: usize,
     first: Arm,
@@ -326,7 +326,7 @@ fn if_stmt<'a, L: Fn(&[Token]) -> Found<'_>>(
 {
     let (_, rest) = keyword(Keyword::If, tokens)?;
     let (first, rest) = arm(alloc, below, rest, line)?;
-    let (arms, rest) = arms_behind(alloc, below, first, rest, line)?;
+    let (arms, rest) = more_arms(alloc, below, first, rest, line)?;
     let (other, rest) = else_part(alloc, below, rest, line)?;
     let (_, rest) = keyword(Keyword::EndIf, rest)?;
     Ok((Stmt::choose(arms, other), rest))

@@ -1,4 +1,4 @@
-//! Single tokens: what reads one, with a sign before a number, and what asks for the next.
+//! Single tokens: reading one, with a sign before a number, and tests for the next.
 
 mod next;
 mod operators;

@@ -1,4 +1,4 @@
--- What a writer holds after two writes.
+-- The content of a writer after two writes.
 use Rattle.std.proofs.Common.{◌≡◌, ◌∙◌, ap, ℕ, ◌+◌, ◌<◌, List, [], ◌∷◌, ◌++◌, length, drop, get_or, Option, Some, None}
 use Rattle.std.proofs.Common.{sym}
 use Rattle.std.proofs.lemmas.List.{append_assoc, append-nil, drop_more}
@@ -17,7 +17,7 @@ appends_both (Some a) None third x y wrote more = absurd wrote
 appends_both (Some a) (Some b) None x y wrote more = absurd more
 appends_both (Some a) (Some b) (Some c) x y wrote more = more ∙ ap (λ z. z ++ y) wrote ∙ append_assoc a x y
 
--- a text that is made element by element grows by the next element's
+-- a text that is written element by element grows by the next element's
 pub text_more : {X : Type 0} (whole : List X → List ℕ) (item : X → List ℕ)
     → ((x : X) (xs : List X) → whole (x ∷ xs) ≡ item x ++ whole xs)
     → (xs : List X) (i : ℕ) (x : X) (before : List ℕ) → i < length xs → get_or xs i x ≡ x

@@ -30,17 +30,17 @@ use Rattle.st_print.specs.Numbers.{may_begin, SpellsValue}
 own : IsNumeralModel (AllDigits 10) (digits_value 10)
 own = numerals_by_value (AllDigits 10) tells_digits
 
--- what begins as a number begins with no sign
+-- a field that begins like a number doesn't begin with a sign
 no_plus : (bs : List ℕ) → may_begin bs ≡ true → get_or bs 0 0 ≢ 43
 no_plus [] h = absurd (cc)
 no_plus (b ∷ bs) h = grind (arith, nat_tests)
 
--- what begins with a 0 is a 0
+-- a field that begins with a 0 is a 0
 alone : (bs : List ℕ) → may_begin bs ≡ true → get_or bs 0 0 ≡ 48 → length bs ≡ 1
 alone [] h e = absurd (cc)
 alone (b ∷ bs) h e = grind (arith, nat_tests)
 
--- what is parsed is spelled so
+-- a field that is parsed is the spelling of its number
 pub spelled_number : {E : Type 0} (bs : List ℕ) (r : Result ℕ E) → may_begin bs ≡ true → ParsesUnsigned 64 10 bs r
     → IfOk r (λ n. bs ≡ decimal n)
 spelled_number {E} bs (Ok n) h p =
@@ -49,7 +49,7 @@ spelled_number {E} bs (Ok n) h p =
     sym back ∙ ap decimal (sym is)
 spelled_number {E} bs (Err e) h p = tt
 
--- what is spelled so is parsed
+-- the spelling of a number is parsed
 pub number_parsed : {E : Type 0} (bs : List ℕ) (r : Result ℕ E) → ParsesUnsigned 64 10 bs r → (n : ℕ) → n < 2 ^ 64
     → bs ≡ decimal n → r ≡ Ok n
 number_parsed bs r p n small e = parse-decimal 64 n bs r small small e p
@@ -78,7 +78,7 @@ pub ok_some : {X E : Type 0} (P : X → Type 0) (r : Result X E) → IfOk r P �
 ok_some P (Ok x) h = h
 ok_some P (Err e) h = tt
 
--- where nothing was parsed, nothing is spelled
+-- if nothing was parsed, nothing is spelled
 pub none_spelled : {E : Type 0} (bs : List ℕ) (r : Result ℕ E) → ((n : ℕ) → n < 2 ^ 64 → bs ≡ decimal n → r ≡ Ok n)
     → IfNone (result_ok r) ((n : ℕ) → n < 2 ^ 64 → bs ≢ decimal n)
 none_spelled bs (Ok n) h = tt
@@ -95,7 +95,7 @@ no_minus n small bs e =
 same_rest : (b : ℕ) (bs : List ℕ) → take (length (b ∷ bs) - 1) (drop 1 (b ∷ bs)) ≡ bs
 same_rest b bs = grind (arith, common_steps)
 
--- what stands after a minus
+-- the digits after a minus
 pub none_behind_minus : (bs : List ℕ) → 1 ≤ length bs → get_or bs 0 0 ≡ 45
     → ((n : ℕ) → n + 1 < 2 ^ 64 → take (length bs - 1) (drop 1 bs) ≢ decimal (n + 1))
     → (z : ℤ) → unsigned_abs z < 2 ^ 64 → bs ≢ signed_decimal z
@@ -156,7 +156,7 @@ greatest_is (Enumerated names number) few = omega (arith, ints)
 pub held_short : (k : Kind) (z : ℤ) → names_in k < 2 ^ 16 → holds k z ≡ true → unsigned_abs z < 2 ^ 64
 held_short k z few h = held_within (least k) (greatest k) z (least_is k) (greatest_is k few) h
 
--- a spelling spells one number
+-- a spelling has one number
 pub one_number : (y z : ℤ) → unsigned_abs y < 2 ^ 64 → unsigned_abs z < 2 ^ 64 → signed_decimal y ≡ signed_decimal z
     → y ≡ z
 one_number (pos m) (pos n) a b e = ap pos (decimal_injective m n a b e)

@@ -1,4 +1,4 @@
--- How a field spells a number.
+-- The spelling of a number in a field.
 use Rattle.std.specs.Prelude.{Option, Some, None, ◌≡◌, ℕ, ◌^◌, ◌<◌, List, [], ◌∷◌, length, ℤ, Bool, true, false, ◌==◌}
 use Rattle.std.specs.Prelude.{◌&&◌, ◌||◌, nat_le}
 use Rattle.std.specs.Prelude.{unsigned_abs}
@@ -20,7 +20,7 @@ may_begin (b ∷ bytes) = (nat_le 49 b && nat_le b 57) || ((b == 48) && (length 
 abbrev pub SpellsValue : Kind → List ℕ → Datum → Type 0
 SpellsValue kind field value = (same_kind kind value.kind ≡ true) × IsHeld value × (field ≡ signed_decimal value.number)
 
--- the same of a field that a record may lack
+-- the same for a field that a record may lack
 abbrev pub SpellsValueAt : Kind → Option (List ℕ) → Datum → Type 0
 SpellsValueAt kind None value = ⊥
 SpellsValueAt kind (Some field) value = SpellsValue kind field value

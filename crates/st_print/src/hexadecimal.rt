@@ -20,7 +20,7 @@ fn digit(number: u8) -> u8
     }
 }
 
-/// Writes so many hexadecimal digits of a number, the last ones, in upper case.
+/// Writes the last `count` hexadecimal digits of a number, in upper case.
 pub(crate) fn write_hexadecimal<W: Write>(out: &mut W, count: usize, number: u64) -> io::Result<()>
     ensures { OnOk result (Appends (W.contents out.old) (W.contents out.new) (hexadecimal count number)) }
 {

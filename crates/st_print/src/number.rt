@@ -9,7 +9,7 @@ ghost use Rattle.st_print.specs.Numbers.{IsShort, SpellsValue, may_begin};
 use st_types::limits::MOMENT_LIMIT;
 use st_types::{Kind, Value};
 
-/// Whether the bytes begin as a decimal number does: with another digit than 0, or they are a 0 alone.
+/// Whether the bytes begin like a decimal number: with another digit than 0, or they are a 0 alone.
 fn may_begin(field: &[u8]) -> bool
     ensures { result ≡ may_begin field.now }
 {
@@ -47,7 +47,7 @@ fn negative(digits: &[u8]) -> Option<i128>
     Some(-i128::from(magnitude))
 }
 
-/// The number that the field spells in decimal, with a `-` where it is negative.
+/// The number that the field spells in decimal, with a `-` if it is negative.
 fn whole_number(field: &[u8]) -> Option<i128>
     ensures spelled { IfSome result (λ z. field.now ≡ signed_decimal z) }
     ensures short { IfSome result IsShort }

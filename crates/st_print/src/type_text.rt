@@ -10,7 +10,7 @@ use st_types::{Kind, Name};
 use std::io;
 use std::io::Write;
 
-/// Writes names with commas between them.
+/// Writes names separated by commas.
 fn write_names<W: Write>(out: &mut W, names: &[Name]) -> io::Result<()>
     ensures { OnOk result (Appends (W.contents out.old) (W.contents out.new) (joined names.now)) }
 {

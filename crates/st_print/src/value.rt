@@ -3,7 +3,7 @@
 ghost use Rattle.std.specs.Prelude.{◌≡◌, OnOk, map, option_map};
 ghost use Rattle.std.specs.Vec.{vec_items};
 ghost use Rattle.std.specs.Io.KnownBytes.{Appends};
-ghost use Rattle.st_print.specs.Spelling.{name_of, number_text, truth_text, value_text};
+ghost use Rattle.st_print.specs.Spelling.{name_of, number_text, bool_text, value_text};
 ghost use Rattle.st_types.specs.Kinds.{row_of};
 
 use crate::hexadecimal::write_hexadecimal;
@@ -11,7 +11,7 @@ use st_types::{Kind, Name, Sort, Value};
 use std::io;
 use std::io::Write;
 
-/// The name of a value of an enumerated type, where it is among the names.
+/// The name of a value of an enumerated type, if it is among the names.
 fn name<'a>(names: &'a [Vec<Name>], value: Value) -> Option<&'a Name>
     ensures { option_map (λ x. x.now) result ≡ name_of (map vec_items names.now) value.kind value.number }
 {

@@ -9,7 +9,7 @@ use Rattle.st_types.specs.declared.literal.Literal.TheVariants as literals
 use Rattle.st_types.specs.declared.data_type.VariableType.{VariableType}
 use Rattle.st_types.specs.Expressions.{Expr, literal, read, variable, no_selectors}
 use Rattle.st_meaning.specs.Enumerations.{Member, member_named, member_written, number_of_member}
-use Rattle.st_meaning.specs.NameTypes.{variable_type, kind_among, type_behind}
+use Rattle.st_meaning.specs.NameTypes.{variable_type, kind_among, type_after_selectors}
 use Rattle.st_meaning.specs.Operators.{or_kind}
 use Rattle.st_meaning.specs.Resolution.{own_kind, resolved_expr, member_read}
 use Rattle.st_rules.specs.Environments.{Environment}
@@ -27,10 +27,10 @@ written_value env v m is = record {
   tree = λ offered. ap (λ o. literal (literal_of v o)) (sym is);
 }
 
--- a name alone, by the type of the variable that has it, and by the value that it stands for
+-- a name alone, by the type of the variable that has it, and by the value for which it stands
 abbrev kind_of_alone : Environment → Identifier → Option VariableType → Option Kind
 kind_of_alone env x o = or_kind
-    (option_and_then (kind_among env.text.types) (option_and_then (type_behind env.text no_selectors) o))
+    (option_and_then (kind_among env.text.types) (option_and_then (type_after_selectors env.text no_selectors) o))
     (option_map (λ (n : Member). n.kind) (if is_some o then None else member_named env.text.types x.name))
 
 abbrev tree_of : Identifier → Option Member → Expr

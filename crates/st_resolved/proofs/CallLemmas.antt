@@ -1,4 +1,4 @@
--- Calls, from what is resolved of their arguments.
+-- Calls, from the resolutions of their arguments.
 use Rattle.std.proofs.Common.{◌≡◌, ◌∙◌, sym, ap, subst, refl, ℕ, zero, suc, ◌+◌, List, [], ◌∷◌, ◌++◌, length, drop, map, arith}
 use Rattle.std.proofs.Common.{Option, Some, None}
 use Rattle.std.specs.Prelude.{option_and_then}
@@ -20,9 +20,9 @@ use Rattle.st_rules.specs.Environments.{Environment, Callee, standard, callee_of
 use Rattle.st_resolved.specs.declared.resolutions.Resolution.{Resolution}
 use Rattle.st_resolved.specs.declared.resolutions.Resolution.TheVariants.{Typed}
 use Rattle.st_resolved.specs.Calls.{kind_of_call, expected_of_call}
-use Rattle.st_resolved.specs.Resolutions.{kind_told, Resolves, ResolvesAll}
+use Rattle.st_resolved.specs.Resolutions.{resolved_kind, Resolves, ResolvesAll}
 
--- expressions, and others behind them
+-- expressions, and others after them
 abbrev pub exprs_then : List Expr → Exprs → Exprs
 exprs_then [] rest = rest
 exprs_then (e ∷ es) rest = expr_then e (exprs_then es rest)
@@ -91,14 +91,14 @@ places_all env ks es done p = all p.rest p.resolves p.same
     all no_exprs h same = sym (exprs_all done) ∙ same
     all (expr_then e rest) h same = absurd h
 
-all_told : (env : Environment) (es : Exprs) (rs : List Resolution) → ResolvesAll env es rs
-    → map kind_told rs ≡ own_kinds env.text env.unit es
-all_told env no_exprs [] h = refl
-all_told env no_exprs (r ∷ rs) h = absurd h
-all_told env (expr_then e es) [] h = absurd h
-all_told env (expr_then e es) (r ∷ rs) h = rw (h.0.kind, all_told env es rs h.1) refl
+all_restored : (env : Environment) (es : Exprs) (rs : List Resolution) → ResolvesAll env es rs
+    → map resolved_kind rs ≡ own_kinds env.text env.unit es
+all_restored env no_exprs [] h = refl
+all_restored env no_exprs (r ∷ rs) h = absurd h
+all_restored env (expr_then e es) [] h = absurd h
+all_restored env (expr_then e es) (r ∷ rs) h = rw (h.0.kind, all_restored env es rs h.1) refl
 
--- what is called, by the standard function and the unit of its name
+-- the function that is called, by the standard function and the unit of its name
 abbrev called_by : Declared → Option Standard → Option OrganisationUnit → Option Callee
 called_by text s v = elim s [
   | Some std ↦ Some (standard std)
@@ -133,20 +133,20 @@ call_expects text None (Some u) ks = sort_expects text u.sort u.blocks ks
 
 pub call_resolves : (env : Environment) (f : Identifier) (es : Exprs) (rs : List Resolution) (o : Option Callee)
     (kind : Option Kind) (whole : code_expr.Expr) (args : Exprs) → o ≡ callee_of env f.name → ResolvesAll env es rs
-    → kind ≡ kind_of_call o (map kind_told rs) → expr_view whole ≡ call f args
-    → args ≡ resolved_exprs env.text env.unit (expected_of_call o (map kind_told rs)) es
+    → kind ≡ kind_of_call o (map resolved_kind rs) → expr_view whole ≡ call f args
+    → args ≡ resolved_exprs env.text env.unit (expected_of_call o (map resolved_kind rs)) es
     → Resolves env (call f es) (Typed kind whole)
 call_resolves env f es rs o kind whole args is resolves gives seen placed =
     let s = standard_of f.name in
     let v = unit_named env.text.units f.name in
     let ks = own_kinds env.text env.unit es in
-    let told = all_told env es rs resolves in
+    let told = all_restored env es rs resolves in
     record {
       left = refl;
-      kind = gives ∙ ap (λ c. kind_of_call c (map kind_told rs)) is
+      kind = gives ∙ ap (λ c. kind_of_call c (map resolved_kind rs)) is
           ∙ ap (kind_of_call (callee_of env f.name)) told ∙ call_gives env.text s v ks;
       tree = λ offered. seen ∙ ap (call f) (placed
-          ∙ ap (λ c. resolved_exprs env.text env.unit (expected_of_call c (map kind_told rs)) es) is
+          ∙ ap (λ c. resolved_exprs env.text env.unit (expected_of_call c (map resolved_kind rs)) es) is
           ∙ ap (λ ls. resolved_exprs env.text env.unit (expected_of_call (callee_of env f.name) ls) es) told
           ∙ ap (λ ls. resolved_exprs env.text env.unit ls es) (call_expects env.text s v ks));
     }

@@ -8,7 +8,7 @@ among_first zero i k h = absurd (omega arith)
 among_first (suc n) zero k h = refl
 among_first (suc n) (suc i) k h = among_first n i k (omega arith)
 
--- behind the first
+-- after the first
 pub behind_first : (k l : Option Kind) (ks : List (Option Kind)) (i : ℕ) → i ≢ 0
     → first_kind (drop i (k ∷ ks)) ≡ first_kind (drop i (l ∷ ks))
 behind_first k l ks zero h = absurd (h refl)

@@ -1,4 +1,4 @@
--- Initial values, by what is resolved of their parts.
+-- Initial values, by the resolutions of their parts.
 use Rattle.std.proofs.Common.{◌≡◌, ◌∙◌, ap, ℕ, List, Option, map}
 use Rattle.st_types.specs.declared.identifier.Identifier.{Identifier}
 use Rattle.st_types.specs.declared.data_type.VariableType.{VariableType}
@@ -24,7 +24,7 @@ pub structure_resolved : (text : Declared) (t : Option VariableType) (at : ℕ) 
 structure_resolved text t at xs ys each =
     ap (λ zs. structure at (members_of zs)) each ∙ ap (structure at) (members_resolved text t xs)
 
--- a member of a structure, by what is resolved of its value
+-- a member of a structure, by the resolution of its value
 pub member_resolved : (text : Declared) (t u : Option VariableType) (x y : Identifier) (v w : Initial)
     → u ≡ field_of text t x.name → y ≡ x → w ≡ resolved_initial text u v
     → pair y w ≡ resolved_member text t (x, v)

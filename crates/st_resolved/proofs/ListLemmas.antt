@@ -14,6 +14,7 @@ use Rattle.st_meaning.specs.Resolution.{resolved_selector, resolved_selectors}
 use Rattle.st_meaning.specs.ResolvedUnits.{resolved_stmt, resolved_stmts, resolved_arms, resolved_case_arms}
 use Rattle.st_meaning.specs.ResolvedUnits.{resolved_element, resolved_elements, resolved_members}
 use Rattle.st_resolved.specs.Arms.{resolved_arm, resolved_case_arm, resolved_member}
+use Rattle.st_types.proofs.ListLemmas.{map_drop_next}
 
 pub selectors_resolved : (text : Declared) (u : OrganisationUnit) (xs : List Selector)
     → selectors_of (map (resolved_selector text u) xs) ≡ resolved_selectors text u (selectors_of xs)
@@ -48,11 +49,7 @@ members_resolved text t [] = refl
 members_resolved text t (m ∷ xs) =
     let x = resolved_member text t m in ap (member_then x.0 x.1) (members_resolved text t xs)
 
-left_viewed : {A B : Type 0} (v : A → B) (xs : List A) (i : ℕ) (x : A) → i < length xs → x ≡ slice_index_or xs i x
-    → map v (drop i xs) ≡ v x ∷ map v (drop (i + 1) xs)
-left_viewed v xs i x h is = ap (map v) (drop_more xs i x h ∙ ap (λ y. y ∷ drop (i + 1) xs) (sym is))
-
--- what is resolved and what is left to resolve are the whole after one turn
+-- the resolved part and the rest are the whole after one turn
 pub resolved_turn : {A B : Type 0} (v : A → B) (f : B → B) (xs : List A) (i : ℕ) (x : A) (all : List B)
     (done next : List A) (new : A) → i < length xs → x ≡ slice_index_or xs i x
     → map v done ++ map f (map v (drop i xs)) ≡ all → next ≡ done ++ new ∷ [] → v new ≡ f (v x)
@@ -61,7 +58,7 @@ resolved_turn v f xs i x all done next new h is before pushed one =
     let left = map f (map v (drop (i + 1) xs)) in
     ap (λ ys. map v ys ++ left) pushed ∙ ap (λ ys. ys ++ left) (map-append v done (new ∷ []))
     ∙ append_assoc (map v done) (v new ∷ []) left ∙ ap (λ y. map v done ++ y ∷ left) one
-    ∙ ap (λ ys. map v done ++ map f ys) (sym (left_viewed v xs i x h is)) ∙ before
+    ∙ ap (λ ys. map v done ++ map f ys) (sym (map_drop_next v xs i x h is)) ∙ before
 
 -- nothing is left after the last turn
 pub all_resolved : {A B : Type 0} (v : A → B) (f : B → B) (xs : List A) (i : ℕ) (all : List B) (done : List A)
@@ -69,7 +66,7 @@ pub all_resolved : {A B : Type 0} (v : A → B) (f : B → B) (xs : List A) (i :
 all_resolved v f xs i all done end whole =
     sym (append-nil (map v done)) ∙ sym (ap (λ ys. map v done ++ map f (map v ys)) (drop_all i xs end)) ∙ whole
 
--- the same of copies, seen by a view or as they are
+-- the same for copies, seen by a view or as they are
 pub viewed_turn : {A B : Type 0} (v : A → B) (xs : List A) (i : ℕ) (x : A) (all : List B) (done next : List A) (new : A)
     → i < length xs → x ≡ slice_index_or xs i x → map v done ++ map v (drop i xs) ≡ all → next ≡ done ++ new ∷ []
     → v new ≡ v x → map v next ++ map v (drop (i + 1) xs) ≡ all
@@ -77,7 +74,7 @@ viewed_turn v xs i x all done next new h is before pushed one =
     let left = map v (drop (i + 1) xs) in
     ap (λ ys. map v ys ++ left) pushed ∙ ap (λ ys. ys ++ left) (map-append v done (new ∷ []))
     ∙ append_assoc (map v done) (v new ∷ []) left ∙ ap (λ y. map v done ++ y ∷ left) one
-    ∙ ap (λ ys. map v done ++ ys) (sym (left_viewed v xs i x h is)) ∙ before
+    ∙ ap (λ ys. map v done ++ ys) (sym (map_drop_next v xs i x h is)) ∙ before
 
 pub copied_turn : {A : Type 0} (xs : List A) (i : ℕ) (x : A) (all done next : List A) (new : A) → i < length xs
     → x ≡ slice_index_or xs i x → done ++ drop i xs ≡ all → next ≡ done ++ new ∷ [] → new ≡ x

@@ -13,6 +13,7 @@ use Rattle.st_meaning.specs.Resolution.{resolved_variable}
 use Rattle.st_rules.specs.Environments.{Environment}
 use Rattle.st_resolved.specs.declared.resolutions.Resolution.TheVariants.{Typed}
 use Rattle.st_resolved.specs.Resolutions.{Resolves}
+use Rattle.st_rules.proofs.TypingLaws.{or_nothing}
 
 zero_told : (n : ℕ) → true ≡ (n == 0) → n ≡ 0
 zero_told n h = grind (arith, nat_tests)
@@ -27,10 +28,6 @@ none_there (x ∷ xs) n h e = let none = zero_told n h in absurd (omega arith)
 
 pub some_there : {X : Type 0} (xs : List X) (n : ℕ) → false ≡ (n == 0) → n ≡ length xs → xs ≡ [] → ⊥
 some_there xs n h e none = zero_denied n h (e ∙ ap length none)
-
-or_nothing : (o : Option Kind) → or_kind o None ≡ o
-or_nothing None = refl
-or_nothing (Some k) = refl
 
 pub selected_resolves : (env : Environment) (x : Identifier) (xs : List Selector) (kind : Option Kind)
     (whole : code_expr.Expr) → (xs ≡ [] → ⊥)

@@ -1,4 +1,4 @@
--- Untyped operations, by what their operands take.
+-- Untyped operations, by the types that their operands take.
 use Rattle.std.proofs.Common.{◌≡◌, ◌∙◌, sym, ap, refl, Bool, true, false, ◌&&◌, Option, Some, None}
 use Rattle.std.specs.Prelude.{if◌then◌else◌}
 use Rattle.std.proofs.lemmas.Bool.{and_parts}
@@ -8,13 +8,7 @@ use Rattle.st_types.specs.Expressions.{Expr, binary}
 use Rattle.st_meaning.specs.Resolution.{is_joining, is_untyped, own_kind, expected_of_both, operand_kind, resolved_expr}
 use Rattle.st_rules.specs.Environments.{Environment}
 
-pub left_untyped : (b : Bool) (l r : Expr) → (b && is_untyped l && is_untyped r) ≡ true → is_untyped l ≡ true
-left_untyped b l r h = (and_parts b (is_untyped l) (and_parts (b && is_untyped l) (is_untyped r) h).0).1
-
-pub right_untyped : (b : Bool) (l r : Expr) → (b && is_untyped l && is_untyped r) ≡ true → is_untyped r ≡ true
-right_untyped b l r h = (and_parts (b && is_untyped l) (is_untyped r) h).1
-
--- untyped operands of an operator that joins them are offered what the whole is
+-- untyped operands of an operator that joins them are offered the same type as the whole
 offered_through : (j a b : Bool) (k m n : Option Kind) → (j && a && b) ≡ true
     → k ≡ expected_of_both (if j then k else None) m n a b
 offered_through true true true k m n h = refl

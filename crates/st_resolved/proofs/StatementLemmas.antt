@@ -1,4 +1,4 @@
--- Statements, by what is resolved of their parts.
+-- Statements, by the resolutions of their parts.
 use Rattle.std.proofs.Common.{◌≡◌, ◌∙◌, ap, List, map, Option, Some, None}
 use Rattle.std.specs.Prelude.{option_map}
 use Rattle.st_types.specs.declared.identifier.Identifier.{Identifier}

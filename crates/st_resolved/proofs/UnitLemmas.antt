@@ -1,4 +1,4 @@
--- Units, by what is resolved of their parts.
+-- Units, by the resolutions of their parts.
 use Rattle.std.proofs.Common.{◌≡◌, ◌∙◌, ap, List, map}
 use Rattle.st_types.specs.declared.identifier.Identifier.{Identifier}
 use Rattle.st_types.specs.declared.unit.UnitSort.{UnitSort}

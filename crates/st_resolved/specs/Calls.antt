@@ -1,4 +1,4 @@
--- What a call expects and gives, by the function that its name calls.
+-- The types that a call expects and gives, by the function that its name calls.
 use Rattle.std.specs.Prelude.{List, [], Option, Some, None}
 use Rattle.st_types.specs.declared.kind.Kind.{Kind}
 use Rattle.st_meaning.specs.Resolution.{standard_kind, expected_kinds}

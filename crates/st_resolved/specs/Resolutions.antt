@@ -1,4 +1,4 @@
--- What is told of an expression by itself, before its place offers it a type.
+-- The resolution of an expression by itself, before its place offers it a type.
 use Rattle.std.specs.Prelude.{◌≡◌, ℕ, List, [], ◌∷◌, Bool, true, false, Option, Some, None}
 use Rattle.st_types.specs.declared.kind.Kind.{Kind}
 use Rattle.st_types.specs.declared.literal.Literal.TheVariants as literals
@@ -15,23 +15,23 @@ abbrev pub is_left : Resolution → Bool
 is_left (Untyped e) = true
 is_left (Typed k e) = false
 
-abbrev pub kind_told : Resolution → Option Kind
-kind_told (Untyped e) = None
-kind_told (Typed k e) = k
+abbrev pub resolved_kind : Resolution → Option Kind
+resolved_kind (Untyped e) = None
+resolved_kind (Typed k e) = k
 
 -- the expression as far as it is resolved
-abbrev pub tree_told : Resolution → Expr
-tree_told (Untyped e) = expr_view e
-tree_told (Typed k e) = expr_view e
+abbrev pub resolved_tree : Resolution → Expr
+resolved_tree (Untyped e) = expr_view e
+resolved_tree (Typed k e) = expr_view e
 
--- the expression itself, or what it is resolved to whatever its place offers
+-- the expression itself, or its resolved form whatever its place offers
 abbrev pub HasTree : Environment → Expr → Resolution → Type 0
 HasTree env e (Untyped x) = expr_view x ≡ e
 HasTree env e (Typed k x) = (offered : Option Kind) → expr_view x ≡ resolved_expr env.text env.unit offered e
 
 pub record Resolves (env : Environment) (e : Expr) (r : Resolution) : Type 0 where
   pub left : is_left r ≡ is_untyped e
-  pub kind : kind_told r ≡ own_kind env.text env.unit e
+  pub kind : resolved_kind r ≡ own_kind env.text env.unit e
   pub tree : HasTree env e r
 
 -- each of a list of expressions

@@ -1,4 +1,4 @@
-//! What is resolved of literals and of names alone.
+//! Resolutions of literals and of names alone.
 
 ghost use Rattle.std.specs.Prelude.{◌≡◌, IfOk};
 ghost use Rattle.st_types.specs.declared.literal.Literal.TheVariants as literals;
@@ -19,7 +19,7 @@ use st_types::{EnumeratedValue, Expr, Identifier, Kind, Literal, Number, Variabl
 use std::alloc::{AllocError, Global};
 use symbols::{Member, TextTables, UnitNames};
 
-/// What is resolved of a number: nothing, where no type is written.
+/// The resolution of a number: untyped if no type is written.
 fn resolved_number(number: Number) -> Resolution
     ensures { (env : Environment) → Resolves env (literal (literals.Number number)) result }
 {
@@ -56,7 +56,7 @@ fn resolved_value(
     }
 }
 
-/// What is resolved of a literal.
+/// The resolution of a literal.
 pub fn resolved_literal(
     alloc: Global,
     tables: &TextTables,
@@ -86,7 +86,7 @@ fn variable_of(alloc: Global, name: &Identifier) -> Result<Expr, AllocError>
     Ok(Expr::variable(Variable::new(name.copied(alloc)?, Vec::new(alloc))))
 }
 
-/// What is resolved of a name alone: a variable where the unit has one, else a value of an enumerated type.
+/// The resolution of a name alone: a variable if the unit has one, else a value of an enumerated type.
 pub fn resolved_alone(
     alloc: Global,
     names: &UnitNames,

@@ -1,4 +1,4 @@
-//! Calls of functions, from what is resolved of their arguments.
+//! Calls of functions, from the resolutions of their arguments.
 
 ghost use Rattle.std.specs.Prelude.{◌≡◌, IfOk, map, option_map};
 ghost use Rattle.st_types.specs.Expressions as tree;
@@ -9,7 +9,7 @@ ghost use Rattle.st_rules.specs.Environments.{Environment};
 ghost use Rattle.st_rules.specs.Typings.{common_of};
 ghost use Rattle.symbols.specs.Tables.{ServesTables, callee_view};
 ghost use Rattle.st_resolved.specs.Calls.{expected_of_call};
-ghost use Rattle.st_resolved.specs.Resolutions.{kind_told, Resolves, ResolvesAll};
+ghost use Rattle.st_resolved.specs.Resolutions.{resolved_kind, Resolves, ResolvesAll};
 
 use crate::expected::{common_of, expected_at, kind_of_call};
 use crate::resolutions::{Resolution, at_place};
@@ -25,9 +25,9 @@ fn arguments_at_places(
     parts: Vec<Resolution>,
 ) -> Result<Vec<Expr>, AllocError>
     ensures { IfOk result (λ list. (env : Environment) (es : tree.Exprs) → ResolvesAll env es parts.items
-        → common ≡ common_of (option_map callee_view callee.entry) (map kind_told parts.items)
+        → common ≡ common_of (option_map callee_view callee.entry) (map resolved_kind parts.items)
         → exprs_of (map expr_view list.items) ≡ resolved_exprs env.text env.unit
-        (expected_of_call (option_map callee_view callee.entry) (map kind_told parts.items)) es) }
+        (expected_of_call (option_map callee_view callee.entry) (map resolved_kind parts.items)) es) }
 {
     let mut arguments = Vec::new(alloc);
     for part in parts {
@@ -37,7 +37,7 @@ fn arguments_at_places(
     Ok(arguments)
 }
 
-/// What is resolved of a call.
+/// The resolution of a call.
 pub fn called(
     alloc: Global,
     tables: &TextTables,

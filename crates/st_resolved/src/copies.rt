@@ -17,7 +17,7 @@ fn copied_name(alloc: Global, name: &Option<Name>) -> Result<Option<Name>, Alloc
     }
 }
 
-/// Another value of an enumerated type, written alike.
+/// Another value of an enumerated type, with the same spelling.
 pub fn copied_value(alloc: Global, value: &EnumeratedValue) -> Result<EnumeratedValue, AllocError>
     ensures { IfOk result (λ x. x ≡ value.now) }
 {

@@ -22,7 +22,7 @@ use st_typing::taken_kind;
 use std::alloc::{AllocError, Global};
 use symbols::{FieldNames, TextTables, place_type};
 
-/// An array, of which a bound that has no type is a LINT.
+/// An array; a bound that has no type is a LINT.
 fn resolved_array(alloc: Global, array: &ArrayType) -> Result<ArrayType, AllocError>
     ensures { IfOk result (λ a. a ≡ resolved_array array.now) }
 {
@@ -44,7 +44,7 @@ pub fn resolved_type(alloc: Global, declared: &VariableType) -> Result<VariableT
     }
 }
 
-/// The initial value of a declaration, where it has one.
+/// The initial value of a declaration, if it has one.
 pub fn resolved_start<'a>(
     alloc: Global,
     tables: &TextTables<'a>,

@@ -7,40 +7,43 @@ ghost use Rattle.st_rules.specs.Typings.{common_of};
 ghost use Rattle.symbols.specs.Standard.{standard_view};
 ghost use Rattle.symbols.specs.Tables.{callee_view};
 ghost use Rattle.st_resolved.specs.Calls.{kind_of_call, expected_of_call};
-ghost use Rattle.st_resolved.specs.Resolutions.{kind_told};
+ghost use Rattle.st_resolved.specs.Resolutions.{resolved_kind};
 
-use crate::resolutions::{Resolution, kind_told};
+use crate::resolutions::{Resolution, resolved_kind};
 use st_types::Kind;
 use st_typing::or_kind;
 use symbols::{Callee, Signature, Standard};
 
-fn first_told(parts: &[Resolution]) -> Option<Kind>
-    ensures { result ≡ first_kind (map kind_told parts.now) }
+fn first_resolved_kind(parts: &[Resolution]) -> Option<Kind>
+    ensures { result ≡ first_kind (map resolved_kind parts.now) }
 {
     match parts {
-        [first, ..] => kind_told(first),
+        [first, ..] => resolved_kind(first),
         [] => None,
     }
 }
 
 /// The common type of a standard function's operands.
 fn common_kind(called: Standard, parts: &[Resolution]) -> Option<Kind>
-    ensures { result ≡ common_kind (standard_view called) (map kind_told parts.now) }
+    ensures { result ≡ common_kind (standard_view called) (map resolved_kind parts.now) }
 {
     match (called, parts) {
-        (Standard::Min, [a, b]) => or_kind(kind_told(a), kind_told(b)),
-        (Standard::Max, [a, b]) => or_kind(kind_told(a), kind_told(b)),
+        (Standard::Min, [a, b]) => or_kind(resolved_kind(a), resolved_kind(b)),
+        (Standard::Max, [a, b]) => or_kind(resolved_kind(a), resolved_kind(b)),
         (Standard::Limit, [a, b, c]) => {
-            or_kind(kind_told(a), or_kind(kind_told(b), kind_told(c)))
+            or_kind(
+                resolved_kind(a),
+                or_kind(resolved_kind(b), resolved_kind(c)),
+            )
         }
-        (Standard::Sel, [_, a, b]) => or_kind(kind_told(a), kind_told(b)),
-        _ => first_told(parts),
+        (Standard::Sel, [_, a, b]) => or_kind(resolved_kind(a), resolved_kind(b)),
+        _ => first_resolved_kind(parts),
     }
 }
 
 /// The common type of a call's arguments.
 pub fn common_of(callee: Option<Callee>, parts: &[Resolution]) -> Option<Kind>
-    ensures { result ≡ common_of (option_map callee_view callee.entry) (map kind_told parts.now) }
+    ensures { result ≡ common_of (option_map callee_view callee.entry) (map resolved_kind parts.now) }
 {
     match callee {
         Some(Callee::Standard(called)) => common_kind(called, parts),
@@ -70,7 +73,7 @@ pub fn kind_of_call(callee: Option<Callee>, common: Option<Kind>) -> Option<Kind
     }
 }
 
-/// The type of each of so many arguments.
+/// The type of each of `count` arguments.
 fn among(count: usize, kind: Option<Kind>, index: usize) -> Option<Kind>
     ensures { result ≡ first_kind (drop index (replicate count kind)) }
 {

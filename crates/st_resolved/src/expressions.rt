@@ -17,7 +17,7 @@ use st_types::{Expr, Kind, Selector, Variable};
 use std::alloc::{AllocError, Global};
 use symbols::UnitNames;
 
-/// What is resolved of an expression by itself.
+/// The resolution of an expression by itself.
 #[cycle(resolve)]
 pub fn resolve(
     alloc: Global,
@@ -66,7 +66,7 @@ fn resolve_all(
     Ok(parts)
 }
 
-/// What is resolved of a variable or a value of an enumerated type.
+/// The resolution of a variable or a value of an enumerated type.
 #[cycle(resolve)]
 fn resolved_read(
     alloc: Global,

@@ -3,7 +3,7 @@
 ghost use Rattle.std.specs.Prelude.{◌≡◌, IfOk, map, option_map};
 ghost use Rattle.st_types.specs.InitialViews.{initial_view, element_view, member_view};
 ghost use Rattle.st_meaning.specs.NameTypes.{Declared};
-ghost use Rattle.st_meaning.specs.ResolvedUnits.{element_of, field_of, resolved_initial, resolved_element};
+ghost use Rattle.st_meaning.specs.ResolvedUnits.{element_of, resolved_initial, resolved_element};
 ghost use Rattle.symbols.specs.Fields.{ServesFields};
 ghost use Rattle.symbols.specs.PlaceTypes.{place_type_view};
 ghost use Rattle.symbols.specs.Tables.{ServesTables};
@@ -11,10 +11,11 @@ ghost use Rattle.st_resolved.specs.Arms.{resolved_member};
 
 use crate::kinds::kind_there;
 use crate::literals::{taking_literal, taking_number};
-use st_types::{Initial, InitialElement, InitialMember, Name, SimpleType};
+use st_decl::field_of;
+use st_types::{Initial, InitialElement, InitialMember};
 use st_typing::taken_kind;
 use std::alloc::{AllocError, Global};
-use symbols::{FieldNames, PlaceType, TextTables, place_type};
+use symbols::{FieldNames, PlaceType, TextTables};
 
 /// The type of an array's elements.
 fn element_of<'a>(tables: &TextTables<'a>, declared: Option<PlaceType<'a>>) -> Option<PlaceType<'a>>
@@ -24,26 +25,6 @@ fn element_of<'a>(tables: &TextTables<'a>, declared: Option<PlaceType<'a>>) -> O
     match declared {
         Some(declared) => tables.element_type(declared),
         None => None,
-    }
-}
-
-/// The type of a structure's field.
-fn field_of<'a>(
-    fields: &FieldNames<'a>,
-    declared: Option<PlaceType<'a>>,
-    name: &Name,
-) -> Option<PlaceType<'a>>
-    ensures { (text : Declared) → ServesFields fields.now text → option_map place_type_view result
-        ≡ field_of text (option_map place_type_view declared.entry) name.now }
-{
-    match declared {
-        Some(PlaceType::Simple(SimpleType::Named(structure))) => {
-            match fields.field(&structure.name, name) {
-                Some(field) => Some(place_type(field)),
-                None => None,
-            }
-        }
-        _ => None,
     }
 }
 

@@ -11,10 +11,10 @@ ghost use Rattle.symbols.specs.Tables.{ServesTables};
 
 use st_rules::Typing;
 use st_types::{Kind, Variable};
-use st_typing::type_behind;
+use st_typing::type_after_selectors;
 use symbols::{PlaceType, TextTables, UnitNames};
 
-/// The elementary or enumerated type that a type is.
+/// The type, if it is elementary or enumerated.
 pub fn kind_of_type(tables: &TextTables, declared: PlaceType) -> Option<Kind>
     ensures { (text : Declared) → ServesTables tables.now text
         → result ≡ kind_among text.types (place_type_view declared.entry) }
@@ -25,7 +25,7 @@ pub fn kind_of_type(tables: &TextTables, declared: PlaceType) -> Option<Kind>
     }
 }
 
-/// The elementary or enumerated type that is there.
+/// The type, if there is one and it is elementary or enumerated.
 pub fn kind_there(tables: &TextTables, declared: Option<PlaceType>) -> Option<Kind>
     ensures { (text : Declared) → ServesTables tables.now text
         → result ≡ kind_there text (option_map place_type_view declared.entry) }
@@ -44,7 +44,7 @@ pub fn kind_of_variable(names: &UnitNames, variable: &Variable) -> Option<Kind>
     match names.type_of_name(&variable.name.name) {
         Some(declared) => kind_there(
             names.tables,
-            type_behind(names.tables, declared, &variable.selectors),
+            type_after_selectors(names.tables, declared, &variable.selectors),
         ),
         None => None,
     }

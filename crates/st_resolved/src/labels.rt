@@ -15,7 +15,7 @@ use st_typing::taken_kind;
 use std::alloc::{AllocError, Global};
 use symbols::TextTables;
 
-/// A label that is a name: the number of a value, where it stands for one.
+/// A label that is a name: the number of a value, if it stands for one.
 fn named_label(
     alloc: Global,
     tables: &TextTables,

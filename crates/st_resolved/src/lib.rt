@@ -1,8 +1,8 @@
 //! The resolved tree of a text: that of its parse, in which each literal has its type, and each name of a value of an
 //! enumerated type is a number of its type.
 //!
-//! The tree is built in one pass, from its leaves up: what is of literals without a type alone waits for its place to
-//! tell a type, and takes it once.
+//! The tree is built in one pass, from its leaves up: an expression of only untyped literals waits until its place offers a
+//! type, and takes it once.
 #![tactic(auto)]
 
 mod alone;

@@ -20,7 +20,7 @@ fn member_of_reading(reading: Reading) -> Option<Member>
     }
 }
 
-/// The value that a name alone stands for.
+/// The value for which a name alone stands.
 pub fn member_named(tables: &TextTables, name: &Name) -> Option<Member>
     ensures { (text : Declared) → ServesTables tables.now text
         → option_map member_view result ≡ member_named text.types name.now }
@@ -28,7 +28,7 @@ pub fn member_named(tables: &TextTables, name: &Name) -> Option<Member>
     member_of_reading(tables.reading_of_name(name))
 }
 
-/// The value that is written so.
+/// The value of this spelling.
 pub fn member_written(tables: &TextTables, value: &EnumeratedValue) -> Option<Member>
     ensures { (text : Declared) → ServesTables tables.now text
         → option_map member_view result ≡ member_written text.types value.now }
@@ -36,7 +36,7 @@ pub fn member_written(tables: &TextTables, value: &EnumeratedValue) -> Option<Me
     member_of_reading(tables.reading_written(value))
 }
 
-/// The number of a value, with its type, where a name stands for it.
+/// The number of a value, with its type, in place of a name that stands for it.
 pub fn number_of_member(place: usize, member: Member) -> Number
     ensures { result ≡ number_of_member place (member_view member) }
 {

@@ -1,4 +1,4 @@
-//! Operations, from what is resolved of their operands.
+//! Operations, from the resolutions of their operands.
 
 ghost use Rattle.std.specs.Prelude.{◌≡◌, ◌&&◌, if◌then◌else◌, Some, None, IfOk};
 ghost use Rattle.st_types.specs.declared.kind.Kind.TheVariants.{Bool};
@@ -7,29 +7,29 @@ ghost use Rattle.st_types.specs.Expressions.{parenthesis, unary, binary};
 ghost use Rattle.st_meaning.specs.Operators.{or_kind};
 ghost use Rattle.st_meaning.specs.Resolution.{is_joining, expected_of_both};
 ghost use Rattle.st_rules.specs.Environments.{Environment};
-ghost use Rattle.st_resolved.specs.Resolutions.{is_left, kind_told, Resolves};
+ghost use Rattle.st_resolved.specs.Resolutions.{is_left, resolved_kind, Resolves};
 
-use crate::resolutions::{Resolution, at_place, into_tree, is_left, kind_told};
+use crate::resolutions::{Resolution, at_place, into_tree, is_left, resolved_kind};
 use st_types::{BinaryOperator, Expr, Kind, UnaryOperator};
 use st_typing::{is_joining, or_kind};
 use std::alloc::{AllocError, Global};
 
-/// Whether an operation is of literals without a type alone.
+/// Whether an operation has only untyped literals.
 fn stays_untyped(operator: BinaryOperator, left: &Resolution, right: &Resolution) -> bool
     ensures { result ≡ (is_joining operator && is_left left.now && is_left right.now) }
 {
     is_joining(operator) && is_left(left) && is_left(right)
 }
 
-/// What the operands of an operation are offered that is not of literals without a type alone.
+/// The type offered to the operands of an operation that doesn't have only untyped literals.
 fn offered_to_operands(left: &Resolution, right: &Resolution) -> Option<Kind>
     ensures { result
-        ≡ expected_of_both None (kind_told left.now) (kind_told right.now) (is_left left.now) (is_left right.now) }
+        ≡ expected_of_both None (resolved_kind left.now) (resolved_kind right.now) (is_left left.now) (is_left right.now) }
 {
     match (is_left(left), is_left(right)) {
         (true, true) => None,
-        (true, false) => kind_told(right),
-        (false, _) => kind_told(left),
+        (true, false) => resolved_kind(right),
+        (false, _) => resolved_kind(left),
     }
 }
 
@@ -40,16 +40,16 @@ fn kind_of_operation(
     right: &Resolution,
 ) -> Option<Kind>
     ensures { result
-        ≡ (if is_joining operator then or_kind (kind_told left.now) (kind_told right.now) else Some Bool) }
+        ≡ (if is_joining operator then or_kind (resolved_kind left.now) (resolved_kind right.now) else Some Bool) }
 {
     if is_joining(operator) {
-        or_kind(kind_told(left), kind_told(right))
+        or_kind(resolved_kind(left), resolved_kind(right))
     } else {
         Some(Kind::Bool)
     }
 }
 
-/// What is resolved of an operation with two operands.
+/// The resolution of an operation with two operands.
 pub fn operation(
     alloc: Global,
     operator: BinaryOperator,
@@ -70,7 +70,7 @@ pub fn operation(
     Ok(Resolution::Typed(kind, Expr::binary(alloc, operator, left, right)?))
 }
 
-/// What is resolved of an operator before its operand.
+/// The resolution of an operator before its operand.
 pub fn negated(
     alloc: Global,
     operator: UnaryOperator,
@@ -90,7 +90,7 @@ pub fn negated(
     }
 }
 
-/// What is resolved of an expression in parentheses.
+/// The resolution of an expression in parentheses.
 pub fn parenthesized(
     alloc: Global,
     place: usize,

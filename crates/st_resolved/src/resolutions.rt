@@ -1,11 +1,11 @@
-//! What is resolved of an expression by itself.
+//! The resolution of an expression by itself.
 
 ghost use Rattle.std.specs.Prelude.{◌≡◌};
 ghost use Rattle.st_types.specs.Expressions as tree;
 ghost use Rattle.st_types.specs.ExpressionViews.{expr_view};
 ghost use Rattle.st_meaning.specs.Resolution.{resolved_expr};
 ghost use Rattle.st_rules.specs.Environments.{Environment};
-ghost use Rattle.st_resolved.specs.Resolutions.{is_left, kind_told, tree_told, Resolves};
+ghost use Rattle.st_resolved.specs.Resolutions.{is_left, resolved_kind, resolved_tree, Resolves};
 
 use crate::settling::settle;
 use st_types::{Expr, Kind};
@@ -13,9 +13,9 @@ use st_types::{Expr, Kind};
 /// An expression that is resolved as far as it can be without its place.
 #[derive(Drop)]
 pub enum Resolution {
-    /// Of literals without a type alone, which wait for the type that their place offers.
+    /// Of only untyped literals, which wait for the type that their place offers.
     Untyped(Expr),
-    /// Resolved, with its elementary or enumerated type, where it has one.
+    /// Resolved, with its elementary or enumerated type, if it has one.
     Typed(Option<Kind>, Expr),
 }
 
@@ -27,8 +27,8 @@ pub fn is_left(resolution: &Resolution) -> bool
 }
 
 /// The type that the expression has by itself.
-pub fn kind_told(resolution: &Resolution) -> Option<Kind>
-    ensures { result ≡ kind_told resolution.now }
+pub fn resolved_kind(resolution: &Resolution) -> Option<Kind>
+    ensures { result ≡ resolved_kind resolution.now }
 {
     match resolution {
         Resolution::Untyped(_) => None,
@@ -38,7 +38,7 @@ pub fn kind_told(resolution: &Resolution) -> Option<Kind>
 
 /// The expression as far as it is resolved.
 pub fn into_tree(resolution: Resolution) -> Expr
-    ensures { expr_view result ≡ tree_told resolution }
+    ensures { expr_view result ≡ resolved_tree resolution }
 {
     match resolution {
         Resolution::Untyped(expression) => expression,

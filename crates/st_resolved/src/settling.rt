@@ -1,4 +1,4 @@
-//! Expressions of literals without a type, which take the type that they are offered.
+//! Expressions of untyped literals, which take the type that they are offered.
 
 ghost use Rattle.std.specs.Prelude.{◌≡◌, true};
 ghost use Rattle.st_types.specs.ExpressionViews.{expr_view};

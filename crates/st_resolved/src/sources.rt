@@ -57,7 +57,7 @@ fn resolved_elements<'a>(
     Ok(resolved)
 }
 
-/// What the names of a text with these types stand for.
+/// The meanings of the names of a text with these types.
 fn tables_of<'a>(
     alloc: Global,
     source: &'a Source,
@@ -71,9 +71,9 @@ fn tables_of<'a>(
     TextTables::new(alloc, names, types, &units)
 }
 
-/// The resolved tree of a text, whatever the text: the tree of its parse, in which each literal has its type and each
-/// name of a value of an enumerated type is a number of its type. It fails for want of memory alone; a type with more
-/// names than its rule allows may count as that.
+/// The resolved tree of a text, whatever the text: the tree of its parse, in which each literal has its type and each name
+/// of a value of an enumerated type is a number of its type. The only error is out of memory; a type with more names than
+/// its rule allows may count as that.
 pub fn resolved_source(alloc: Global, source: &Source) -> Result<Source, AllocError>
     ensures { IfOk result (λ s. source_view s ≡ resolved_source (source_view source.now)) }
 {

@@ -14,7 +14,7 @@ use crate::expressions::{resolve, resolved_expr};
 use crate::invocations::{resolved_assignment, resolved_invocation};
 use crate::kinds::kind_there;
 use crate::labels::resolved_labels;
-use crate::resolutions::{at_place, kind_told};
+use crate::resolutions::{at_place, resolved_kind};
 use st_types::{Arm, CaseArm, Expr, Kind, Name, Stmt};
 use std::alloc::{AllocError, Global};
 use symbols::UnitNames;
@@ -27,7 +27,7 @@ fn kind_of_name(names: &UnitNames, name: &Name) -> Option<Kind>
     kind_there(names.tables, names.type_of_name(name))
 }
 
-/// What stands after BY.
+/// The number after BY.
 fn resolved_step(
     alloc: Global,
     names: &UnitNames,
@@ -63,7 +63,7 @@ fn resolved_stmt(alloc: Global, names: &UnitNames, statement: &Stmt) -> Result<S
         }
         Stmt::Case(selector, arms, otherwise) => {
             let selector = resolve(alloc, names, selector)?;
-            let kind = kind_told(&selector);
+            let kind = resolved_kind(&selector);
             let selector = at_place(None, selector);
             let arms = resolved_case_arms(alloc, names, kind, arms)?;
             let otherwise = resolved_stmts(alloc, names, otherwise)?;

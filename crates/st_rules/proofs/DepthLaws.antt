@@ -1,4 +1,4 @@
--- Chains of parts tell how deep a type or unit is.
+-- Chains of parts show how deep a type or unit is.
 use Rattle.std.proofs.Common.{◌≡◌, refl, ◌∙◌, arith, ℕ, zero, suc, ◌+◌, Bool, true, false, ◌||◌}
 use Rattle.std.proofs.Common.{List, [], ◌∷◌}
 use Rattle.std.specs.Prelude.{max, nat_le}
@@ -8,15 +8,12 @@ use Rattle.st_meaning.specs.NameTypes.{Declared}
 use Rattle.st_rules.specs.Containment.{Part, parts_of, has_chain}
 use Rattle.st_rules.specs.Depths.{Among, first, later, Holds, holds_part, holds_further, HasDepth, depth, Deepest}
 use Rattle.st_rules.specs.Depths.{nothing, deepest, CyclesHaveChains, ChainsAreDepths}
-
-or_true : (b c : Bool) → c ≡ true → (b || c) ≡ true
-or_true true c h = refl
-or_true false c h = h
+use Rattle.std.proofs.lemmas.Bool.{or_right}
 
 any_among : (f : Part → Bool) (p : Part) (ps : List Part) → Among p ps → f p ≡ true → list_any f ps ≡ true
 any_among f p [] a h = elim a [ ]
 any_among f p (q ∷ ps) first h = rw h refl
-any_among f p (q ∷ ps) (later a) h = or_true (f q) (list_any f ps) (any_among f p ps a h)
+any_among f p (q ∷ ps) (later a) h = or_right (f q) (list_any f ps) (any_among f p ps a h)
 
 chain_none : (text : Declared) (p : Part) → has_chain text zero p ≡ true
 unfolding has_chain
@@ -37,7 +34,7 @@ chain_longer text zero p q a h = chain_one text p
 chain_longer text (suc n) p q a h =
     chain_more text n p ∙ any_among (has_chain text (suc n)) q (parts_of text p) a h
 
--- what leads to a cycle goes round it as often as is wanted
+-- a part that leads to a cycle goes round it as often as needed
 chain_to_cycle : (text : Declared) (n : ℕ) (p c : Part) → Holds text p c → Holds text c c → has_chain text n p ≡ true
 chain_to_cycle text zero p c h cycle = chain_none text p
 chain_to_cycle text (suc n) p c (holds_part a) cycle =

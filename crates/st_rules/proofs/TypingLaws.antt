@@ -1,4 +1,4 @@
--- The typing of an expression and its own kind are told by one another.
+-- The typing of an expression and its own kind determine each other.
 use Rattle.std.proofs.Common.{◌≡◌, Bool, true, false, ◌&&◌, List, [], ◌∷◌, Option, Some, None, refl, ap, ◌∙◌}
 use Rattle.std.specs.Prelude.{if◌then◌else◌, option_and_then, option_map, is_some}
 use Rattle.st_types.specs.declared.kind.Kind.{Kind}
@@ -84,7 +84,7 @@ kind_of_spelled text (literals.Truth at b) = refl
 kind_of_spelled text (literals.Duration at n) = refl
 kind_of_spelled text (literals.Enumerated v) = kind_of_value_of text v.name v.type_name
 
-or_nothing : (o : Option Kind) → or_kind o None ≡ o
+pub or_nothing : (o : Option Kind) → or_kind o None ≡ o
 or_nothing None = refl
 or_nothing (Some k) = refl
 
@@ -95,7 +95,7 @@ kind_of_alone : (env : Environment) (x : Name) (o : Option VariableType)
 kind_of_alone env x None = kind_of_only (members_named (enumerations_of env.text.types) x)
 kind_of_alone env x (Some t) = or_nothing (kind_among env.text.types t) ∙ kind_of_declared env.text (Some t)
 
--- `option_and_then Some` is nothing
+-- `option_and_then Some` changes nothing
 type_itself : (o : Option VariableType) → option_and_then Some o ≡ o
 type_itself None = refl
 type_itself (Some t) = refl

@@ -1,4 +1,4 @@
--- What is wrong at the statements of a unit.
+-- The faults of a unit's statements.
 use Rattle.std.specs.Prelude.{List, [], ◌++◌, Bool}
 use Rattle.std.specs.List.{flat_map}
 use Rattle.st_types.specs.Statements.{Stmt, EXIT}
@@ -17,7 +17,7 @@ abbrev pub wrong_exit : Bool → Stmt → List Broken
 wrong_exit inside (EXIT at) = breaking ExitOutsideLoop (unless inside at)
 wrong_exit inside _ = []
 
--- a statement with its expressions; the statements in it are judged for themselves
+-- a statement with its expressions; the statements in it are judged separately
 abbrev pub wrong_statement : Environment → Placed → List Broken
 wrong_statement env p =
     wrong_nodes env p.statement ++ wrong_targets env p.context p.statement ++ wrong_invocation env p.statement

@@ -9,9 +9,9 @@ use Rattle.st_rules.specs.declared.rule.Rule.TheVariants.{UnknownName, WrongType
 use Rattle.st_rules.specs.declared.rule.Broken.{Broken}
 use Rattle.st_rules.specs.Faults.{breaking, unless}
 use Rattle.st_rules.specs.Environments.{Environment, type_of_name, is_instance, input_of, output_of}
-use Rattle.st_rules.specs.Typings.{typing_of_type, typing_of_variable, is_nothing, meets}
-use Rattle.st_rules.specs.ExpressionRules.{place_of_variable}
+use Rattle.st_rules.specs.Typings.{typing_of_type, typing_of_variable, is_nothing, allows}
 use Rattle.st_rules.specs.Roots.{demand_of_type}
+use Rattle.st_meaning.specs.Resolution.{place_of_variable}
 
 abbrev pub argument_name : Argument → Identifier
 argument_name (given x e) = x
@@ -22,7 +22,7 @@ abbrev pub is_argument : Environment → Name → Argument → Bool
 is_argument env instance (given x e) = is_some (input_of env instance x.name)
 is_argument env instance (copied x v) = is_some (output_of env instance x.name)
 
--- Each argument is an input or an output of the block, and each name stands once.
+-- Each argument is an input or an output of the block, and each name occurs once.
 abbrev pub wrong_arguments : Environment → Name → List Name → List Argument → List ℕ
 wrong_arguments env instance before [] = []
 wrong_arguments env instance before (a ∷ rest) =
@@ -33,10 +33,10 @@ wrong_arguments env instance before (a ∷ rest) =
 abbrev pub wrong_copy : Environment → Name → Argument → List Broken
 wrong_copy env instance (given x e) = []
 wrong_copy env instance (copied x v) =
-    breaking WrongType (unless (meets (demand_of_type env (output_of env instance x.name)) (typing_of_variable env v))
+    breaking WrongType (unless (allows (demand_of_type env (output_of env instance x.name)) (typing_of_variable env v))
     (place_of_variable v))
 
--- what is called is an instance; of a variable of an unknown type nothing is asked
+-- the callee is an instance; for a variable of an unknown type nothing is checked
 abbrev pub wrong_instance : Environment → Identifier → List Argument → Option VariableType → List Broken
 wrong_instance env x arguments None = breaking UnknownName (x.place ∷ [])
 wrong_instance env x arguments (Some t) =

@@ -1,4 +1,4 @@
--- Why a well-typed text has no plan: its configurations, the names and types that meet there, addresses and numbers.
+-- Why a well-typed text has no plan: its configurations, the names and types that occur there, addresses and numbers.
 use Rattle.std.specs.Prelude.{ℕ, zero, suc, ◌==◌, nat_lt, List, [], ◌∷◌, length, Bool, true, false, ◌&&◌, ◌||◌, not}
 use Rattle.std.specs.Prelude.{if◌then◌else◌, Option, Some, None, is_some}
 use Rattle.std.specs.Ordering.{int_eq}
@@ -45,14 +45,14 @@ configurations_of (sources.types ts) = []
 configurations_of (sources.unit u) = []
 configurations_of (sources.configuration c) = c ∷ []
 
--- the configurations of a text, which has to have one
+-- the configurations of a text, which must have exactly one
 abbrev pub configurations_in : Source → List Configuration
 configurations_in source = flat_map configurations_of source
 
 abbrev pub has_one_configuration : Source → Bool
 has_one_configuration source = length (configurations_in source) == 1
 
--- Two simple types are one: an elementary type, or one declaration.
+-- Two simple types are the same: an elementary type, or one declaration.
 abbrev pub same_simple : SimpleType → SimpleType → Bool
 same_simple (Elementary k at) (Elementary l place) = same_kind k l
 same_simple (Named x) (Named y) = is_named x.name y
@@ -62,7 +62,7 @@ same_simple (Named x) (Elementary l place) = false
 abbrev pub same_bounds : ArrayType → ArrayType → Bool
 same_bounds a b = int_eq (number_of a.lower) (number_of b.lower) && int_eq (number_of a.upper) (number_of b.upper)
 
--- Arrays are of one type where bounds and element types are, with a name or without.
+-- Arrays have the same type if bounds and element types are the same, with a name or without.
 abbrev pub same_over : (SimpleType → SimpleType → Bool) → Option TypeDefinition → Option TypeDefinition → VariableType
     → VariableType → Bool
 same_over same (Some (declared_as.array a)) (Some (declared_as.array b)) t u =
@@ -70,7 +70,7 @@ same_over same (Some (declared_as.array a)) (Some (declared_as.array b)) t u =
 same_over same _ _ (types.Simple t) (types.Simple u) = same_simple t u
 same_over same _ _ _ _ = false
 
--- the same through at most so many arrays
+-- the same through at most `n` arrays
 unfoldable pub same_within : Declared → ℕ → VariableType → VariableType → Bool
 same_within text zero t u = false
 same_within text (suc n) t u =
@@ -80,7 +80,7 @@ same_within text (suc n) t u =
 abbrev pub same_type : Declared → VariableType → VariableType → Bool
 same_type text t u = same_within text MAX_TYPE_DEPTH t u
 
--- what no program may assign: a constant, or an input of the plant
+-- a global that no program may assign: a constant, or an input of the plant
 abbrev pub is_constant : Option GlobalQualifier → Bool
 is_constant (Some qualifiers.Constant) = true
 is_constant (Some qualifiers.Retain) = false
@@ -97,15 +97,15 @@ is_plant_input (listed xs) = false
 abbrev pub is_fixed_global : Option GlobalQualifier → GlobalNames → Bool
 is_fixed_global q names = is_constant q || is_plant_input names
 
--- An external stands for a global of its name and type, and is CONSTANT just where no program may assign the global.
-abbrev pub stands_for : Declared → Bool → VariableType → Name → Option GlobalQualifier → GlobalDeclaration → Bool
-stands_for text constant t x q d =
+-- An external stands for a global of its name and type, and is CONSTANT exactly when no program may assign the global.
+abbrev pub is_external_of : Declared → Bool → VariableType → Name → Option GlobalQualifier → GlobalDeclaration → Bool
+is_external_of text constant t x q d =
     list_any (is_named x) (listed_names d.names) && same_type text t d.declared
     && (if constant then is_fixed_global q d.names else not (is_fixed_global q d.names))
 
 abbrev pub is_known_external : Declared → List GlobalBlock → Bool → VariableType → Name → Bool
 is_known_external text blocks constant t x =
-    list_any (λ b. list_any (stands_for text constant t x b.qualifier) b.declarations) blocks
+    list_any (λ b. list_any (is_external_of text constant t x b.qualifier) b.declarations) blocks
 
 abbrev pub are_known_externals : Declared → List GlobalBlock → Bool → Declaration → Bool
 are_known_externals text blocks constant d =
@@ -119,7 +119,7 @@ is_known_section text blocks _ ds = true
 abbrev pub has_known_externals : Declared → List GlobalBlock → OrganisationUnit → Bool
 has_known_externals text blocks u = list_all (λ b. is_known_section text blocks b.section b.declarations) u.blocks
 
--- SINGLE is a BOOL global, an input among them
+-- SINGLE is a BOOL global; it may be an input
 abbrev pub is_of_kind : Kind → Option Kind → Bool
 is_of_kind k None = false
 is_of_kind k (Some l) = same_kind k l
@@ -172,8 +172,7 @@ abbrev pub is_in_range : AddressWidth → ℕ → Bool
 is_in_range widths.Bit n = nat_lt n BIT_ADDRESSES
 is_in_range widths.Word n = nat_lt n WORD_ADDRESSES
 
--- An address is in its range and of the width of its type, does not stand with CONSTANT, and no input has an initial
--- value.
+-- An address is in its range and of the width of its type, isn't combined with CONSTANT, and no input has an initial value.
 abbrev pub is_sound_address : Declared → Option GlobalQualifier → GlobalDeclaration → GlobalNames → Bool
 is_sound_address text q d (listed xs) = true
 is_sound_address text q d (located x a) =
@@ -202,7 +201,7 @@ address_in (listed xs) = []
 abbrev pub addresses_in : List GlobalBlock → List Address
 addresses_in blocks = flat_map (λ b. flat_map (λ d. address_in d.names) b.declarations) blocks
 
--- no address stands twice
+-- no address occurs twice
 abbrev pub are_single : List Address → Bool
 are_single [] = true
 are_single (a ∷ rest) = not (list_any (same_address a) rest) && are_single rest
@@ -212,7 +211,7 @@ has_sound_addresses text c =
     list_all (λ b. list_all (λ d. is_sound_address text b.qualifier d d.names) b.declarations) c.globals
     && are_single (addresses_in c.globals)
 
--- more resources, tasks of a resource, or programs than there may be
+-- more resources, tasks of a resource, or programs than allowed
 abbrev pub has_too_many : Configuration → Bool
 has_too_many c =
     nat_lt MAX_RESOURCES (length c.resources)

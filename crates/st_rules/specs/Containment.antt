@@ -1,4 +1,4 @@
--- What units and types contain, and how deep they are.
+-- The parts of units and types, and how deep they are.
 use Rattle.std.specs.Prelude.{ℕ, suc, zero, ◌+◌, ◌*◌, List, [], ◌∷◌, ◌++◌, map, length, Bool, true, false, ◌||◌}
 use Rattle.std.specs.Prelude.{if◌then◌else◌}
 use Rattle.std.specs.Prelude.{Option, Some, None, is_some, bytes_eq}
@@ -79,7 +79,7 @@ abbrev pub calls_in_step : Option Expr → List Name
 calls_in_step None = []
 calls_in_step (Some e) = calls_in e
 
--- those of a statement's own expressions
+-- the functions that a statement's own expressions call
 abbrev pub calls_in_statement : Stmt → List Name
 calls_in_statement (assign v e) = calls_in_variable v ++ calls_in e
 calls_in_statement (invoke x arguments) = flat_map calls_in_argument arguments
@@ -126,7 +126,7 @@ parts_of_definition (declared_as.array a) = part_of_simple a.element ∷ []
 parts_of_definition (declared_as.structure fields) = map (λ f. part_of_type f.declared) fields
 parts_of_definition (declared_as.enumeration names) = []
 
--- a standard block has elementary parts alone
+-- a standard block has only elementary parts
 abbrev pub parts_of_standard : Name → List Part
 parts_of_standard x = if is_some (block_of x) then elementary ∷ [] else []
 
@@ -141,13 +141,13 @@ parts_of text elementary = []
 parts_of text (named x) = parts_named text x
 parts_of text (row t) = part_of_simple t ∷ []
 
--- A chain of so many parts begins here: each is a part of the one before.
+-- A chain of `n` parts begins here: each is a part of the one before.
 unfoldable pub has_chain : Declared → ℕ → Part → Bool
 has_chain text zero p = true
 has_chain text (suc zero) p = true
 has_chain text (suc (suc n)) p = list_any (has_chain text (suc n)) (parts_of text p)
 
--- more than 64 deep, which is what contains itself too
+-- more than 64 deep, as is any part that contains itself
 abbrev pub is_too_deep : Declared → Part → Bool
 is_too_deep text p = has_chain text (MAX_TYPE_DEPTH + 1) p
 
@@ -156,17 +156,17 @@ is_part_named x elementary = false
 is_part_named x (named y) = bytes_eq x y
 is_part_named x (row t) = false
 
--- so many steps from part to part lead to the name, or fewer
+-- at most `n` steps from part to part lead to the name
 unfoldable pub leads_to : Declared → ℕ → Name → Part → Bool
 leads_to text zero x p = false
 leads_to text (suc n) x p = list_any (λ q. is_part_named x q || leads_to text n x q) (parts_of text p)
 
--- A unit is a part of itself; no way there is longer than twice the number of the types and units, since between two of
--- them stands at most an array without a name.
+-- A unit is a part of itself; no way there is longer than twice the number of the types and units, since between two
+-- of them there is at most an array without a name.
 abbrev pub contains_itself : Declared → Name → Bool
 contains_itself text x = leads_to text (2 * (length text.types + length text.units)) x (named x)
 
--- a program is bounded by no depth, but is no part of itself
+-- a program's depth has no limit, but it isn't a part of itself
 abbrev pub is_wrong_unit : Declared → UnitSort → Name → Bool
 is_wrong_unit text (Function t) x = is_too_deep text (named x)
 is_wrong_unit text FunctionBlock x = is_too_deep text (named x)
@@ -178,7 +178,7 @@ too_deep_types text = flat_map (λ t. in_case (is_too_deep text (named t.name.na
 abbrev pub too_deep_units : Declared → List ℕ
 too_deep_units text = flat_map (λ u. in_case (is_wrong_unit text u.sort u.name.name) u.name.place) text.units
 
--- an array without a name, where it stands
+-- an array without a name, at its place
 abbrev pub too_deep_array : Declared → ArrayType → List ℕ
 too_deep_array text a = in_case (is_too_deep text (row a.element)) a.place
 

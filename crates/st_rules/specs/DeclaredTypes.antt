@@ -1,4 +1,4 @@
--- The types that a text declares things of: fields, variables, globals, elements and results, each where it stands.
+-- The declared types of a text: those of fields, variables, globals, elements and results, each at its place.
 use Rattle.std.specs.Prelude.{List, [], ◌∷◌, ◌++◌, map, Option}
 use Rattle.std.specs.List.{flat_map}
 use Rattle.st_types.specs.declared.identifier.Identifier.{Identifier}
@@ -16,7 +16,7 @@ use Rattle.st_types.specs.Configurations.{GlobalBlock}
 use Rattle.st_types.specs.Sources as sources
 use Rattle.st_types.specs.Sources.{LibraryElement, Source}
 
--- where a declaration stands
+-- the kind of place of a declaration
 pub data Role : Type 0 where
   field : Role
   variable_of : UnitSort → Section → Role

@@ -1,4 +1,4 @@
--- What places of expressions ask of their types.
+-- The demands of places on the types of expressions.
 use Rattle.std.specs.Prelude.{List, [], ◌∷◌, map, Bool, true, false, Option, Some, None}
 use Rattle.st_types.specs.declared.kind.Kind.{Kind}
 use Rattle.st_types.specs.declared.kind.Kind.TheVariants.{Bool as Boolean}
@@ -61,7 +61,7 @@ abbrev pub is_kind : Option Kind → Kind → Bool
 is_kind None k = true
 is_kind (Some l) k = same_kind k l
 
--- what operators take
+-- the operands that operators take
 abbrev pub sorts_of_unary : UnaryOperator → Sorts
 sorts_of_unary Negate = with_sign
 sorts_of_unary Not = truth_or_bits
@@ -82,7 +82,7 @@ sorts_of_binary Greater = ordered
 sorts_of_binary LessOrEqual = ordered
 sorts_of_binary GreaterOrEqual = ordered
 
--- what a standard function asks of its arguments; k is the common type of its operands
+-- the demands of a standard function on its arguments; k is the common type of its operands
 abbrev pub demands_of_standard : Standard → Option Kind → List Demand
 demands_of_standard ABS k = asked None whole ∷ []
 demands_of_standard MIN k = asked k whole_or_time ∷ asked k whole_or_time ∷ []
@@ -95,7 +95,7 @@ demands_of_standard ROL k = asked None bits ∷ asked None whole ∷ []
 demands_of_standard ROR k = asked None bits ∷ asked None whole ∷ []
 demands_of_standard (CONVERT k l) _ = exactly k ∷ []
 
--- what a call asks of its arguments
+-- the demands of a call on its arguments
 abbrev pub demands_of_callee : Option Callee → Option Kind → List Demand
 demands_of_callee (Some (standard std)) k = demands_of_standard std k
 demands_of_callee (Some (own inputs result)) k = map (λ i. asked i any) inputs

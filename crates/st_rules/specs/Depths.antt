@@ -1,4 +1,4 @@
--- How deep types and units are, in the words of the profile: what chains of parts are held against.
+-- The depths of types and units, in the terms of the profile: the reference for chains of parts.
 use Rattle.std.specs.Prelude.{◌≡◌, ℕ, ◌+◌, max, nat_le, List, [], ◌∷◌, true}
 use Rattle.st_meaning.specs.NameTypes.{Declared}
 use Rattle.st_rules.specs.Containment.{Part, parts_of, has_chain}
@@ -8,7 +8,7 @@ pub data Among : Part → List Part → Type 0 where
   first : {p : Part} {ps : List Part} → Among p (p ∷ ps)
   later : {p q : Part} {ps : List Part} → Among p ps → Among p (q ∷ ps)
 
--- what a part contains, through any number of parts
+-- a part contains another one, through any number of parts
 pub data Holds (text : Declared) : Part → Part → Type 0 where
   holds_part : {p q : Part} → Among q (parts_of text p) → Holds text p q
   holds_further : {p q r : Part} → Among q (parts_of text p) → Holds text q r → Holds text p r
@@ -23,10 +23,10 @@ mutual
     deepest : {p : Part} {ps : List Part} {d m : ℕ} → HasDepth text p d → Deepest text ps m
         → Deepest text (p ∷ ps) (max d m)
 
--- what contains itself begins chains of any length
+-- a part that contains itself begins chains of any length
 abbrev pub CyclesHaveChains : Type 0
 CyclesHaveChains = (text : Declared) (p : Part) (n : ℕ) → Holds text p p → has_chain text n p ≡ true
 
--- what has a depth begins chains of just so many parts
+-- a part with a depth begins chains of exactly that number of parts
 abbrev pub ChainsAreDepths : Type 0
 ChainsAreDepths = (text : Declared) (p : Part) (d n : ℕ) → HasDepth text p d → has_chain text n p ≡ nat_le n d

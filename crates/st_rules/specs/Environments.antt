@@ -1,4 +1,4 @@
--- What the names of a unit's body stand for.
+-- The meanings of the names of a unit's body.
 use Rattle.std.specs.Prelude.{List, [], ◌∷◌, Bool, true, false, ◌||◌, if◌then◌else◌, Option, Some, None}
 use Rattle.std.specs.Prelude.{option_and_then, is_some}
 use Rattle.std.specs.List.{list_any}
@@ -16,7 +16,7 @@ use Rattle.st_meaning.specs.Scopes.{Name}
 use Rattle.st_meaning.specs.StandardBlocks.{block_of, inputs_of, outputs_of}
 use Rattle.st_meaning.specs.StandardFunctions.{Standard, standard_of}
 use Rattle.st_meaning.specs.NameTypes.{Declared, is_named, unit_named, variable_type, block_variable, is_input}
-use Rattle.st_meaning.specs.NameTypes.{is_output, input_kinds, result_kind, type_behind}
+use Rattle.st_meaning.specs.NameTypes.{is_output, input_kinds, result_kind, type_after_selectors}
 
 -- a unit among the types and units of its text
 pub record Environment : Type 0 where
@@ -36,9 +36,9 @@ section_in (b ∷ bs) x =
 abbrev pub section_of : Environment → Name → Option Section
 section_of env x = if is_named x env.unit.name then None else section_in env.unit.blocks x
 
--- the type of what a variable selects
+-- the type of the part that a variable selects
 abbrev pub type_of_place : Environment → Variable → Option VariableType
-type_of_place env (variable x xs) = option_and_then (type_behind env.text xs) (type_of_name env x.name)
+type_of_place env (variable x xs) = option_and_then (type_after_selectors env.text xs) (type_of_name env x.name)
 
 -- a function that may be called
 pub data Callee : Type 0 where

@@ -62,7 +62,7 @@ asking_f place = binary Equal (calling place F []) (number (place + 6) (pos 1))
 abbrev pub setting_f : ℕ → Stmt
 setting_f place = setting place N (calling_f (place + 5))
 
--- CASE n OF with one list of labels, with these statements, and those behind ELSE
+-- CASE n OF with one list of labels, with these statements, and those after ELSE
 abbrev pub case_with : Expr → List Label → List Stmt → List Stmt → Stmt
 case_with e labels body otherwise = CASE e (case_arms_of ((labels, stmts_of body) ∷ [])) (stmts_of otherwise)
 
@@ -142,18 +142,18 @@ abbrev pub resource_at : ℕ → Name → List Task → List Instance → Resour
 resource_at place x tasks instances =
     record { name = at place x; processor = at (place + 5) (codes "CPU"); tasks = tasks; instances = instances }
 
--- so many of one kind
+-- a list of `n` copies
 abbrev pub copies : {A : Type 0} → ℕ → A → List A
 copies zero a = []
 copies (suc n) a = a ∷ copies n a
 
--- (n := 1, n := 2), where the second n stands 9 bytes behind the parenthesis
+-- (n := 1, n := 2), with the second n 9 bytes after the parenthesis
 abbrev pub doubled : ℕ → Initial
 doubled place = initials.structure place
     (members_of ((at (place + 1) N, start_of (place + 6) (pos 1))
     ∷ (at (place + 9) N, start_of (place + 14) (pos 2)) ∷ []))
 
--- a configuration of these resources alone, or of these blocks of globals; a resource of so many tasks and programs
+-- a configuration of these resources alone, or of these blocks of globals; a resource with numbers of tasks and programs
 abbrev pub resourced : List Resource → Configuration
 resourced rs = record { name = at 14 (codes "C"); globals = []; resources = rs }
 
@@ -163,7 +163,7 @@ globals_in blocks r = record { name = at 14 (codes "C"); globals = blocks; resou
 abbrev pub holding : ℕ → ℕ → Resource
 holding tasks instances = resource_at 40 (codes "R") (copies tasks (task_at 60 T)) (copies instances (instance_at 90 N))
 
--- `x := x op x;`, with the first operand 5 bytes behind
+-- `x := x op x;`, with the first operand 5 bytes further
 abbrev pub joining : Name → BinaryOperator → ℕ → Stmt
 joining x op place = setting place x (binary op (reading (place + 5) x) (reading (place + 9) x))
 
@@ -176,12 +176,12 @@ U = codes "U"
 abbrev pub W : Name
 W = codes "W"
 
--- what a variable selects, step by step
-abbrev pub behind_dot : ℕ → Name → Selector
-behind_dot place x = member (at place x)
+-- the selectors of a variable, step by step
+abbrev pub after_dot : ℕ → Name → Selector
+after_dot place x = member (at place x)
 
-abbrev pub behind_bracket : Expr → Selector
-behind_bracket e = subscript e
+abbrev pub after_bracket : Expr → Selector
+after_bracket e = subscript e
 
 abbrev pub selected : ℕ → Name → List Selector → Variable
 selected place x xs = variable (at place x) (selectors_of xs)
@@ -237,7 +237,7 @@ abbrev pub declaring_all : ℕ → List Name → List Declaration
 declaring_all place [] = []
 declaring_all place (x ∷ xs) = declaring (at place x) (elementary Int) ∷ declaring_all (place + 1) xs
 
--- so many places, from one on
+-- consecutive places, from one on
 abbrev pub upwards : ℕ → ℕ → List ℕ
 upwards place zero = []
 upwards place (suc n) = place ∷ upwards (place + 1) n

@@ -64,8 +64,8 @@ number place z = literal (literals.Number (digits place z))
 abbrev pub typed : ℕ → Kind → ℤ → Expr
 typed place k z = literal (literals.Number (typed_digits place k z))
 
-abbrev pub truth : ℕ → Bool → Expr
-truth place b = literal (literals.Truth place b)
+abbrev pub bool_literal : ℕ → Bool → Expr
+bool_literal place b = literal (literals.Truth place b)
 
 abbrev pub duration : ℕ → ℕ → Expr
 duration place n = literal (literals.Duration place n)
@@ -107,14 +107,14 @@ setting place x e = assign (name place x) e
 abbrev pub invoking : ℕ → Name → List Argument → Stmt
 invoking place x arguments = invoke (at place x) arguments
 
--- types and declarations; an elementary type stands at 0 where its place says nothing
+-- types and declarations; an elementary type is at 0 if its place doesn't matter
 abbrev pub elementary : Kind → VariableType
 elementary k = Simple (Elementary k 0)
 
 abbrev pub named : ℕ → Name → VariableType
 named place x = Simple (Named (at place x))
 
--- ARRAY at a place, the lower bound 7 bytes behind and the upper one 10
+-- ARRAY at a place, the lower bound 7 bytes after it and the upper one 10
 abbrev pub array_of : ℕ → ℤ → ℤ → SimpleType → ArrayType
 array_of place x y t =
     record { place = place; lower = digits (place + 7) x; upper = digits (place + 10) y; element = t }
@@ -278,7 +278,7 @@ with_pair i =
     (definitions.structure (field_of (at 16 N) (elementary Int) ∷ field_of (at 26 B) (elementary Boolean) ∷ [])) ∷ [])
     ∷ local (starting (at 70 M) (named 74 X) i ∷ [])
 
--- so many names, each at the place of its number
+-- the first names, each at the place of its number
 abbrev pub names_before : ℕ → List Identifier → List Identifier
 names_before zero rest = rest
 names_before (suc n) rest = names_before n (at n (n ∷ []) ∷ rest)

@@ -1,4 +1,4 @@
--- What is wrong at one part of an expression. None of it looks into the parts below.
+-- The faults of one part of an expression. None of this looks into the parts below.
 use Rattle.std.specs.Prelude.{ℕ, List, [], ◌∷◌, ◌++◌, ◌+◌, ◌==◌, length, if◌then◌else◌, Option, Some, None}
 use Rattle.std.specs.List.{flat_map}
 use Rattle.st_types.specs.declared.kind.Kind.{Kind}
@@ -12,7 +12,7 @@ use Rattle.st_types.specs.Expressions.{expr_then, Variable, variable, Selector, 
 use Rattle.st_types.specs.Expressions.{no_selectors, selector_then}
 use Rattle.st_meaning.specs.Scopes.{Name}
 use Rattle.st_meaning.specs.Operators.{number_of}
-use Rattle.st_meaning.specs.Resolution.{taken_kind}
+use Rattle.st_meaning.specs.Resolution.{taken_kind, place_of_variable}
 use Rattle.st_meaning.specs.NameTypes.{Declared, selected_type}
 use Rattle.st_rules.specs.declared.rule.Rule.TheVariants.{UnknownName, WrongType, OutOfRange, WrongArguments}
 use Rattle.st_rules.specs.declared.rule.Broken.{Broken}
@@ -22,7 +22,7 @@ use Rattle.st_rules.specs.Environments.{Environment, Callee, type_of_name, calle
 use Rattle.st_rules.specs.declared.demand.Demand.{Demand}
 use Rattle.st_rules.specs.declared.demand.Demand.TheVariants.{Operand as operand, Asked as asked}
 use Rattle.st_rules.specs.Demands.{expected_of, sorts_of_unary, sorts_of_binary}
-use Rattle.st_rules.specs.Typings.{typing_of, typing_of_type, is_nothing, settled, meets, are_operands}
+use Rattle.st_rules.specs.Typings.{typing_of, typing_of_type, is_nothing, settled, allows, are_operands}
 use Rattle.st_rules.specs.Nodes.{Node, nodes_of, offered, demands_of}
 
 abbrev pub place_of_literal : Literal → ℕ
@@ -30,9 +30,6 @@ place_of_literal (literals.Number n) = n.place
 place_of_literal (literals.Truth at b) = at
 place_of_literal (literals.Duration at n) = at
 place_of_literal (literals.Enumerated v) = v.place
-
-abbrev pub place_of_variable : Variable → ℕ
-place_of_variable (variable x xs) = x.place
 
 -- the first byte of an expression
 abbrev pub first_byte : Expr → ℕ
@@ -43,12 +40,12 @@ first_byte (parenthesis at e) = at
 first_byte (unary op at e) = at
 first_byte (binary op l r) = first_byte l
 
--- A member that a type has not is unknown, and what is no array has no elements.
+-- A member that a type doesn't have is unknown, and a type that isn't an array has no elements.
 abbrev pub wrong_selector : ℕ → Selector → List Broken
 wrong_selector at (member x) = breaking UnknownName (x.place ∷ [])
 wrong_selector at (subscript e) = breaking WrongType (at ∷ [])
 
--- What is behind a variable's name is selected step by step. Of an unknown type nothing is asked: its name is told.
+-- The selectors of a variable are checked step by step. For an unknown type nothing is checked: its name is reported.
 abbrev pub wrong_selectors : Declared → ℕ → VariableType → Selectors → List Broken
 wrong_selectors text at t no_selectors = []
 wrong_selectors text at t (selector_then x xs) = elim (selected_type text t x) [
@@ -56,12 +53,12 @@ wrong_selectors text at t (selector_then x xs) = elim (selected_type text t x) [
   | None ↦ if is_nothing (typing_of_type text (Some t)) then [] else wrong_selector at x
 ]
 
--- a variable that is not there, or a wrong selection
+-- a variable that doesn't exist, or a wrong selection
 abbrev pub wrong_variable : Environment → Variable → List Broken
 wrong_variable env (variable x xs) = elim (type_of_name env x.name)
     [ Some t ↦ wrong_selectors env.text x.place t xs | None ↦ breaking UnknownName (x.place ∷ []) ]
 
--- where it is read, a name alone may be a value of an enumerated type too
+-- when it is read, a name alone may also be a value of an enumerated type
 abbrev pub wrong_alone : Environment → ℕ → Name → Option VariableType → List Broken
 wrong_alone env at x (Some t) = []
 wrong_alone env at x None = wrong_reading at (reading_of_name env.text x)
@@ -79,12 +76,12 @@ abbrev pub wrong_call : ℕ → Option Callee → List Demand → Exprs → List
 wrong_call at None ds es = breaking UnknownName (at ∷ [])
 wrong_call at (Some callee) ds es = breaking WrongArguments (unless (count_of es == length ds) at)
 
--- the type that is written, or else that which is taken
+-- the type that is written, or else the one that is taken
 abbrev pub kind_or_taken : Option Kind → Option Kind → Kind
 kind_or_taken k None = taken_kind k
 kind_or_taken k (Some l) = l
 
--- a number outside the type that it has, or takes where one is expected
+-- a number outside the type that it has, or that it takes if one is expected
 abbrev pub wrong_number : Option Kind → Number → List Broken
 wrong_number k n = breaking OutOfRange (unless (holds (kind_or_taken k n.written) (number_of n)) n.place)
 
@@ -102,20 +99,20 @@ wrong_part env k (call f es) =
     wrong_call f.place (callee_of env f.name) (demands_of env (callee_of env f.name) es) es
 wrong_part env k (parenthesis at e) = []
 wrong_part env k (unary op at e) =
-    breaking WrongType (unless (meets (asked None (sorts_of_unary op)) (settled k (typing_of env e))) at)
+    breaking WrongType (unless (allows (asked None (sorts_of_unary op)) (settled k (typing_of env e))) at)
 wrong_part env k (binary op l r) =
     breaking WrongType (unless (are_operands (sorts_of_binary op)
     (settled (offered k op (typing_of env l) (typing_of env r)) (typing_of env l))
     (settled (offered k op (typing_of env l) (typing_of env r)) (typing_of env r))) (first_byte l))
 
--- what is wrong at a part: in itself, or for its place
+-- the faults of a part: in itself, or for its place
 abbrev pub wrong_node : Environment → Node → List Broken
 wrong_node env n =
     breaking WrongType
-    (unless (meets n.demand (settled (expected_of n.demand) (typing_of env n.tree))) (first_byte n.tree))
+    (unless (allows n.demand (settled (expected_of n.demand) (typing_of env n.tree))) (first_byte n.tree))
     ++ wrong_part env (expected_of n.demand) n.tree
 
--- all that is wrong in an expression at a place
+-- all faults in an expression at a place
 abbrev pub wrong_expression : Environment → Demand → Expr → List Broken
 wrong_expression env d e = flat_map (wrong_node env) (nodes_of env d e)
 

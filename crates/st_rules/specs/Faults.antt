@@ -1,4 +1,4 @@
--- Broken rules with their places, as lists in no order that matters.
+-- Broken rules with their places, as lists whose order doesn't matter.
 use Rattle.std.specs.Prelude.{◌≡◌, ℕ, List, [], ◌∷◌, map, Bool, if◌then◌else◌, Option, Some, None}
 use Rattle.std.specs.List.{Contains}
 use Rattle.st_rules.specs.declared.rule.Rule.{Rule}
@@ -8,15 +8,15 @@ use Rattle.st_rules.specs.declared.rule.Broken.{Broken}
 abbrev pub breaking : Rule → List ℕ → List Broken
 breaking rule places = map (λ p. record { rule = rule; place = p }) places
 
--- the place, where what has to hold there does not
+-- the place, if a condition doesn't hold there
 abbrev pub unless : Bool → ℕ → List ℕ
 unless right place = if right then [] else place ∷ []
 
--- the place, where something holds that must not
+-- the place, if something holds that must not
 abbrev pub in_case : Bool → ℕ → List ℕ
 in_case wrong place = if wrong then place ∷ [] else []
 
--- what a search answers: one of the faults, or that there is none
+-- the result of a search: one of the faults, or none
 abbrev pub Finds : List Broken → Option Broken → Type 0
 Finds faults (Some b) = Contains faults b
 Finds faults None = faults ≡ []

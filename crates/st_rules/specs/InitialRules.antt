@@ -1,4 +1,4 @@
--- Initial values, by the type of what they are for.
+-- Initial values, by the type of their variable or part.
 use Rattle.std.specs.Prelude.{ℕ, ◌+◌, nat_lt, List, [], ◌∷◌, ◌++◌, Bool, true, false, ◌||◌, if◌then◌else◌, Option, Some}
 use Rattle.std.specs.Prelude.{None, option_and_then, is_some}
 use Rattle.st_types.specs.declared.literal.Literal.{Literal}
@@ -18,13 +18,13 @@ use Rattle.st_rules.specs.declared.typings.Typing.{Typing}
 use Rattle.st_rules.specs.Faults.{breaking, unless, in_case}
 use Rattle.st_rules.specs.Readings.{reading_written, wrong_reading}
 use Rattle.st_rules.specs.Environments.{is_block_type}
-use Rattle.st_rules.specs.Typings.{typing_of_type, typing_of_literal, kind_of, is_nothing, settled, meets}
+use Rattle.st_rules.specs.Typings.{typing_of_type, typing_of_literal, kind_of, is_nothing, settled, allows}
 use Rattle.st_rules.specs.ExpressionRules.{place_of_literal, wrong_number, wrong_literal}
 use Rattle.st_rules.specs.Roots.{demand_of_typing}
 use Rattle.st_rules.specs.DeclaredTypes.{Declaring}
 use Rattle.st_rules.specs.TypeRules.{elements_of_array}
 
--- an initial value, or one inside another, with the type of what it is for; none where that is not known
+-- an initial value, or one inside another, with the type of its variable or part; none if that is not known
 pub record Start : Type 0 where
   pub declared : Option VariableType
   pub initial : Initial
@@ -57,7 +57,7 @@ abbrev mutual
 abbrev pub starts_of : Declared → VariableType → Initial → List Start
 starts_of text t x = start (Some t) x ∷ starts_below text (Some t) x
 
--- an instance has none, and what stands for one is not looked into
+-- an instance has none, and a value given for one is not looked into
 abbrev pub starts_of_declaring : Declared → Declaring → List Start
 starts_of_declaring text d = elim d.initial [
   | Some x ↦ if is_block_type text d.declared then [] else starts_of text d.declared x
@@ -77,7 +77,7 @@ is_structure _ = false
 abbrev pub definition_at : Declared → Option VariableType → Option TypeDefinition
 definition_at text t = option_and_then (definition_of text) t
 
--- nothing is asked of a value for what is not known
+-- for an unknown type a value is not checked
 abbrev pub is_unknown : Declared → Option VariableType → Bool
 is_unknown text t = is_nothing (typing_of_type text t)
 
@@ -89,7 +89,7 @@ unread_value text _ = []
 -- a constant is one of its variable's type
 abbrev pub wrong_constant : Declared → Typing → Literal → List Broken
 wrong_constant text t l =
-    breaking WrongType (unless (meets (demand_of_typing t) (settled (kind_of t) (typing_of_literal text l)))
+    breaking WrongType (unless (allows (demand_of_typing t) (settled (kind_of t) (typing_of_literal text l)))
     (place_of_literal l))
     ++ (if is_nothing t then unread_value text l else wrong_literal text (kind_of t) l)
 
@@ -103,13 +103,13 @@ abbrev pub wrong_counts : Elements → List Broken
 wrong_counts no_elements = []
 wrong_counts (element_then x xs) = wrong_count x ++ wrong_counts xs
 
--- a field that the structure has not
+-- a field that the structure doesn't have
 abbrev pub wrong_fields : Declared → Option VariableType → Members → List Broken
 wrong_fields text t no_members = []
 wrong_fields text t (member_then x v rest) =
     breaking UnknownName (unless (is_some (field_of text t x.name)) x.place) ++ wrong_fields text t rest
 
--- Lists are for arrays, and fields for structures. None of it looks into the values inside.
+-- Lists are for arrays, and fields for structures. None of this looks into the values inside.
 abbrev pub wrong_start_of : Declared → Option VariableType → Initial → List Broken
 wrong_start_of text t (constant l) = wrong_constant text (typing_of_type text t) l
 wrong_start_of text t (list at xs) =

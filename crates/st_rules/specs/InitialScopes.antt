@@ -1,4 +1,4 @@
--- The scopes inside initial values: each structure is one, of the fields that it names.
+-- The scopes inside initial values: each structure is one, with the fields that it names.
 use Rattle.std.specs.Prelude.{List, [], ◌∷◌, ◌++◌, Option, Some, None}
 use Rattle.st_types.specs.declared.identifier.Identifier.{Identifier}
 use Rattle.st_types.specs.Initials.{Initial, constant, list, structure, Element, single, repeated, defaults, Elements}
@@ -29,7 +29,7 @@ abbrev mutual
   scopes_in_members no_members = []
   scopes_in_members (member_then x v rest) = scopes_in_initial v ++ scopes_in_members rest
 
--- those in an initial value, where there is one
+-- those in an initial value, if there is one
 abbrev pub scopes_in_optional : Option Initial → List (List Identifier)
 scopes_in_optional None = []
 scopes_in_optional (Some x) = scopes_in_initial x

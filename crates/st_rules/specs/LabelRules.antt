@@ -23,7 +23,7 @@ abbrev pub labels_of : CaseArms → List Label
 labels_of no_case_arms = []
 labels_of (case_arm_then labels body arms) = labels ++ labels_of arms
 
--- a label has the selector's type, where that is known
+-- a label has the selector's type, if that is known
 abbrev pub is_selected : Option Kind → Kind → Bool
 is_selected None l = true
 is_selected (Some k) l = same_kind k l
@@ -93,7 +93,7 @@ abbrev pub wrong_labels : Declared → Option Kind → List Label → List Broke
 wrong_labels text k labels =
     flat_map (wrong_label text k) labels ++ breaking WrongLabel (wrong_spans (spans_of text k labels))
 
--- a selector that is untyped is a LINT; labels of one that has no type are compared among themselves alone
+-- an untyped selector is a LINT; if a selector has no type, its labels are only compared with each other
 abbrev pub wrong_case : Environment → Stmt → List Broken
 wrong_case env (CASE e arms otherwise) =
     wrong_labels env.text (kind_of (settled None (typing_of env e))) (labels_of arms)

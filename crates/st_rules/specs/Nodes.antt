@@ -1,4 +1,4 @@
--- The parts of an expression, each with what its place asks.
+-- The parts of an expression, each with the demand of its place.
 use Rattle.std.specs.Prelude.{List, [], ◌∷◌, ◌++◌, if◌then◌else◌, Option, None}
 use Rattle.st_types.specs.declared.kind.Kind.{Kind}
 use Rattle.st_types.specs.declared.operator.BinaryOperator.{BinaryOperator}
@@ -18,8 +18,8 @@ pub record Node : Type 0 where
   pub demand : Demand
   pub tree : Expr
 
--- what the operands of an operator are offered: where both are untyped, what the whole place expects, and a comparison
--- expects nothing; where one is, the type of the other
+-- the type that an operator offers its operands: if both are untyped, the one that the whole place expects, and a
+-- comparison expects none; if one is untyped, the type of the other
 abbrev pub offered : Option Kind → BinaryOperator → Typing → Typing → Option Kind
 offered k op t u =
     expected_of_both (if is_joining op then k else None) (kind_of t) (kind_of u) (is_untyped_typing t)
@@ -33,7 +33,7 @@ abbrev pub other_demands : List Demand → List Demand
 other_demands [] = []
 other_demands (d ∷ ds) = ds
 
--- what a call asks of its arguments
+-- the demands of a call on its arguments
 abbrev pub demands_of : Environment → Option Callee → Exprs → List Demand
 demands_of env callee es = demands_of_callee callee (common_of callee (kinds_of (typings_of env es)))
 

@@ -7,7 +7,7 @@ use Rattle.st_meaning.specs.NameTypes.{is_named}
 abbrev pub places_where : (Identifier → Bool) → List Identifier → List ℕ
 places_where wanted xs = map (λ x. x.place) (filter wanted xs)
 
--- the places at which a name stands again
+-- the places at which a name occurs again
 abbrev pub repeats : List Identifier → List ℕ
 repeats [] = []
 repeats (x ∷ xs) = places_where (is_named x.name) xs ++ repeats xs

@@ -1,4 +1,4 @@
--- What a value of an enumerated type stands for, as a text writes it.
+-- The meaning of a value of an enumerated type, as a text writes it.
 use Rattle.std.specs.Prelude.{ℕ, List, [], ◌∷◌, Option, Some, None}
 use Rattle.st_types.specs.declared.literal.EnumeratedValue.{EnumeratedValue}
 use Rattle.st_meaning.specs.Scopes.{Name}

@@ -1,4 +1,4 @@
--- The expressions of a statement, each with what its place asks.
+-- The expressions of a statement, each with the demand of its place.
 use Rattle.std.specs.Prelude.{List, [], ◌∷◌, ◌++◌, Option, Some, None}
 use Rattle.std.specs.List.{flat_map}
 use Rattle.st_types.specs.declared.data_type.VariableType.{VariableType}
@@ -18,7 +18,7 @@ use Rattle.st_rules.specs.Typings.{typing_of_type}
 use Rattle.st_rules.specs.Nodes.{Node, node, nodes_of, nodes_of_place}
 use Rattle.st_rules.specs.ExpressionRules.{wrong_node}
 
--- What a variable asks of a value: its type. What has parts takes no value, and of what is unknown nothing is asked.
+-- The demand of a variable on a value: its type. A variable with parts takes no value, and an unknown one demands nothing.
 abbrev pub demand_of_typing : Typing → Demand
 demand_of_typing (Elementary k) = exactly k
 demand_of_typing Composite = Asked None NoSort
@@ -64,13 +64,13 @@ targets_of (assign v e) = v ∷ []
 targets_of (invoke x arguments) = targets_of_arguments arguments
 targets_of _ = []
 
--- The parts of all expressions of a statement, those of its targets' subscripts too.
+-- The parts of all expressions of a statement, including those of its targets' subscripts.
 abbrev pub nodes_of_root : Environment → Node → List Node
 nodes_of_root env n = nodes_of env n.demand n.tree
 
 abbrev pub nodes_in : Environment → Stmt → List Node
 nodes_in env x = flat_map (nodes_of_root env) (roots_of env x) ++ flat_map (nodes_of_place env) (targets_of x)
 
--- what is wrong in the expressions of a statement
+-- the faults in the expressions of a statement
 abbrev pub wrong_nodes : Environment → Stmt → List Broken
 wrong_nodes env x = flat_map (wrong_node env) (nodes_in env x)

@@ -1,4 +1,4 @@
--- The rules that a text breaks, and where.
+-- The rules that a text breaks, and the places.
 use Rattle.std.specs.Prelude.{List, [], ◌++◌, ◌≡◌}
 use Rattle.std.specs.List.{flat_map, Contains}
 use Rattle.st_types.specs.Units.{OrganisationUnit}
@@ -60,6 +60,6 @@ Breaks source b = Contains (broken source) b
 abbrev pub IsWellTyped : Source → Type 0
 IsWellTyped source = broken source ≡ []
 
--- no rule on declarations alone is
+-- no rule on declarations alone is broken
 abbrev pub IsWellDeclared : Source → Type 0
 IsWellDeclared source = wrong_declarations source ≡ []

@@ -1,4 +1,4 @@
--- The statements of a body, each with the loops that it stands in.
+-- The statements of a body, each with the loops around it.
 use Rattle.std.specs.Prelude.{List, [], ◌∷◌, ◌++◌, Bool, true, false}
 use Rattle.st_meaning.specs.Scopes.{Name}
 use Rattle.st_types.specs.Statements.{Stmt, IF, CASE, FOR, WHILE, REPEAT, Stmts}

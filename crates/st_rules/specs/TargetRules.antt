@@ -1,4 +1,4 @@
--- What may be assigned, and by which name a FOR counts.
+-- Which variables may be assigned, and by which name a FOR counts.
 use Rattle.std.specs.Prelude.{List, [], ◌∷◌, ◌++◌, Bool, true, false, ◌&&◌, ◌||◌, not, if◌then◌else◌, Option, Some}
 use Rattle.std.specs.Prelude.{None}
 use Rattle.std.specs.Prelude.{option_and_then, is_some}
@@ -18,10 +18,11 @@ use Rattle.st_rules.specs.declared.demand.Sorts.TheVariants.{Whole}
 use Rattle.st_rules.specs.declared.demand.Demand.TheVariants.{Asked}
 use Rattle.st_rules.specs.Faults.{breaking, unless}
 use Rattle.st_rules.specs.Environments.{Environment, type_of_name, section_of, type_of_place, is_instance}
-use Rattle.st_rules.specs.Typings.{typing_of_type, meets}
-use Rattle.st_rules.specs.ExpressionRules.{place_of_variable, wrong_variable}
+use Rattle.st_rules.specs.Typings.{typing_of_type, allows}
+use Rattle.st_rules.specs.ExpressionRules.{wrong_variable}
 use Rattle.st_rules.specs.Statements.{Context}
 use Rattle.st_rules.specs.Roots.{targets_of}
+use Rattle.st_meaning.specs.Resolution.{place_of_variable}
 
 -- an input of the unit, or a constant
 abbrev pub is_fixed : Option Section → Bool
@@ -30,19 +31,19 @@ is_fixed (Some Constant) = true
 is_fixed (Some ConstantExternal) = true
 is_fixed _ = false
 
--- what is selected stands behind an instance
+-- the selection leads through an instance
 abbrev pub passes_instance : Environment → Option VariableType → Selectors → Bool
 passes_instance env t no_selectors = false
 passes_instance env t (selector_then x xs) =
     is_instance env t || passes_instance env (option_and_then (λ u. selected_type env.text u x) t) xs
 
--- no input, constant or control variable of a FOR that runs, and nothing that stands behind an instance
+-- not an input, a constant or the control variable of a running FOR, and not a part of an instance
 abbrev pub is_assignable : Environment → Context → Variable → Bool
 is_assignable env c (variable x xs) =
     not (is_fixed (section_of env x.name)) && not (contains_name c.running x.name)
     && not (passes_instance env (type_of_name env x.name) xs)
 
--- A target is a variable that is there; only of such a one it is asked whether it may be assigned.
+-- A target is a variable that exists; only then is it checked whether it may be assigned.
 abbrev pub wrong_target : Environment → Context → Variable → List Broken
 wrong_target env c v =
     wrong_variable env v
@@ -61,7 +62,7 @@ is_own _ = false
 
 abbrev pub is_control : Environment → Identifier → VariableType → Bool
 is_control env x t =
-    is_own (section_of env x.name) && meets (Asked None Whole) (typing_of_type env.text (Some t))
+    is_own (section_of env x.name) && allows (Asked None Whole) (typing_of_type env.text (Some t))
 
 abbrev pub wrong_control : Environment → Context → Identifier → List Broken
 wrong_control env c x = elim (type_of_name env x.name) [

@@ -18,8 +18,8 @@ is_standard x = is_some (block_of x) || is_some (standard_of x)
 abbrev pub is_taken : List Identifier → Identifier → Bool
 is_taken names x = is_standard x.name || list_any (is_named x.name) names
 
--- the places at which a name is declared again in its scope, a unit's variable bears the name of a unit or type, or a
--- unit, a type or a variable of a unit bears that of a standard function or block
+-- the places at which a name is declared again in its scope, a unit's variable has the name of a unit or type, or a
+-- unit, a type or a variable of a unit has that of a standard function or block
 abbrev pub twice_declared : Source → List ℕ
 twice_declared source =
     flat_map repeats (scopes_of source)

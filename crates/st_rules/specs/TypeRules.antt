@@ -1,4 +1,4 @@
--- What is wrong in the types of declarations, and in the bounds of arrays.
+-- The faults in the types of declarations, and in the bounds of arrays.
 use Rattle.std.specs.Prelude.{ℕ, pos, ◌+ℤ◌, ◌-ℤ◌, int_lt, nat_le, nat_lt, List, [], ◌∷◌, ◌++◌, Bool, true, false, ◌&&◌}
 use Rattle.std.specs.Prelude.{◌||◌}
 use Rattle.std.specs.Prelude.{if◌then◌else◌, Option, Some, None, is_some, slice_get}
@@ -31,7 +31,7 @@ use Rattle.st_rules.specs.Typings.{typing_of_type, is_composite}
 use Rattle.st_rules.specs.ExpressionRules.{wrong_number}
 use Rattle.st_rules.specs.DeclaredTypes.{Role, variable_of, Declaring}
 
--- where the name of a type stands, or the word ARRAY
+-- the place of a type's name, or of the word ARRAY
 abbrev pub place_of_simple : SimpleType → ℕ
 place_of_simple (Elementary k at) = at
 place_of_simple (Named x) = x.place
@@ -40,8 +40,8 @@ abbrev pub place_of_type : VariableType → ℕ
 place_of_type (types.Simple t) = place_of_simple t
 place_of_type (types.Array a) = a.place
 
--- The name of a type is that of a declared type, or of a block where an instance may stand. What stands for something
--- else is a wrong type, and what stands for nothing is unknown.
+-- The name of a type is that of a declared type, or of a block if an instance is allowed. A name of something else is
+-- a wrong type, and a name of nothing is unknown.
 abbrev pub wrong_named : Declared → Bool → Identifier → List Broken
 wrong_named text blocks x =
     if is_some (type_named text.types x.name) then []
@@ -59,7 +59,7 @@ abbrev pub wrong_name : Declared → Bool → VariableType → List Broken
 wrong_name text blocks (types.Simple t) = wrong_simple text blocks t
 wrong_name text blocks (types.Array a) = []
 
--- instances stand in a VAR of a program or function block
+-- instances are allowed in a VAR of a program or function block
 abbrev pub is_program_or_block : UnitSort → Bool
 is_program_or_block (Function t) = false
 is_program_or_block FunctionBlock = true
@@ -83,7 +83,7 @@ wrong_declaring text d =
     (place_of_type d.declared))
     ++ breaking WrongType (in_case (is_block_type text d.declared && is_some d.initial) (place_of_type d.declared))
 
--- an element is of no block
+-- the type of an element isn't a block
 abbrev pub wrong_element : Declared → ArrayType → List Broken
 wrong_element text a = wrong_simple text false a.element
 
@@ -97,7 +97,7 @@ wrong_result text t =
 abbrev pub wrong_bound_numbers : ArrayType → List Broken
 wrong_bound_numbers a = wrong_number None a.lower ++ wrong_number None a.upper
 
--- how many elements an array has; none where its bounds are reversed
+-- how many elements an array has; none if its bounds are reversed
 abbrev pub elements_of_array : ArrayType → ℕ
 elements_of_array a = natural ((number_of a.upper -ℤ number_of a.lower) +ℤ pos 1)
 
@@ -123,7 +123,7 @@ retained_addresses_of (sources.unit u) = []
 retained_addresses_of (sources.configuration c) =
     flat_map (λ b. flat_map (λ d. retained_address b.qualifier d.names) b.declarations) c.globals
 
--- the name behind the last one that an enumerated type may have
+-- the name after the last one that an enumerated type may have
 abbrev pub place_of_one : Option Identifier → List ℕ
 place_of_one None = []
 place_of_one (Some x) = x.place ∷ []
@@ -131,7 +131,7 @@ place_of_one (Some x) = x.place ∷ []
 abbrev pub surplus_name : List Identifier → List ℕ
 surplus_name names = place_of_one (slice_get names MAX_NAMES)
 
--- PRIORITY has a greatest number
+-- PRIORITY has an upper limit
 abbrev pub wrong_priority : Task → List ℕ
 wrong_priority t = unless (nat_le t.priority.number MAX_PRIORITY) t.priority.place
 

@@ -25,7 +25,7 @@ use Rattle.st_rules.specs.declared.typings.Typing.TheVariants.{Untyped as untype
 use Rattle.st_rules.specs.declared.typings.Typing.TheVariants.{Composite as composite, Nothing as nothing}
 use Rattle.st_rules.specs.Demands.{in_sorts, is_kind}
 
--- a type that is named: an enumerated one, another type or a block, or nothing that a variable may be of
+-- a type that is named: an enumerated one, another type or a block, or a name that isn't a type
 abbrev pub typing_of_named : Declared → Name → Option Enumeration → Typing
 typing_of_named text x (Some e) = elementary (kind_of_enumeration e)
 typing_of_named text x None =
@@ -80,7 +80,7 @@ typing_of_literal text (literals.Enumerated v) = typing_of_reading (reading_writ
 abbrev pub typing_of_variable : Environment → Variable → Typing
 typing_of_variable env v = typing_of_type env.text (type_of_place env v)
 
--- a name alone is a variable where the unit has one, else a value of an enumerated type
+-- a name alone is a variable if the unit has one, else a value of an enumerated type
 abbrev pub typing_of_alone : Environment → Name → Option VariableType → Typing
 typing_of_alone env x (Some t) = typing_of_type env.text (Some t)
 typing_of_alone env x None = typing_of_reading (reading_of_name env.text x)
@@ -89,7 +89,7 @@ abbrev pub typing_of_read : Environment → Variable → Typing
 typing_of_read env (variable x no_selectors) = typing_of_alone env x.name (type_of_name env x.name)
 typing_of_read env (variable x (selector_then y ys)) = typing_of_variable env (variable x (selector_then y ys))
 
--- the type of an operation that joins two: that of the operand which has one
+-- the type of an operation that joins two operands: that of the operand that has one
 abbrev pub joined : Typing → Typing → Typing
 joined (elementary k) u = elementary k
 joined untyped u = u
@@ -102,7 +102,7 @@ abbrev pub kinds_of : List Typing → List (Option Kind)
 kinds_of [] = []
 kinds_of (t ∷ ts) = kind_of t ∷ kinds_of ts
 
--- what a call gives
+-- the type of a call's result
 abbrev pub typing_of_callee : Option Callee → List (Option Kind) → Typing
 typing_of_callee None ks = nothing
 typing_of_callee (Some (standard std)) ks = typing_of_kind (standard_kind std ks)
@@ -122,20 +122,20 @@ abbrev mutual
   typings_of env no_exprs = []
   typings_of env (expr_then e es) = typing_of env e ∷ typings_of env es
 
--- at a place that expects a type: what is untyped takes it
+-- at a place that expects a type: an untyped expression takes it
 abbrev pub settled : Option Kind → Typing → Typing
 settled k untyped = elementary (taken_kind k)
 settled k (elementary l) = elementary l
 settled k composite = composite
 settled k nothing = nothing
 
--- The typing is what the place asks. What hangs on an unknown name meets it: the name alone is told.
-abbrev pub meets : Demand → Typing → Bool
-meets (operand k) t = true
-meets (asked k ss) untyped = false
-meets (asked k ss) (elementary l) = is_kind k l && in_sorts ss (row_of l).sort
-meets (asked k ss) composite = false
-meets (asked k ss) nothing = true
+-- The typing meets the place's demand. An expression with an unknown name meets it: only the name is reported.
+abbrev pub allows : Demand → Typing → Bool
+allows (operand k) t = true
+allows (asked k ss) untyped = false
+allows (asked k ss) (elementary l) = is_kind k l && in_sorts ss (row_of l).sort
+allows (asked k ss) composite = false
+allows (asked k ss) nothing = true
 
 -- operands of one type, of these sorts
 abbrev pub are_operands : Sorts → Typing → Typing → Bool

@@ -1,4 +1,4 @@
-//! What places of expressions ask of their types.
+//! The demands of places on the types of expressions.
 
 use st_types::Kind;
 
@@ -8,24 +8,24 @@ pub enum Sorts {
     Any,
     /// Whole numbers.
     Whole,
-    /// Whole numbers and enumerated types: what a CASE selects by.
+    /// Whole numbers and enumerated types: the types of a CASE's selector.
     Selecting,
     WholeOrTime,
     /// Whole numbers with a sign.
     WithSign,
     BitString,
     TruthOrBits,
-    /// All but BOOL and enumerated types.
+    /// All except BOOL and enumerated types.
     Ordered,
     /// None: a variable that has parts takes no value.
     NoSort,
 }
 
-/// What a place asks.
+/// The demand of a place.
 #[derive(Clone, Copy, Debug, PartialEq, Eq)]
 pub enum Demand {
     /// An operand, which its operator judges; an untyped one is offered the type.
     Operand(Option<Kind>),
-    /// This type, where one is expected, of these sorts.
+    /// This type, if one is expected, of these sorts.
     Asked(Option<Kind>, Sorts),
 }

@@ -1,4 +1,4 @@
-//! Worked examples of broken rules, by topic, each proved by computation: the whole list of what is wrong in a text.
+//! Worked examples of broken rules, by topic, each proved by computation: the whole list of faults in a text.
 
 pub mod assignments;
 pub mod calls;

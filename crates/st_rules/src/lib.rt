@@ -1,7 +1,6 @@
-//! The static meaning of a text: what its names stand for, the types of its expressions, and the rules that it may
-//! break.
+//! The static meaning of a text: the meanings of its names, the types of its expressions, and the rules that it may break.
 //!
-//! The definitions stand in `specs/`, over the mirror of the trees. The functions here do nothing: their contracts are
+//! `specs/` has the definitions, over the mirror of the trees. The functions here do nothing: their contracts are
 //! worked examples and laws. The code that judges a text is proved against these definitions, in the crates above.
 #![tactic(auto)]
 
@@ -13,6 +12,6 @@ mod rule;
 mod typings;
 
 pub use demand::{Demand, Sorts};
-pub use laws::{chains_tell_depths, typings_are_those_of_the_meaning};
+pub use laws::{chains_have_depths, typings_are_those_of_the_meaning};
 pub use rule::{Broken, Rule};
 pub use typings::Typing;

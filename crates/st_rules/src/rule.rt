@@ -2,13 +2,13 @@
 
 use thiserror::Error;
 
-/// A rule on declarations, names and types. It shows as its number; C12 is no rule, but out of memory.
+/// A rule on declarations, names and types. It is shown as its number; C12 isn't a rule, but out of memory.
 #[derive(Clone, Copy, Debug, PartialEq, Eq, Error)]
 pub enum Rule {
     /// A name is unknown.
     #[error("C1")]
     UnknownName,
-    /// A name is declared twice in its scope, stands twice in a structure's initial value, or is taken.
+    /// A name is declared twice in its scope, occurs twice in a structure's initial value, or is taken.
     #[error("C2")]
     DeclaredTwice,
     /// A type is wrong.
@@ -30,13 +30,13 @@ pub enum Rule {
     /// An array's bounds are reversed or too wide, or an initial list is too long.
     #[error("C8")]
     WrongBounds,
-    /// EXIT stands outside a loop.
+    /// EXIT is outside a loop.
     #[error("C9")]
     ExitOutsideLoop,
-    /// A call's arguments do not fit in name, number or repetition.
+    /// A call's arguments don't fit in name, number or repetition.
     #[error("C10")]
     WrongArguments,
-    /// An address stands in a block of retained globals.
+    /// An address is in a block of retained globals.
     #[error("C11")]
     RetainedAddress,
     /// An enumerated type has more than 256 names.
@@ -44,7 +44,7 @@ pub enum Rule {
     TooManyNames,
 }
 
-/// A broken rule, with the offset of the first byte of the name or expression at fault. It shows as `C3 at 38`.
+/// A broken rule, with the offset of the first byte of the name or expression at fault. It is shown as `C3 at 38`.
 #[derive(Clone, Copy, Debug, PartialEq, Eq, Error)]
 #[error("{rule} at {place}")]
 pub struct Broken {

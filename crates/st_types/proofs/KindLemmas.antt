@@ -6,8 +6,9 @@ use Rattle.st_types.specs.declared.kind.Kind.{Kind}
 use Rattle.st_types.specs.declared.kind.Kind.TheVariants.{Sint, Int, Dint, Lint, Usint, Uint, Udint, Ulint, Byte, Word}
 use Rattle.st_types.specs.declared.kind.Kind.TheVariants.{Dword, Lword, Time, Bool as Boolean, Enumerated}
 use Rattle.st_types.specs.Kinds.{kind_index, names_in, number_of_type, same_kind}
+use Rattle.st_types.proofs.TestLemmas.{equal_numbers}
 
--- the type at an index of the table, with so many names and of such a number
+-- the type at an index of the table, with a number of names and this number
 kind_of_index : ℕ → ℕ → ℕ → Kind
 kind_of_index n names number =
     if n == 0 then Sint else if n == 1 then Int else if n == 2 then Dint else if n == 3 then Lint
@@ -38,9 +39,6 @@ again_is Time = refl
 again_is Boolean = refl
 again_is (Enumerated names number) = refl
 
-same_index : (m n : ℕ) → (m == n) ≡ true → m ≡ n
-same_index m n h = grind (arith, nat_tests)
-
 -- a type is known by its index, its names and its number
 pub same_kind_is : (k l : Kind) → same_kind k l ≡ true → k ≡ l
 unfolding again
@@ -49,9 +47,9 @@ same_kind_is k l h =
     let b = and_parts (names_in k == names_in l) (number_of_type k == number_of_type l) a.1 in
     sym (again_is k)
     ∙ rw (
-      same_index (kind_index k) (kind_index l) a.0,
-      same_index (names_in k) (names_in l) b.0,
-      same_index (number_of_type k) (number_of_type l) b.1,
+      equal_numbers (kind_index k) (kind_index l) a.0,
+      equal_numbers (names_in k) (names_in l) b.0,
+      equal_numbers (number_of_type k) (number_of_type l) b.1,
     ) refl
     ∙ again_is l
 

@@ -2,3 +2,6 @@ pub mod KindLemmas
 pub mod ValueLemmas
 pub mod Bridge
 pub mod Mirrors
+pub mod ListLemmas
+pub mod OptionLemmas
+pub mod TestLemmas

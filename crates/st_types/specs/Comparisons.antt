@@ -13,11 +13,11 @@ use Rattle.st_types.specs.declared.path.Step.{Step}
 use Rattle.st_types.specs.declared.path.Step.TheVariants.{Member, Element}
 use Rattle.st_types.specs.Paths.{Path, same_names, same_owner, same_step, same_steps, same_path}
 
--- the test is true exactly where the two are one
+-- the test is true exactly when the two are equal
 abbrev pub IsEquality : {K : Type 0} → (K → K → Bool) → Type 0
 IsEquality {K} E = (x y : K) → Decides (E x y) (x ≡ y)
 
--- a test that is never true of two, and always of one
+-- a test that is true only of equal values, and always of those
 equality : {K : Type 0} (E : K → K → Bool) → ((x y : K) → E x y ≡ true → x ≡ y) → ((x : K) → E x x ≡ true) → IsEquality E
 equality E only itself x y = (only x y, λ e. subst (λ z. E x z ≡ true) e (itself x))
 
@@ -28,10 +28,10 @@ equality_equiv {K} {E} d = record {
   congr = λ x y z h. ap (λ w. E w z) ((d x y).0 h);
 }
 
-same_bytes : (x y : List ℕ) → bytes_eq x y ≡ true → x ≡ y
+pub same_bytes : (x y : List ℕ) → bytes_eq x y ≡ true → x ≡ y
 same_bytes x y h = (bytes_decides x y).0 h
 
-same_bytes_itself : (x : List ℕ) → bytes_eq x x ≡ true
+pub same_bytes_itself : (x : List ℕ) → bytes_eq x x ≡ true
 same_bytes_itself x = (bytes_decides x x).1 refl
 
 -- owners
@@ -93,7 +93,7 @@ same_path_itself p = let o = same_owner_itself p.owner in let n = same_bytes_its
 pub paths_are_compared : IsEquality same_path
 paths_are_compared = equality same_path same_path_is same_path_itself
 
--- what is written to a hasher of each
+-- the writes of each to a hasher
 abbrev pub name_writes : List ℕ → HashWrites
 name_writes = fed.slice fed.u8
 

@@ -1,4 +1,4 @@
--- The mirrors that configurations of the code stand for.
+-- The mirrors of the code's configurations.
 use Rattle.std.specs.Prelude.{map, option_map}
 use Rattle.st_types.specs.declared.configuration.GlobalNames as code_names
 use Rattle.st_types.specs.declared.configuration.GlobalNames.TheVariants.{Located, Listed}

@@ -1,4 +1,4 @@
--- The mirrors that declarations of the code stand for.
+-- The mirrors of the code's declarations.
 use Rattle.std.specs.Prelude.{map, option_map}
 use Rattle.st_types.specs.declared.data_type.Field as code_field
 use Rattle.st_types.specs.declared.data_type.TypeDefinition as code_definition

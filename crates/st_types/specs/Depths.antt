@@ -46,7 +46,7 @@ abbrev pub depth_of_step : Option Expr → ℕ
 depth_of_step None = 0
 depth_of_step (Some e) = depth_of e
 
--- a list of statements is no node, nor are arguments, arms, labels and the name of a control variable
+-- a list of statements isn't a node, nor are arguments, arms, labels and the name of a control variable
 abbrev mutual
   pub depth_of_stmt : Stmt → ℕ
   depth_of_stmt empty = 1
@@ -73,7 +73,7 @@ abbrev mutual
   deepest_case_arm no_case_arms = 0
   deepest_case_arm (case_arm_then labels body arms) = max (deepest_stmt body) (deepest_case_arm arms)
 
--- a repetition is no node: it is as deep as what its parentheses hold, or 1 where they hold nothing
+-- a repetition isn't a node: it is as deep as the value in its parentheses, or 1 if they are empty
 abbrev mutual
   pub depth_of_initial : Initial → ℕ
   depth_of_initial (constant l) = 1

@@ -1,4 +1,4 @@
--- The mirrors that expressions of the code stand for.
+-- The mirrors of the code's expressions.
 use Rattle.st_types.specs.declared.expression.Expr as code_expr
 use Rattle.st_types.specs.declared.expression.Variable as code_variable
 use Rattle.st_types.specs.declared.expression.Selector as code_selector

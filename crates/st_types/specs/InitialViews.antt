@@ -1,4 +1,4 @@
--- The mirrors that initial values of the code stand for.
+-- The mirrors of the code's initial values.
 use Rattle.st_types.specs.declared.initial.Initial as code_initial
 use Rattle.st_types.specs.declared.initial.InitialElement as code_element
 use Rattle.st_types.specs.declared.initial.InitialMember as code_member

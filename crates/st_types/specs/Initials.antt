@@ -14,9 +14,9 @@ mutual
 
   pub data Element : Type 0 where
     single : Initial → Element
-    -- so many elements of one value
+    -- a number of elements with the same value
     repeated : Number → Initial → Element
-    -- so many elements of their default value
+    -- a number of elements with their default value
     defaults : Number → Element
 
   pub data Elements : Type 0 where

@@ -6,7 +6,7 @@ use Rattle.st_types.specs.declared.kind.Kind.TheVariants.{Dword, Lword, Time, Bo
 use Rattle.st_types.specs.declared.kind.Sort.{Sort}
 use Rattle.st_types.specs.declared.kind.Sort.TheVariants.{Signed, Unsigned, Bits, Duration, Truth, Place}
 
--- a line of the table: the keyword, what the values are, and how many bits they have
+-- a line of the table: the keyword, the sort of the values, and how many bits they have
 pub record Row : Type 0 where
   pub keyword : List ℕ
   pub sort : Sort
@@ -38,12 +38,12 @@ is_signed Bits = false
 is_signed Truth = false
 is_signed Place = false
 
--- the least and the greatest number of so many bits, in two's complement or without a sign
+-- the least and the greatest number of a width, in two's complement or unsigned
 abbrev pub least_of : Bool → ℕ → ℤ
 least_of true n = neg_ℤ (pos (2 ^ (n - 1)))
 least_of false n = pos 0
 
--- how many names the type has, and its place among the enumerated types; 0 of any other type
+-- how many names the type has, and its place among the enumerated types; 0 for any other type
 abbrev pub names_in : Kind → ℕ
 names_in (Enumerated names number) = names
 names_in k = 0
@@ -56,7 +56,7 @@ abbrev pub greatest_of : Bool → ℕ → ℤ
 greatest_of true n = pos (2 ^ (n - 1) - 1)
 greatest_of false n = pos (2 ^ n - 1)
 
--- the place of the last name, or the greatest number of so many bits
+-- the place of the last name, or the greatest number of a width
 abbrev pub greatest_as : Sort → ℕ → ℕ → ℤ
 greatest_as Place bits names = pos (names - 1)
 greatest_as s bits names = greatest_of (is_signed s) bits

@@ -7,7 +7,7 @@ use Rattle.st_types.specs.declared.path.Owner.{Owner}
 use Rattle.st_types.specs.declared.path.Step.{Step}
 use Rattle.st_types.specs.declared.path.Step.TheVariants.{Member, Element}
 
--- whose a variable is, its name, and the steps to a part of it
+-- the owner of a variable, its name, and the steps to a part of it
 pub record Path : Type 0 where
   pub owner : Option Owner
   pub name : List ℕ

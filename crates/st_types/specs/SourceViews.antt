@@ -1,4 +1,4 @@
--- The mirror that the tree of a whole text stands for.
+-- The mirror of the tree of a whole text.
 use Rattle.std.specs.Prelude.{map}
 use Rattle.st_types.specs.declared.source.LibraryElement as code_element
 use Rattle.st_types.specs.declared.source.LibraryElement.TheVariants as variants

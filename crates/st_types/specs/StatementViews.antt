@@ -1,4 +1,4 @@
--- The mirrors that statements of the code stand for.
+-- The mirrors of the code's statements.
 use Rattle.std.specs.Prelude.{List, map, option_map}
 use Rattle.st_types.specs.declared.statement.Argument as code_argument
 use Rattle.st_types.specs.declared.statement.Argument.TheVariants.{Input, Output}

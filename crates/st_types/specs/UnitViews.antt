@@ -1,4 +1,4 @@
--- The mirrors that units of the code stand for.
+-- The mirrors of the code's units.
 use Rattle.std.specs.Prelude.{map}
 use Rattle.st_types.specs.declared.unit.Unit as code_unit
 use Rattle.st_types.specs.DeclarationViews.{variable_block_view}

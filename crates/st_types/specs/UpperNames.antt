@@ -25,7 +25,7 @@ is_upper_name [] = false
 is_upper_name (b ∷ bs) = is_letter b && list_all is_letter_or_digit bs && is_spaced (b ∷ bs)
     && nat_le (length (b ∷ bs)) MAX_NAME_LENGTH
 
--- names one behind another, with commas between them
+-- names separated by commas
 abbrev pub joined : List (List ℕ) → List ℕ
 joined [] = []
 joined (x ∷ []) = x

@@ -19,13 +19,13 @@ IsHeld d = holds d.kind d.number ≡ true
 abbrev pub same_datum : Datum → Datum → Bool
 same_datum a b = same_kind a.kind b.kind && int_eq a.number b.number
 
--- the value of the type that is this number, or a fault where the type does not hold it
+-- the value of the type with this number, or a fault if the type doesn't hold it
 abbrev pub in_range : Kind → ℤ → Result Datum Fault
 in_range k z = if holds k z then Ok (record { kind = k; number = z }) else Err Range
 
-abbrev pub datum_of_truth : Bool → Datum
-datum_of_truth b = record { kind = Boolean; number = if b then pos 1 else pos 0 }
+abbrev pub bool_datum : Bool → Datum
+bool_datum b = record { kind = Boolean; number = if b then pos 1 else pos 0 }
 
 -- a BOOL that is TRUE
 abbrev pub is_true : Datum → Bool
-is_true d = same_datum d (datum_of_truth true)
+is_true d = same_datum d (bool_datum true)

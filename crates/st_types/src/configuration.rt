@@ -5,7 +5,7 @@ use crate::identifier::Identifier;
 use crate::initial::Initial;
 use crate::tree::Tree;
 
-/// Where a global variable stands in the plant: inputs come from it, outputs go to it.
+/// Where a global variable is in the plant: inputs come from it, outputs go to it.
 #[derive(Clone, Copy, Debug, PartialEq, Eq)]
 pub enum Direction {
     Input,
@@ -21,7 +21,7 @@ pub enum AddressWidth {
     Word,
 }
 
-/// A direct address, as `%IX5`.
+/// A direct address, such as `%IX5`.
 #[derive(Clone, Copy, Debug, PartialEq, Eq)]
 pub struct Address {
     pub direction: Direction,
@@ -129,7 +129,7 @@ impl Drop for Instance {
     }
 }
 
-/// A resource: what runs one program at a time.
+/// A resource, which runs one program at a time.
 pub struct Resource {
     pub name: Identifier,
     /// The name after ON.

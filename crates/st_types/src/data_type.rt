@@ -72,7 +72,7 @@ impl Drop for Field {
     }
 }
 
-/// What a type is declared as.
+/// The definition of a type.
 pub enum TypeDefinition {
     Array(ArrayType),
     Structure(Vec<Field>),

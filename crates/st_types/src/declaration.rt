@@ -5,7 +5,7 @@ use crate::identifier::Identifier;
 use crate::initial::Initial;
 use crate::tree::Tree;
 
-/// What a block of variables says of their retention.
+/// The word of a block of variables on their retention.
 #[derive(Clone, Copy, Debug, PartialEq, Eq)]
 pub enum Retention {
     Retain,

@@ -1,4 +1,4 @@
-//! What the log is made of.
+//! The entries of the log.
 
 ghost use Rattle.std.specs.Prelude.{◌≡◌, IfOk, ◌↔◌, IsTrue};
 ghost use Rattle.st_types.specs.Rows.{Latch};

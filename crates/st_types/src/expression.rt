@@ -18,7 +18,7 @@ pub enum Expr {
     Variable(Variable),
     /// A call of a function with its arguments.
     Call(Identifier, Vec<Expr>),
-    /// An expression in parentheses, of which the first stands at the place.
+    /// An expression in parentheses, with the place of the first one.
     Parenthesis(usize, Box<Expr>),
     /// An operator at a place, before its operand.
     Unary(UnaryOperator, usize, Box<Expr>),
@@ -39,7 +39,7 @@ impl Drop for Expr {
     }
 }
 
-/// A variable: a name, and what is selected of it, from the left.
+/// A variable: a name, and its selectors, from the left.
 #[cycle(expression)]
 pub struct Variable {
     pub name: Identifier,

@@ -2,7 +2,7 @@
 
 use thiserror::Error;
 
-/// A fault of an execution. It shows as its number.
+/// A fault of an execution. It is shown as its number.
 #[derive(Clone, Copy, Debug, PartialEq, Eq, Error)]
 pub enum Fault {
     /// A result is outside its type.

@@ -6,7 +6,7 @@ use crate::name::Name;
 use crate::tree::Tree;
 use std::alloc::{AllocError, Global};
 
-/// A name where it stands in a text.
+/// A name at its place in a text.
 pub struct Identifier {
     pub name: Name,
     /// The offset of its first byte in the text.
@@ -20,7 +20,7 @@ impl Drop for Identifier {
 }
 
 impl Identifier {
-    /// Another one of the same name and place.
+    /// Another one with the same name and place.
     pub fn copied(&self, alloc: Global) -> Result<Identifier, AllocError>
         ensures { IfOk result (λ x. x ≡ self.now) }
     {

@@ -13,9 +13,9 @@ use crate::tree::Tree;
 #[cycle(initial)]
 pub enum Initial {
     Constant(Literal),
-    /// The elements of an array, of which the `[` stands at the place.
+    /// The elements of an array, with the place of the `[`.
     List(usize, Vec<InitialElement>),
-    /// The fields of a structure, of which the `(` stands at the place.
+    /// The fields of a structure, with the place of the `(`.
     Structure(usize, Vec<InitialMember>),
 }
 
@@ -32,9 +32,9 @@ impl Drop for Initial {
 #[cycle(initial)]
 pub enum InitialElement {
     Single(Initial),
-    /// So many elements of one value, as in `3(0)`.
+    /// A number of elements with the same value, as in `3(0)`.
     Repeated(Number, Initial),
-    /// So many elements of their default value, as in `3()`.
+    /// A number of elements with their default value, as in `3()`.
     Defaults(Number),
 }
 

@@ -32,12 +32,12 @@ pub enum Kind {
     },
 }
 
-/// What the values of an elementary type are.
+/// The sort of an elementary type's values.
 #[derive(Clone, Copy, Debug, PartialEq, Eq)]
 pub enum Sort {
     /// Whole numbers in two's complement.
     Signed,
-    /// Whole numbers without a sign.
+    /// Unsigned whole numbers.
     Unsigned,
     /// Bit strings, compared and converted as unsigned numbers.
     Bits,

@@ -2,7 +2,7 @@
 //! text; rows and activations.
 //!
 //! A `Value` is always one that its type holds. Nothing here judges a tree, or compares two. The limits that several
-//! crates share stand in `limits`.
+//! crates share are in `limits`.
 #![tactic(auto)]
 
 mod configuration;

@@ -7,7 +7,7 @@ use crate::tree::Tree;
 /// A whole number or bit string as it is written, with a `-` directly before it.
 #[derive(Clone, Copy, Debug, PartialEq, Eq)]
 pub struct Number {
-    /// The offset of its first byte, which is the `-` where there is one.
+    /// The offset of its first byte, which is the `-` if there is one.
     pub place: usize,
     pub is_negative: bool,
     /// The number without its sign.
@@ -26,7 +26,7 @@ pub struct Number {
 pub struct EnumeratedValue {
     /// The offset of its first byte.
     pub place: usize,
-    /// The name of its type, where it is written.
+    /// The name of its type, if it is written.
     pub type_name: Option<Name>,
     pub name: Name,
 }
@@ -41,7 +41,7 @@ impl Drop for EnumeratedValue {
     }
 }
 
-/// A literal where it stands in a text.
+/// A literal at its place in a text.
 pub enum Literal {
     Number(Number),
     /// TRUE or FALSE, at a place.

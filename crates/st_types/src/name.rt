@@ -50,7 +50,7 @@ impl Name {
         Ok(Name { bytes })
     }
 
-    /// Another name of the same bytes.
+    /// Another name with the same bytes.
     pub fn copied(&self, alloc: Global) -> Result<Name, AllocError>
         ensures { IfOk result (λ n. n ≡ self.now) }
     {
@@ -74,7 +74,7 @@ impl Name {
     }
 }
 
-// Two names are equal where they have the same bytes.
+// Two names are equal if they have the same bytes.
 impl PartialEq for Name {
     ghost eq = { bytes_eq };
 

@@ -41,7 +41,7 @@ impl Drop for Step {
     }
 }
 
-/// The path of a variable: whose it is, its name, and the steps to the part that is meant. Contracts see these three.
+/// The path of a variable: its owner, its name, and the steps to the part that is meant. Contracts see these three.
 ///
 /// A global has no owner, nor has a variable of a function.
 pub struct Path {
@@ -69,7 +69,7 @@ impl Model for Path {
 }
 
 impl Owner {
-    /// Another one of the same names.
+    /// Another one with the same names.
     pub fn copied(&self, alloc: Global) -> Result<Owner, AllocError>
         ensures { IfOk result (λ x. x ≡ self.now) }
     {
@@ -134,7 +134,7 @@ impl Path {
         }
     }
 
-    /// Takes one step more.
+    /// Appends a step.
     pub fn push(&mut self, step: Step) -> Result<(), AllocError>
         ensures ok { OnOk result (self.new ≡ record self.old { steps = self.old.steps ++ step ∷ [] }) }
         ensures err { OnErr result (self.new ≡ self.old) }
@@ -180,8 +180,8 @@ impl Path {
     }
 }
 
-// Two paths are equal where they lead to one part, and so for what paths are made of: `==` is equality of what contracts
-// see (`Comparisons`), so a map by paths has one entry a path.
+// Two paths are equal if they lead to the same part, and likewise for the parts of paths: `==` is equality of what
+// contracts see (`Comparisons`), so a map by paths has one entry per path.
 
 impl PartialEq for Owner {
     ghost use Rattle.st_types.specs.Paths.{same_names};

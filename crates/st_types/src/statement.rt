@@ -18,15 +18,15 @@ pub enum Stmt {
     Assign(Variable, Expr),
     /// A call of a block's instance.
     Invoke(Identifier, Vec<Argument>),
-    /// IF with its ELSIFs, and what stands after ELSE.
+    /// IF with its ELSIFs, and the statements after ELSE.
     If(Vec<Arm>, Vec<Stmt>),
-    /// CASE over a selector, and what stands after ELSE.
+    /// CASE over a selector, and the statements after ELSE.
     Case(Expr, Vec<CaseArm>, Vec<Stmt>),
     For {
         control: Identifier,
         start: Expr,
         limit: Expr,
-        /// What stands after BY.
+        /// The expression after BY.
         step: Option<Expr>,
         body: Vec<Stmt>,
     },

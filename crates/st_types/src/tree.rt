@@ -1,7 +1,6 @@
-//! What all trees of a text have in common.
+//! The common trait of all trees of a text.
 
-/// A part of a text's tree. The definitions speak of its mirror alone, in which nothing tells where a part lies in
-/// memory.
+/// A part of a text's tree. The definitions use only its mirror, which says nothing about where a part is in memory.
 pub trait Tree {
     /// The type of its mirror.
     ghost Mirror: { Type 0 };

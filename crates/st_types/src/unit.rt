@@ -6,7 +6,7 @@ use crate::identifier::Identifier;
 use crate::statement::Stmt;
 use crate::tree::Tree;
 
-/// What a unit is.
+/// The sort of a unit.
 pub enum UnitSort {
     /// A function, with the type of its result.
     Function(SimpleType),

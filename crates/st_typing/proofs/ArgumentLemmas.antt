@@ -37,14 +37,14 @@ pub inputs_counted : (ks : List (Option Kind)) → length (demands_of_inputs ks)
 inputs_counted [] = refl
 inputs_counted (k ∷ ks) = ap suc (inputs_counted ks)
 
--- what a function of the text asks of one argument
+-- the demand of a function of the text on one argument
 pub input_asked : (ks : List (Option Kind)) (i : ℕ) (k : Option Kind) → i < length ks → k ≡ get_or ks i k
     → Asked k Any ≡ first_demand (drop i (demands_of_inputs ks))
 input_asked ks i k h is =
     ap (λ l. Asked l Any) is
     ∙ sym (ap first_demand (drop-map (λ l. Asked l Any) i ks ∙ ap demands_of_inputs (drop_more ks i k h)))
 
--- the arguments that a loop has left
+-- the rest of the arguments in a loop
 other_dropped : (ds : List Demand) (i : ℕ) → other_demands (drop i ds) ≡ drop (suc i) ds
 other_dropped [] zero = refl
 other_dropped [] (suc i) = refl
@@ -80,7 +80,7 @@ pub none_left : (env : Environment) (ds : List Demand) (xs : List code_expr.Expr
 none_left env ds xs i h =
     ap (λ ys. wrong_arguments env ds (exprs_of (map expr_view ys))) (drop_all i xs h)
 
--- what is wrong in the arguments is wrong in the call
+-- a fault in the arguments is a fault in the call
 pub call_found : (env : Environment) (at : ℕ) (ds : List Demand) (es : Exprs) (b : Broken)
     → Contains (wrong_arguments env ds es) b → Contains (wrong_in_call env at ds es) b
 call_found env at ds es b h =
@@ -103,7 +103,7 @@ own_types env f es inputs result t a calls gives h =
     call_types env f es (own inputs result) (kinds_of (typings_of env es)) (demands_of_inputs inputs) t a calls refl
     refl gives h
 
--- no standard function takes none, or more than three
+-- no standard function takes no argument, or more than three
 three_at_most : (f : Standard) (k : Option Kind) (n : ℕ) → (n < 1) ⊎ (3 < n)
     → n ≡ length (demands_of_standard f k) → ⊥
 three_at_most ABS k n far is = grind arith

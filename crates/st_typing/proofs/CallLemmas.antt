@@ -50,7 +50,7 @@ other_found env ds e es b h =
     subst (λ (xs : List Broken). Contains xs b) (sym (arguments_more env ds e es))
     (Contains-append_right (wrong_expression env (first_demand ds) e) (wrong_arguments env (other_demands ds) es) b h)
 
--- what an argument has wrong, whatever is offered or asked
+-- the faults of an argument, whatever is offered or asked
 pub first_wrong : (env : Environment) (e : Expr) (es : Exprs) (b : Broken)
     → ((k : Option Kind) → Contains (wrong_within env k e) b) → (ds : List Demand)
     → Contains (wrong_arguments env ds (expr_then e es)) b
@@ -61,7 +61,7 @@ pub other_wrong : (env : Environment) (e : Expr) (es : Exprs) (b : Broken)
     → Contains (wrong_arguments env ds (expr_then e es)) b
 other_wrong env e es b h ds = other_found env ds e es b (h (other_demands ds))
 
--- a call with what its function asks
+-- a call with the demands of its function
 pub call_faults : (env : Environment) (k : Option Kind) (f : Identifier) (es : Exprs) (o : Option Callee)
     (ds : List Demand) → callee_of env f.name ≡ o → ds ≡ demands_of env o es
     → wrong_call f.place o ds es ++ wrong_arguments env ds es ≡ wrong_within env k (call f es)

@@ -7,15 +7,16 @@ use Rattle.std.proofs.lemmas.List.Elements.{Contains-append_left, Contains-appen
 use Rattle.st_rules.specs.declared.rule.Broken.{Broken}
 use Rattle.st_rules.specs.Faults.{Finds}
 use Rattle.st_typing.specs.Verdicts.{or_broken}
+use Rattle.st_types.proofs.ListLemmas.{map_drop_next}
 
--- what is found in a front, or else behind it
+-- a fault found in a front, or else after it
 pub finds_front : (xs ys : List Broken) (a b : Option Broken) → Finds xs a → Finds ys b
     → Finds (xs ++ ys) (or_broken a b)
 finds_front xs ys (Some x) b h k = Contains-append_left xs ys x h
 finds_front xs ys None (Some y) h k = Contains-append_right xs ys y k
 finds_front xs ys None None h k = rw (h, k) refl
 
--- what is found behind a front, or else in it
+-- a fault found after a front, or else in it
 pub finds_back : (xs ys : List Broken) (a b : Option Broken) → Finds ys a → Finds xs b
     → Finds (xs ++ ys) (or_broken a b)
 finds_back xs ys (Some y) b h k = Contains-append_right xs ys y h
@@ -29,20 +30,15 @@ finds_alone xs None h = rw h refl
 pub finds_same : (xs ys : List Broken) (a : Option Broken) → xs ≡ ys → Finds xs a → Finds ys a
 finds_same xs ys a e h = subst (λ (zs : List Broken). Finds zs a) e h
 
-pub left_viewed : {A B : Type 0} (g : A → B) (xs : List A) (i : ℕ) (x : A) → i < length xs → x ≡ slice_index_or xs i x
-    → map g (drop i xs) ≡ g x ∷ map g (drop (i + 1) xs)
-left_viewed g xs i x h is =
-    ap (map g) (drop_more xs i x h ∙ ap (λ y. y ∷ drop (i + 1) xs) (sym is))
-
--- One of a list is wrong: what is wrong in it is so in the whole.
+-- A fault in one element of a list is one in the whole.
 pub found_here : {A B C : Type 0} (f : B → List C) (g : A → B) (xs : List A) (i : ℕ) (x : A) (b : C) (all : List C)
     → i < length xs → x ≡ slice_index_or xs i x → flat_map f (map g (drop i xs)) ≡ all → Contains (f (g x)) b
     → Contains all b
 found_here f g xs i x b all h is left here =
-    subst (λ ys. Contains ys b) (ap (flat_map f) (sym (left_viewed g xs i x h is)) ∙ left)
+    subst (λ ys. Contains ys b) (ap (flat_map f) (sym (map_drop_next g xs i x h is)) ∙ left)
     (Contains-append_left (f (g x)) (flat_map f (map g (drop (i + 1) xs))) b here)
 
--- What is found in a front is found in the whole, and where the front is clean, what is found behind it.
+-- A fault found in a front is found in the whole, and, if the front is clean, so is one found after it.
 pub in_front : (xs ys : List Broken) (o : Option Broken) (b : Broken) → o ≡ Some b → Finds xs o
     → Contains (xs ++ ys) b
 in_front xs ys o b is h = Contains-append_left xs ys b (subst (λ p. Finds xs p) is h)
@@ -51,7 +47,7 @@ pub behind : (xs ys : List Broken) (o p : Option Broken) → o ≡ None → Find
 behind xs ys o p is clean h =
     subst (λ zs. Finds (zs ++ ys) p) (sym (subst (λ q. Finds xs q) is clean)) h
 
--- the same of what is one or else another
+-- the same for the first or else another
 pub finds_either : (xs ys : List Broken) (o a b : Option Broken) → o ≡ or_broken a b → Finds xs a → Finds ys b
     → Finds (xs ++ ys) o
 finds_either xs ys o a b is h k = subst (λ p. Finds (xs ++ ys) p) (sym is) (finds_front xs ys a b h k)

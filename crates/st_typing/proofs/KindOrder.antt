@@ -10,15 +10,14 @@ use Rattle.st_types.specs.declared.kind.Kind.{Kind}
 use Rattle.st_types.specs.Kinds.{same_kind, kind_index, names_in, number_of_type}
 use Rattle.st_typing.specs.declared.spans.Span.{Span}
 use Rattle.st_typing.specs.Spans.{Before, by_row, by_names, by_number, InOrder, by_type, by_lower}
+use Rattle.st_types.proofs.TestLemmas.{equal_numbers}
+use Rattle.st_types.proofs.KindLemmas.{same_kind-refl}
 
--- what makes two types one
+-- the parts that make two types the same
 pub record Same (k l : Kind) : Type 0 where
   pub row : kind_index k ≡ kind_index l
   pub names : names_in k ≡ names_in l
   pub number : number_of_type k ≡ number_of_type l
-
-equal_tested : (a b : ℕ) → (a == b) ≡ true → a ≡ b
-equal_tested a b h = grind (arith, nat_tests)
 
 test_of_equal : (a b : ℕ) → a ≡ b → (a == b) ≡ true
 test_of_equal a b h = grind (arith, nat_tests)
@@ -31,9 +30,9 @@ same_told k l h =
     parted : (a b c : Bool) → (kind_index k == kind_index l) ≡ a → (names_in k == names_in l) ≡ b
         → (number_of_type k == number_of_type l) ≡ c → (a && (b && c)) ≡ true → Same k l
     parted true true true p q r e = record {
-      row = equal_tested (kind_index k) (kind_index l) p;
-      names = equal_tested (names_in k) (names_in l) q;
-      number = equal_tested (number_of_type k) (number_of_type l) r;
+      row = equal_numbers (kind_index k) (kind_index l) p;
+      names = equal_numbers (names_in k) (names_in l) q;
+      number = equal_numbers (number_of_type k) (number_of_type l) r;
     }
     parted false b c p q r e = absurd (cc)
     parted true false c p q r e = absurd (cc)
@@ -48,9 +47,6 @@ same_tested k l s =
     (test_of_equal (kind_index k) (kind_index l) s.row) (test_of_equal (names_in k) (names_in l) s.names)
     (test_of_equal (number_of_type k) (number_of_type l) s.number)
 
-pub kind_itself : (k : Kind) → same_kind k k ≡ true
-kind_itself k = same_tested k k (record { row = refl; names = refl; number = refl })
-
 pub kinds_joined : (k l m : Kind) → same_kind k l ≡ true → same_kind k m ≡ true → same_kind l m ≡ true
 kinds_joined k l m h j =
     let p = same_told k l h in
@@ -62,7 +58,7 @@ kinds_joined k l m h j =
     })
 
 pub kinds_turned : (k l : Kind) → same_kind k l ≡ true → same_kind l k ≡ true
-kinds_turned k l h = kinds_joined k l k h (kind_itself k)
+kinds_turned k l h = kinds_joined k l k h (same_kind-refl k)
 
 -- the order of types
 pub before_before : (k l m : Kind) → Before k l → Before l m → Before k m
@@ -104,7 +100,7 @@ not_itself k l b = by (same_kind k l) refl
     by false h = h
     by true h = differs (same_told k l h) b
 
--- what a comparison tells
+-- the result of a comparison
 pub data Compared (a b : ℕ) : Ordering → Type 0 where
   less : a < b → Compared a b Less
   equal : a ≡ b → Compared a b Equal

@@ -1,4 +1,4 @@
--- What is wrong in an expression, from what is wrong in its parts.
+-- The faults in an expression, from those in its parts.
 use Rattle.std.proofs.Common.{◌≡◌, ◌∙◌, sym, subst, ℕ, ◌++◌, Bool, true, ◌&&◌, Option, None, refl}
 use Rattle.std.proofs.lemmas.Bool.{and_parts}
 use Rattle.std.proofs.lemmas.List.Concat.{flat_map-append}
@@ -18,7 +18,7 @@ use Rattle.st_rules.specs.declared.typings.Typing.{Typing}
 use Rattle.st_rules.specs.declared.typings.Typing.TheVariants.{Untyped as untyped, Elementary as elementary}
 use Rattle.st_rules.specs.declared.typings.Typing.TheVariants.{Composite as composite, Nothing as nothing}
 use Rattle.st_rules.specs.Demands.{sorts_of_unary, sorts_of_binary}
-use Rattle.st_rules.specs.Typings.{is_untyped_typing, typing_of, settled, meets, are_operands}
+use Rattle.st_rules.specs.Typings.{is_untyped_typing, typing_of, settled, allows, are_operands}
 use Rattle.st_rules.specs.Nodes.{nodes_of, offered}
 use Rattle.st_rules.specs.ExpressionRules.{first_byte, wrong_literal, wrong_part, wrong_node, wrong_within}
 use Rattle.st_rules.proofs.TypingLaws.{untyped_told}
@@ -54,12 +54,12 @@ parenthesis_within env k at x e a is h = rw is h
 pub unary_within : (env : Environment) (k : Option Kind) (op : UnaryOperator) (at : ℕ) (x e : Expr)
     (a b : Option Broken) → e ≡ unary op at x → Finds (wrong_within env k x) a
     → Finds (breaking WrongType
-    (unless (meets (asked None (sorts_of_unary op)) (settled k (typing_of env x))) at)) b
+    (unless (allows (asked None (sorts_of_unary op)) (settled k (typing_of env x))) at)) b
     → Finds (wrong_within env k e) (or_broken a b)
 unary_within env k op at x e a b is h i =
     rw is (finds_back (wrong_part env k (unary op at x)) (wrong_within env k x) a b h i)
 
--- an operation with what its operands are offered
+-- an operation with the type that its operands are offered
 pub binary_within : (env : Environment) (k o : Option Kind) (op : BinaryOperator) (l r e : Expr) (t u : Typing)
     (a b c : Option Broken) → e ≡ binary op l r → o ≡ offered k op (typing_of env l) (typing_of env r)
     → t ≡ settled o (typing_of env l) → u ≡ settled o (typing_of env r)
@@ -99,9 +99,9 @@ untyped_binary_within env k op l r e a b c is both h i j =
 
 pub untyped_unary_within : (env : Environment) (k : Option Kind) (op : UnaryOperator) (at : ℕ) (x e : Expr)
     (a b : Option Broken) → e ≡ unary op at x → is_untyped x ≡ true → Finds (wrong_within env k x) a
-    → Finds (breaking WrongType (unless (meets (asked None (sorts_of_unary op)) (elementary (taken_kind k))) at)) b
+    → Finds (breaking WrongType (unless (allows (asked None (sorts_of_unary op)) (elementary (taken_kind k))) at)) b
     → Finds (wrong_within env k e) (or_broken a b)
 untyped_unary_within env k op at x e a b is same h i =
     unary_within env k op at x e a b is h
-    (subst (λ (t : Typing). Finds (breaking WrongType (unless (meets (asked None (sorts_of_unary op)) t) at)) b)
+    (subst (λ (t : Typing). Finds (breaking WrongType (unless (allows (asked None (sorts_of_unary op)) t) at)) b)
     (settled_untyped k (typing_of env x) (typing_untyped env x same)) i)

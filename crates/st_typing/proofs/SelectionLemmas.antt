@@ -14,7 +14,7 @@ use Rattle.st_types.specs.declared.expression.Selector as code_selector
 use Rattle.st_types.specs.Expressions.{read, Variable, variable, Selector, Selectors, no_selectors, selector_then}
 use Rattle.st_types.specs.Expressions.{selectors_of}
 use Rattle.st_types.specs.ExpressionViews.{selector_view}
-use Rattle.st_meaning.specs.NameTypes.{Declared, selected_type, type_behind}
+use Rattle.st_meaning.specs.NameTypes.{Declared, selected_type, type_after_selectors}
 use Rattle.st_rules.specs.declared.rule.Rule.TheVariants.{UnknownName}
 use Rattle.st_rules.specs.declared.rule.Broken.{Broken}
 use Rattle.st_rules.specs.Faults.{breaking}
@@ -25,17 +25,17 @@ use Rattle.st_rules.specs.Nodes.{nodes_of_selector, nodes_of_selectors}
 use Rattle.st_rules.specs.ExpressionRules.{wrong_alone, wrong_node, wrong_selector, wrong_selectors, wrong_within}
 use Rattle.symbols.specs.declared.place_types.PlaceType.{PlaceType}
 use Rattle.st_typing.specs.Answers.{Gives, Types}
-use Rattle.st_typing.specs.Selections.{selected, wrong_selected, wrong_step, wrong_from, wrong_behind}
+use Rattle.st_typing.specs.Selections.{selected, wrong_selected, wrong_step, wrong_from, wrong_in_selectors}
 use Rattle.st_typing.specs.Selections.{SelectsAll, SelectsPlace}
 use Rattle.st_typing.proofs.TypingLemmas.{types_given}
 
--- Selectors of a type lead to the same as others of another: they are what is left of these.
+-- Selectors of a type lead to the same as others of another type: they are the rest of these.
 pub record Continues (env : Environment) (at : ℕ) (o : Option VariableType) (xs : Selectors) (p : Option VariableType)
     (ys : Selectors) : Type 0 where
-  pub types : option_and_then (type_behind env.text ys) p ≡ option_and_then (type_behind env.text xs) o
-  pub faults : wrong_behind env at p ys ≡ wrong_behind env at o xs
+  pub types : option_and_then (type_after_selectors env.text ys) p ≡ option_and_then (type_after_selectors env.text xs) o
+  pub faults : wrong_in_selectors env at p ys ≡ wrong_in_selectors env at o xs
 
--- what is wrong in one step, and in the others
+-- the faults in one step, and in the others
 selected_step : (text : Declared) (at : ℕ) (t : VariableType) (x : Selector) (xs : Selectors) (o : Option VariableType)
     → elim o [
       | Some u ↦ wrong_selectors text at u xs
@@ -54,10 +54,10 @@ nodes_step : (env : Environment) (x : Selector) (xs : Selectors)
     ≡ flat_map (wrong_node env) (nodes_of_selector env x) ++ flat_map (wrong_node env) (nodes_of_selectors env xs)
 nodes_step env x xs = flat_map-append (wrong_node env) (nodes_of_selector env x) (nodes_of_selectors env xs)
 
--- what is wrong in a step
+-- the faults in a step
 pub subscript_wrong : (env : Environment) (at : ℕ) (o : Option VariableType) (xs : Selectors) (p : Option VariableType)
     (x : Selector) (ys : Selectors) (b : Broken) → Continues env at o xs p (selector_then x ys)
-    → Contains (flat_map (wrong_node env) (nodes_of_selector env x)) b → Contains (wrong_behind env at o xs) b
+    → Contains (flat_map (wrong_node env) (nodes_of_selector env x)) b → Contains (wrong_in_selectors env at o xs) b
 subscript_wrong env at o xs p x ys b h found =
     let own = flat_map (wrong_node env) (nodes_of_selector env x) in
     let below = flat_map (wrong_node env) (nodes_of_selectors env ys) in
@@ -68,7 +68,7 @@ subscript_wrong env at o xs p x ys b h found =
 
 pub selection_wrong : (env : Environment) (at : ℕ) (o : Option VariableType) (xs : Selectors) (p : Option VariableType)
     (x : Selector) (ys : Selectors) (b : Broken) → Continues env at o xs p (selector_then x ys)
-    → Contains (wrong_step env.text at p x) b → Contains (wrong_behind env at o xs) b
+    → Contains (wrong_step env.text at p x) b → Contains (wrong_in_selectors env at o xs) b
 selection_wrong env at o xs p x ys b h found =
     subst (λ (zs : List Broken). Contains zs b) h.faults
     (Contains-append_left (wrong_from env.text at p (selector_then x ys))
@@ -85,7 +85,7 @@ pub place_selected : (env : Environment) (x : Identifier) (xs : Selectors) (t : 
     (r : Result (Option PlaceType) Broken) → type_of_name env x.name ≡ Some t
     → SelectsAll env x.place (Some t) xs r → SelectsPlace env (variable x xs) r
 place_selected env x xs t (Ok found) is h = (
-  h.0 ∙ ap (option_and_then (type_behind env.text xs)) (sym is),
+  h.0 ∙ ap (option_and_then (type_after_selectors env.text xs)) (sym is),
   ap (λ (ys : List Broken). ys ++ flat_map (wrong_node env) (nodes_of_selectors env xs)) (ap (faults_of env x xs) is)
       ∙ h.1,
 )

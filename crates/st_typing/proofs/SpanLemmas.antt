@@ -1,4 +1,4 @@
--- Spans that were sorted: none overlaps where each ends before the next, and neighbours that touch overlap.
+-- Spans that were sorted: none overlaps if each ends before the next, and neighbours that touch overlap.
 use Rattle.std.proofs.Common.{◌≡◌, refl, sym, ap, subst, ◌∙◌, ℕ, zero, suc, ◌+◌, ◌<◌, ◌≤◌, ℤ, ◌≤ℤ◌, ◌<ℤ◌, int_le, pos}
 use Rattle.std.proofs.Common.{arith}
 use Rattle.std.proofs.Common.{List, [], ◌∷◌, ◌++◌, Bool, true, false, ◌&&◌, if◌then◌else◌, length, slice_index_or, drop}
@@ -8,7 +8,7 @@ use Rattle.std.specs.Ordering.{nat_cmp, int_cmp, ordering_then}
 use Rattle.std.specs.Int.{int_max}
 use Rattle.std.specs.List.{flat_map, sum_by, Contains, All}
 use Rattle.std.specs.List.Sorted.{IsPermutation, IsSortedByKey}
-use Rattle.std.proofs.lemmas.Bool.{cases_eq}
+use Rattle.std.proofs.lemmas.Bool.{cases_eq, and_parts, and_left, and_right}
 use Rattle.std.proofs.lemmas.Int.{ints, int_max_is}
 use Rattle.std.proofs.lemmas.List.{drop_more, get_or_default}
 use Rattle.std.proofs.lemmas.List.Elements.{Contains-append_left, Contains-append_right, All-nil, All-cons}
@@ -25,8 +25,9 @@ use Rattle.st_rules.specs.LabelRules.{is_reversed, meet, overlaps, wrong_spans}
 use Rattle.symbols.specs.Searches.{FindsPlace}
 use Rattle.st_typing.specs.declared.spans.Span.{Span}
 use Rattle.st_typing.specs.Spans.{span_view, Before, InOrder, by_type, by_lower, Ascend, IsApart, AreApart, IsTouched}
-use Rattle.st_typing.proofs.KindOrder.{kind_itself, kinds_joined, kinds_turned, before_before, same_before, before_same}
+use Rattle.st_typing.proofs.KindOrder.{kinds_joined, kinds_turned, before_before, same_before, before_same}
 use Rattle.st_typing.proofs.KindOrder.{not_itself, in_order}
+use Rattle.st_types.proofs.KindLemmas.{same_kind-refl}
 
 abbrev pub one : Bool → ℕ
 one true = 1
@@ -53,7 +54,7 @@ pub holders_kept : (k : Kind) (v : ℤ) (xs ys : List Span) → IsPermutation xs
 holders_kept k v xs ys p =
     holders_are k v ys ∙ sum_by-IsPermutation (λ s. one (holds k v s)) xs ys p ∙ sym (holders_are k v xs)
 
--- what is told of neighbours in a list is so of its rest
+-- facts about neighbours in a list hold in its rest
 the_next : (j : ℕ) → suc j + 1 ≡ suc (j + 1)
 the_next j = omega arith
 
@@ -84,26 +85,14 @@ pub data IsBelow (k : Kind) (v : ℤ) (s : Span) : Type 0 where
   of_type_before : Before k s.kind → IsBelow k v s
   of_its_type : same_kind k s.kind ≡ true → v <ℤ s.lower → IsBelow k v s
 
-both_false : (b c : Bool) → b ≡ false → (b && c) ≡ false
-both_false b c h = rw h refl
-
-both_parts : (b c : Bool) → (b && c) ≡ true → (b ≡ true) × (c ≡ true)
-both_parts true true h = (refl, refl)
-both_parts true false h = absurd (cc)
-both_parts false c h = absurd (cc)
-
 outside : (v : ℤ) (s : Span) → v <ℤ s.lower → (int_le s.lower v && int_le v s.upper) ≡ false
 outside v s h = grind (arith, ints)
 
-behind_false : (b c : Bool) → c ≡ false → (b && c) ≡ false
-behind_false true c h = h
-behind_false false c h = refl
-
 not_held : (k : Kind) (v : ℤ) (s : Span) → IsBelow k v s → holds k v s ≡ false
 not_held k v s (of_type_before b) =
-    both_false (same_kind k s.kind) (int_le s.lower v && int_le v s.upper) (not_itself k s.kind b)
+    and_left (same_kind k s.kind) (int_le s.lower v && int_le v s.upper) (not_itself k s.kind b)
 not_held k v s (of_its_type same lt) =
-    behind_false (same_kind k s.kind) (int_le s.lower v && int_le v s.upper) (outside v s lt)
+    and_right (same_kind k s.kind) (int_le s.lower v && int_le v s.upper) (outside v s lt)
 
 further : (u v w x : ℤ) → u <ℤ v → v ≤ℤ w → w <ℤ x → u <ℤ x
 further u v w x h i j = grind (arith, ints)
@@ -135,8 +124,8 @@ below_after u v w h i = grind (arith, ints)
 
 held_below : (k : Kind) (v : ℤ) (s t : Span) → holds k v s ≡ true → Parted s t → IsBelow k v t
 held_below k v s t h p =
-    let both = both_parts (same_kind k s.kind) (int_le s.lower v && int_le v s.upper) h in
-    below both.0 (held_parts v s both.1).1 p
+    let parts = and_parts (same_kind k s.kind) (int_le s.lower v && int_le v s.upper) h in
+    below parts.0 (held_parts v s parts.1).1 p
   where
     below : same_kind k s.kind ≡ true → v ≤ℤ s.upper → Parted s t → IsBelow k v t
     below own end (types b) = of_type_before (same_before k s.kind t.kind own b)
@@ -163,7 +152,7 @@ at_most_one k v (s ∷ t ∷ ss) up apart sound =
         omega (arith, none)
     either false h most = omega (arith, most)
 
--- a place is told of a reversed span, and of no other
+-- a place is reported for a reversed span, and for no other
 abbrev reversed_of : rules.Span → List ℕ
 reversed_of s = in_case (is_reversed s) s.place
 
@@ -198,7 +187,7 @@ reversed_later xs i x lt is h inv =
     sym (told_of (is_reversed (span_view x)) x.place (flat_map reversed_of (map span_view (drop (i + 1) xs))) h)
     ∙ sym (rest_of xs i x lt is) ∙ inv
 
--- where no place is told, each span is sound
+-- if no place is reported, each span is sound
 sound_here : (s : Span) (ps : List ℕ) → in_case (is_reversed (span_view s)) s.place ++ ps ≡ []
     → (is_reversed (span_view s) ≡ false) × (ps ≡ [])
 sound_here s ps h = split (is_reversed (span_view s)) h
@@ -240,8 +229,8 @@ held_of k v s own h j = rw own (within v s h j)
 meets_at : (k : Kind) (v : ℤ) (s t : Span) → holds k v s ≡ true → holds k v t ≡ true
     → meet (span_view s) (span_view t) ≡ true
 meets_at k v s t h j =
-    let p = both_parts (same_kind k s.kind) (int_le s.lower v && int_le v s.upper) h in
-    let q = both_parts (same_kind k t.kind) (int_le t.lower v && int_le v t.upper) j in
+    let p = and_parts (same_kind k s.kind) (int_le s.lower v && int_le v s.upper) h in
+    let q = and_parts (same_kind k t.kind) (int_le t.lower v && int_le v t.upper) j in
     let a = held_parts v s p.1 in
     let b = held_parts v t q.1 in
     let a0 = a.0 in
@@ -273,7 +262,7 @@ shared s t h =
     record {
       kind = s.kind;
       number = int_max s.lower t.lower;
-      first = held_of s.kind (int_max s.lower t.lower) s (kind_itself s.kind) greater.0 greater.1;
+      first = held_of s.kind (int_max s.lower t.lower) s (same_kind-refl s.kind) greater.0 greater.1;
       second = held_of s.kind (int_max s.lower t.lower) t parts.0 greater.2 greater.3;
     }
   where
@@ -287,7 +276,7 @@ shared s t h =
 abbrev touching : Span → List Span → List ℕ
 touching s ss = flat_map (λ t. if meet (span_view s) t then t.place ∷ s.place ∷ [] else []) (map span_view ss)
 
--- a span that stands alone touches none
+-- a span that overlaps no other touches none
 alone : (s : Span) (ss : List Span) → ((k : Kind) (v : ℤ) → holders k v (s ∷ ss) ≤ 1) → touching s ss ≡ []
 alone s [] h = refl
 alone s (t ∷ ss) h =
@@ -309,7 +298,7 @@ none_overlaps [] h = refl
 none_overlaps (s ∷ ss) h =
     rw (alone s ss h) (none_overlaps ss (λ k v. let all = h k v in omega (arith, all)))
 
--- of two that hold a number, each is told
+-- of two that hold a number, each is reported
 other_place : (b : Bool) (p q : ℕ) (rest : List ℕ) → b ≡ true → Contains ((if b then p ∷ q ∷ [] else []) ++ rest) q
 other_place true p q rest h = Contains-append_left (p ∷ q ∷ []) rest q (1, omega arith, refl)
 other_place false p q rest h = absurd (cc)
@@ -341,7 +330,7 @@ later_told k v s t (x ∷ ss) h j (suc i) lt is =
     Contains-append_right (if meet (span_view s) (span_view x) then x.place ∷ s.place ∷ [] else [])
     (touching s ss) t.place (later_told k v s t ss h j i (omega (arith, lt)) is)
 
--- where two or more hold a number, the place of each of these is told
+-- if two or more hold a number, the place of each of these is reported
 pub told_at : (k : Kind) (v : ℤ) (t : Span) (ss : List Span) (i : ℕ) → i < length ss → slice_index_or ss i t ≡ t
     → holds k v t ≡ true → 2 ≤ holders k v ss → Contains (overlaps (map span_view ss)) t.place
 told_at k v t [] i lt is h two = absurd (omega (arith, lt))
@@ -388,7 +377,7 @@ lower_in_order s t same (by_type b) = absurd (contrary (same_kind s.kind t.kind)
     contrary false p q = cc
 lower_in_order s t same (by_lower own le) = le
 
--- One that begins where the one before it has not ended, in order and sound: both hold where the later one begins.
+-- One that begins no later than the one before it ends, in order and sound: both hold the later one's lower end.
 pub touched_told : (sorted ss : List Span) (place : ℕ) → IsPermutation ss sorted → Ascend sorted
     → All IsSound sorted → IsTouched sorted place → Contains (overlaps (map span_view ss)) place
 touched_told sorted ss place p up sound touched =
@@ -404,7 +393,7 @@ touched_told sorted ss place p up sound touched =
     let touches = touched.touches in
     let is = All-contains IsSound sorted t sound (at + 1, within, touched.is_span) in
     let v = t.lower in
-    let one_holds = held_of s.kind v s (kind_itself s.kind) below touches in
+    let one_holds = held_of s.kind v s (same_kind-refl s.kind) below touches in
     let other_holds = held_of s.kind v t touched.is_same (at_least v) is in
     let two = two_hold s.kind v s t sorted at within touched.is_before touched.is_span one_holds other_holds in
     let kept = holders_kept s.kind v ss sorted p in
@@ -441,7 +430,7 @@ apart_more ss at e lt before here j d le =
     (λ other. before j d (omega (arith, le, other)))
     (cases_eq (j + 1) at)
 
--- what a test of neighbours tells
+-- the result of a test of neighbours
 abbrev pub some_span : Span
 some_span = record { place = 0; kind = Sint; lower = pos 0; upper = pos 0 }
 
@@ -456,11 +445,11 @@ apart_where s t h same = past (same_kind s.kind t.kind) (int_le t.lower s.upper)
 pub touched_where : (s t : Span) → (same_kind s.kind t.kind && int_le t.lower s.upper) ≡ true
     → (same_kind s.kind t.kind ≡ true) × (t.lower ≤ℤ s.upper)
 touched_where s t h =
-    let both = both_parts (same_kind s.kind t.kind) (int_le t.lower s.upper) h in
-    let there = both.1 in
-    (both.0, grind (arith, ints))
+    let parts = and_parts (same_kind s.kind t.kind) (int_le t.lower s.upper) h in
+    let there = parts.1 in
+    (parts.0, grind (arith, ints))
 
--- what is told of spans, from what is told of them sorted
+-- the fault reported for spans, from the one reported for them sorted
 pub spans_told : (ss sorted : List Span) (found : Option ℕ) → flat_map reversed_of (map span_view ss) ≡ []
     → IsPermutation ss sorted → Ascend sorted → IfSome found (IsTouched sorted) → (found ≡ None → AreApart sorted)
     → FindsPlace (wrong_spans (map span_view ss)) found

@@ -21,7 +21,7 @@ use Rattle.st_rules.specs.declared.typings.Typing.TheVariants.{Composite as comp
 use Rattle.st_rules.specs.Faults.{Finds, breaking, unless}
 use Rattle.st_rules.specs.Environments.{Environment}
 use Rattle.st_rules.specs.Demands.{expected_of, sorts_of_unary, sorts_of_binary}
-use Rattle.st_rules.specs.Typings.{kind_of, is_untyped_typing, joined, settled, meets, are_operands, typing_of}
+use Rattle.st_rules.specs.Typings.{kind_of, is_untyped_typing, joined, settled, allows, are_operands, typing_of}
 use Rattle.st_rules.specs.Nodes.{offered, nodes_of, nodes_below}
 use Rattle.st_rules.specs.ExpressionRules.{wrong_within, wrong_expression, wrong_node, wrong_part, first_byte}
 use Rattle.st_rules.proofs.TypingLaws.{untyped_told}
@@ -30,7 +30,7 @@ use Rattle.st_typing.specs.Answers.{Gives, IsTyped, Types}
 use Rattle.st_typing.proofs.PartLemmas.{binary_within, unary_within, typing_untyped}
 use Rattle.st_typing.proofs.Finding.{finds_same, finds_back}
 
--- a typing tells whether the expression is untyped
+-- the typing shows whether the expression is untyped
 pub untyped_typed : (env : Environment) (e : Expr) (t : Typing) → IsTyped env e t → is_untyped e ≡ is_untyped_typing t
 untyped_typed env e t h = untyped_told env e ∙ ap is_untyped_typing (sym h.typing)
 
@@ -71,12 +71,12 @@ settled_typed k nothing h = refl
 
 pub negation_types : (env : Environment) (op : UnaryOperator) (at : ℕ) (e : Expr) (t : Typing) (b : Option Broken)
     → is_untyped_typing t ≡ false → IsTyped env e t
-    → Finds (breaking WrongType (unless (meets (asked None (sorts_of_unary op)) t) at)) b
+    → Finds (breaking WrongType (unless (allows (asked None (sorts_of_unary op)) t) at)) b
     → Types env (unary op at e) (verdict t b)
 negation_types env op at e t b typed h whole =
     types_verdict env (unary op at e) t b h.typing
     (λ k. unary_within env k op at e (unary op at e) None b refl (clean_from env k e t h typed)
-    (subst (λ (u : Typing). Finds (breaking WrongType (unless (meets (asked None (sorts_of_unary op)) u) at)) b)
+    (subst (λ (u : Typing). Finds (breaking WrongType (unless (allows (asked None (sorts_of_unary op)) u) at)) b)
     (settled_typed k t typed ∙ ap (settled k) h.typing) whole))
 
 pub operand_wrong : (env : Environment) (op : UnaryOperator) (at : ℕ) (e : Expr) (b : Broken)
@@ -85,7 +85,7 @@ pub operand_wrong : (env : Environment) (op : UnaryOperator) (at : ℕ) (e : Exp
 operand_wrong env op at e b h k =
     Contains-append_right (wrong_part env k (unary op at e)) (wrong_within env k e) b (h k)
 
--- an operator between its operands: what they are offered, where one of them has a type
+-- an operator between its operands: the type that they are offered, if one of them has a type
 offered_cases : (j t u : Bool) (k a b : Option Kind) → (j && (t && u)) ≡ false
     → expected_of_both (if j then None else None) a b t u ≡ expected_of_both (if j then k else None) a b t u
 offered_cases true true true k a b h = absurd (cc)
@@ -154,13 +154,13 @@ right_wrong env op l r b h k =
     (subst (λ (xs : List Broken). Contains xs b) (sym (flat_map-append (wrong_node env) ls rs))
     (Contains-append_right (wrong_within env o l) (wrong_within env o r) b (h o)))
 
--- at a place that asks something
+-- at a place with a demand
 pub finds_at : (env : Environment) (d : Demand) (e : Expr) (t : Typing) (a b : Option Broken)
     → t ≡ settled (expected_of d) (typing_of env e) → Finds (wrong_within env (expected_of d) e) a
-    → Finds (breaking WrongType (unless (meets d t) (first_byte e))) b
+    → Finds (breaking WrongType (unless (allows d t) (first_byte e))) b
     → Finds (wrong_expression env d e) (or_broken a b)
 finds_at env d e t a b is h i =
-    let asks = λ (u : Typing). breaking WrongType (unless (meets d u) (first_byte e)) in
+    let asks = λ (u : Typing). breaking WrongType (unless (allows d u) (first_byte e)) in
     finds_same (asks t ++ wrong_within env (expected_of d) e) (wrong_expression env d e) (or_broken a b)
     (ap (λ (u : Typing). asks u ++ wrong_within env (expected_of d) e) is
     ∙ sym (append_assoc (asks (settled (expected_of d) (typing_of env e))) (wrong_part env (expected_of d) e)
@@ -170,7 +170,7 @@ finds_at env d e t a b is h i =
 pub wrong_inside : (env : Environment) (d : Demand) (e : Expr) (b : Broken)
     → ((k : Option Kind) → Contains (wrong_within env k e) b) → Contains (wrong_expression env d e) b
 wrong_inside env d e b h =
-    let own = breaking WrongType (unless (meets d (settled (expected_of d) (typing_of env e))) (first_byte e)) in
+    let own = breaking WrongType (unless (allows d (settled (expected_of d) (typing_of env e))) (first_byte e)) in
     subst (λ (xs : List Broken). Contains xs b)
     (sym (append_assoc own (wrong_part env (expected_of d) e)
     (flat_map (wrong_node env) (nodes_below env (expected_of d) e))))

@@ -16,13 +16,13 @@ use Rattle.st_rules.specs.ExpressionRules.{wrong_node, count_of}
 use Rattle.st_typing.specs.declared.demands.Demands.{Demands}
 use Rattle.st_typing.specs.declared.demands.Demands.TheVariants.{One, Two, Three}
 
--- what a standard function asks, in order
+-- the demands of a standard function, in order
 abbrev pub demands_view : Demands → List Demand
 demands_view (One d) = d ∷ []
 demands_view (Two d e) = d ∷ e ∷ []
 demands_view (Three d e f) = d ∷ e ∷ f ∷ []
 
--- what a function of the text asks, whose inputs have these types
+-- the demands of a function of the text whose inputs have these types
 abbrev pub demands_of_inputs : List (Option Kind) → List Demand
 demands_of_inputs ks = map (λ k. Asked k Any) ks
 
@@ -34,11 +34,11 @@ unknown_name at = record { rule = UnknownName; place = at }
 abbrev pub wrong_count : ℕ → Broken
 wrong_count at = record { rule = WrongArguments; place = at }
 
--- what is wrong in arguments of which this is asked
+-- the faults in arguments with these demands
 abbrev pub wrong_arguments : Environment → List Demand → Exprs → List Broken
 wrong_arguments env ds es = flat_map (wrong_node env) (nodes_of_all env ds es)
 
--- what is wrong in them, or in their number
+-- the faults in them, or in their number
 abbrev pub wrong_in_call : Environment → ℕ → List Demand → Exprs → List Broken
 wrong_in_call env at ds es =
     breaking WrongArguments (unless (count_of es == length ds) at) ++ wrong_arguments env ds es

@@ -8,7 +8,7 @@ use Rattle.st_typing.specs.declared.spans.Span.{Span}
 abbrev pub span_view : Span → rules.Span
 span_view s = record { place = s.place; kind = s.kind; lower = s.lower; upper = s.upper }
 
--- types in an order: by their rows, then, of enumerated ones, by how many names they have and by their numbers
+-- types in an order: by their rows, then, for enumerated ones, by how many names they have and by their numbers
 pub data Before (k l : Kind) : Type 0 where
   by_row : kind_index k < kind_index l → Before k l
   by_names : kind_index k ≡ kind_index l → names_in k < names_in l → Before k l
@@ -22,14 +22,14 @@ pub data InOrder (s t : Span) : Type 0 where
 abbrev pub Ascend : List Span → Type 0
 Ascend ss = (j : ℕ) (d : Span) → j + 1 < length ss → InOrder (slice_index_or ss j d) (slice_index_or ss (j + 1) d)
 
--- the one, where it is of the other's type, ends before the other begins
+-- the first, if it is of the other's type, ends before the other begins
 abbrev pub IsApart : Span → Span → Type 0
 IsApart s t = same_kind s.kind t.kind ≡ true → s.upper <ℤ t.lower
 
 abbrev pub AreApart : List Span → Type 0
 AreApart ss = (j : ℕ) (d : Span) → j + 1 < length ss → IsApart (slice_index_or ss j d) (slice_index_or ss (j + 1) d)
 
--- the span of this place begins where the one before it, of the same type, has not ended
+-- the span of this place begins no later than the one before it, of the same type, ends
 pub record IsTouched (ss : List Span) (place : ℕ) : Type 0 where
   pub at : ℕ
   pub within : at + 1 < length ss

@@ -39,8 +39,8 @@ pub fn unknown_name(place: usize) -> Broken
     }
 }
 
-/// What a function of the text asks of its argument of this number, counted from 0: its input's type. Of one too many
-/// nothing is asked.
+/// The demand of a function of the text on its argument of this number, counted from 0: its input's type. There is no demand
+/// on an argument too many.
 pub fn demand_of_input(inputs: &[Option<Kind>], number: usize) -> Demand
     ensures { result ≡ first_demand (drop number (demands_of_inputs inputs.now)) }
 {
@@ -50,7 +50,7 @@ pub fn demand_of_input(inputs: &[Option<Kind>], number: usize) -> Demand
     }
 }
 
-/// What is wrong in one argument, or in the number of arguments.
+/// A fault in one argument, or in the number of arguments.
 fn wrong_one(demands: Demands, place: usize, only: &Expr, typing: Typing) -> Option<Broken>
     ensures { (env : Environment) → IsTyped env (expr_view only.now) typing
         → Finds (wrong_in_call env place (demands_view demands) (expr_then (expr_view only.now) no_exprs)) result }
@@ -61,7 +61,7 @@ fn wrong_one(demands: Demands, place: usize, only: &Expr, typing: Typing) -> Opt
     }
 }
 
-/// What is wrong in two arguments, or in their number.
+/// A fault in two arguments, or in their number.
 fn wrong_two(
     demands: Demands,
     place: usize,
@@ -84,7 +84,7 @@ fn wrong_two(
     }
 }
 
-/// What is wrong in three arguments, or in their number.
+/// A fault in three arguments, or in their number.
 fn wrong_three(
     demands: Demands,
     place: usize,

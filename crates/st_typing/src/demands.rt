@@ -1,4 +1,4 @@
-//! What standard functions take and give.
+//! The arguments and results of standard functions.
 
 ghost use Rattle.std.specs.Prelude.{◌≡◌, ◌∷◌, [], List, Option};
 ghost use Rattle.st_types.specs.declared.kind.Kind.{Kind};
@@ -12,7 +12,7 @@ use st_rules::{Demand, Sorts};
 use st_types::Kind;
 use symbols::Standard;
 
-/// What a standard function asks of its arguments, in order.
+/// The demands of a standard function on its arguments, in order.
 #[derive(Clone, Copy)]
 pub enum Demands {
     One(Demand),
@@ -20,7 +20,7 @@ pub enum Demands {
     Three(Demand, Demand, Demand),
 }
 
-/// What a standard function asks of its arguments, whose operands have this common type.
+/// The demands of a standard function on its arguments, whose operands have this common type.
 pub fn demands_of_standard(function: Standard, common: Option<Kind>) -> Demands
     ensures { demands_view result ≡ demands_of_standard (standard_view function) common }
 {
@@ -76,7 +76,7 @@ pub fn common_of_three(
     }
 }
 
-/// The type that a standard function gives, whose operands have this common type.
+/// The type that a standard function gives; its operands have this common type.
 pub fn standard_kind(function: Standard, common: Option<Kind>) -> Option<Kind>
     ensures { (ks : List (Option Kind)) → common ≡ common_kind (standard_view function) ks
         → result ≡ standard_kind (standard_view function) ks }

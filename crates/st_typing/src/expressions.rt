@@ -1,4 +1,4 @@
-//! The typing of every expression, and what is wrong in it.
+//! The typing of every expression, and the faults in it.
 
 ghost use Rattle.std.specs.Prelude.{◌≡◌, map, Some};
 ghost use Rattle.std.specs.List.{flat_map};
@@ -27,7 +27,7 @@ use st_rules::{Broken, Demand, Sorts, Typing};
 use st_types::{Expr, Identifier, Kind, Selector, Variable};
 use symbols::{Callee, PlaceType, Standard, UnitNames};
 
-/// The typing of an expression, with nothing wrong in what is not untyped, or what is wrong in it.
+/// The typing of an expression, without a fault in a part that has a type, or a fault in it.
 #[cycle(typing)]
 pub fn typing(names: &UnitNames, expression: &Expr) -> Result<Typing, Broken>
     ensures { (env : Environment) → Serves names.now env → Types env (expr_view expression.now) result }
@@ -58,7 +58,7 @@ pub fn typing(names: &UnitNames, expression: &Expr) -> Result<Typing, Broken>
     }
 }
 
-/// What is wrong in an expression at a place that asks something.
+/// A fault in an expression at a place with a demand.
 #[cycle(typing)]
 pub fn wrong_expression(names: &UnitNames, demand: Demand, expression: &Expr) -> Option<Broken>
     ensures { (env : Environment) → Serves names.now env
@@ -70,7 +70,7 @@ pub fn wrong_expression(names: &UnitNames, demand: Demand, expression: &Expr) ->
     }
 }
 
-/// What is wrong in the subscript of a selector.
+/// A fault in the subscript of a selector.
 #[cycle(typing)]
 fn wrong_subscript(names: &UnitNames, selector: &Selector) -> Option<Broken>
     ensures { (env : Environment) → Serves names.now env
@@ -84,7 +84,7 @@ fn wrong_subscript(names: &UnitNames, selector: &Selector) -> Option<Broken>
     }
 }
 
-/// The type of what is selected, step by step, of a variable at a place, or what is wrong in that.
+/// The type of the part that selectors, step by step, select of a variable at a place, or a fault in them.
 #[cycle(typing)]
 fn select_all<'a>(
     names: &UnitNames<'_, 'a>,
@@ -109,7 +109,7 @@ fn select_all<'a>(
     Ok(found)
 }
 
-/// The type of what a variable selects, or what is wrong in it. What hangs on a type that is unknown has none.
+/// The type of the part that a variable selects, or a fault in it. A part that depends on an unknown type has none.
 #[cycle(typing)]
 pub fn place_of<'a>(
     names: &UnitNames<'_, 'a>,
@@ -138,7 +138,7 @@ fn typing_of_read(names: &UnitNames, variable: &Variable) -> Result<Typing, Brok
     }
 }
 
-/// What is wrong in the arguments of a function of the text with these inputs, or in their number.
+/// A fault in the arguments of a function of the text with these inputs, or in their number.
 #[cycle(typing)]
 fn wrong_arguments(
     names: &UnitNames,

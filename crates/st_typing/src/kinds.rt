@@ -14,7 +14,7 @@ fn is_whole_or_bits(sort: Sort) -> bool
     matches!(sort, Sort::Signed | Sort::Unsigned | Sort::Bits)
 }
 
-/// The type that an untyped expression takes: LINT where nothing is expected that it may be.
+/// The type that an untyped expression takes: LINT if no type is expected that it may have.
 pub fn taken_kind(expected: Option<Kind>) -> Kind
     ensures { result ≡ taken_kind expected }
 {
@@ -30,7 +30,7 @@ pub fn taken_kind(expected: Option<Kind>) -> Kind
     }
 }
 
-/// The type that is written, or else that which is taken.
+/// The type that is written, or else the one taken.
 pub fn kind_or_taken(offered: Option<Kind>, written: Option<Kind>) -> Kind
     ensures { result ≡ kind_or_taken offered written }
 {
@@ -40,7 +40,7 @@ pub fn kind_or_taken(offered: Option<Kind>, written: Option<Kind>) -> Kind
     }
 }
 
-/// Whether the type is the expected one, where one is expected.
+/// Whether the type is the expected one, if one is expected.
 pub fn is_kind(expected: Option<Kind>, kind: Kind) -> bool
     ensures { result ≡ is_kind expected kind }
 {
@@ -50,7 +50,7 @@ pub fn is_kind(expected: Option<Kind>, kind: Kind) -> bool
     }
 }
 
-/// The one type, or else the other.
+/// The first type, or else the other.
 pub fn or_kind(kind: Option<Kind>, other: Option<Kind>) -> Option<Kind>
     ensures { result ≡ or_kind kind other }
 {

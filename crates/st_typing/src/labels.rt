@@ -78,7 +78,7 @@ fn span_of_reading(place: usize, reading: Reading) -> Option<Span>
     }
 }
 
-/// The numbers that a label holds; none of one whose name stands for no value.
+/// The numbers that a label holds; none if it has a name that stands for no value.
 fn span_of(tables: &TextTables, selector: Option<Kind>, label: &Label) -> Option<Span>
     ensures { (text : Declared) → ServesTables tables.now text
         → option_map span_view result ≡ span_of text selector label.now }
@@ -118,7 +118,7 @@ fn spans_of(
     Ok(spans)
 }
 
-/// What is wrong in the labels of a CASE whose selector has this type, where it has one.
+/// A fault in the labels of a CASE whose selector has this type, if it has one.
 pub fn wrong_labels(
     alloc: Global,
     tables: &TextTables,

@@ -1,7 +1,7 @@
-//! The types of expressions and of the labels of a CASE, and what is wrong in them.
+//! The types of expressions and of the labels of a CASE, and the faults in them.
 //!
-//! An expression is judged from its leaves up: each name is looked up once, and what is untyped is settled once, where
-//! its type is known. Labels are judged one by one, and against each other.
+//! An expression is judged from its leaves up: each name is looked up once, and an untyped part is settled once, when its
+//! type is known. Labels are judged one by one, and against each other.
 #![tactic(auto)]
 
 mod calls;
@@ -26,10 +26,12 @@ pub use kinds::{kind_or_taken, or_kind, taken_kind};
 pub use labels::wrong_labels;
 pub use literals::wrong_number;
 pub use lone_labels::wrong_label;
-pub use operands::{demand_of_typing, is_nothing, kind_of, meets, settled};
+pub use operands::{allows, demand_of_typing, is_nothing, kind_of, settled};
 pub use places::{first_byte, place_of_literal};
 pub use readings::wrong_reading;
-pub use selections::{demand_of_type, selected_type, type_behind, typing_of_place, wrong_selector};
+pub use selections::{
+    demand_of_type, selected_type, type_after_selectors, typing_of_place, wrong_selector,
+};
 pub use settling::settle;
 pub use sorts::is_joining;
 pub use verdicts::{broken_at, either, in_case, unless};

@@ -30,7 +30,7 @@ fn holds(kind: Kind, number: &Number) -> bool
     kind.least() <= value && value <= kind.greatest()
 }
 
-/// A number outside the type that is written, or that it takes where one is expected (C4).
+/// A number outside the type that is written, or outside the one that it takes if one is expected (C4).
 pub fn wrong_number(offered: Option<Kind>, number: &Number) -> Option<Broken>
     ensures { Finds (wrong_number offered number.now) result }
 {

@@ -15,7 +15,7 @@ use st_rules::{Broken, Rule};
 use st_types::{Kind, Label, Number};
 use symbols::{Reading, TextTables};
 
-/// Whether a label's type is the selector's, where that is known.
+/// Whether a label's type is the selector's, if that is known.
 fn is_selected(selector: Option<Kind>, kind: Kind) -> bool
     ensures { result ≡ is_selected selector kind }
 {
@@ -49,7 +49,7 @@ fn wrong_label_value(selector: Option<Kind>, place: usize, reading: Reading) -> 
     }
 }
 
-/// What is wrong in a label by itself: its type, its numbers, or its name.
+/// A fault in a label by itself: its type, its numbers, or its name.
 #[tactic(auto, using(crate::proofs::Finding::finds_front))]
 pub fn wrong_label(tables: &TextTables, selector: Option<Kind>, label: &Label) -> Option<Broken>
     ensures { (text : Declared) → ServesTables tables.now text

@@ -1,4 +1,4 @@
-//! Typings, and what operators and places say to them.
+//! Typings, and how operators and places judge them.
 
 ghost use Rattle.std.specs.Prelude.{◌≡◌, ◌&&◌, if◌then◌else◌, None};
 ghost use Rattle.st_types.specs.declared.kind.Kind.TheVariants.{Bool};
@@ -9,7 +9,7 @@ ghost use Rattle.st_rules.specs.declared.typings.Typing.TheVariants.{Elementary}
 ghost use Rattle.st_rules.specs.Faults.{Finds, breaking, unless};
 ghost use Rattle.st_rules.specs.Demands.{expected_of, sorts_of_unary, sorts_of_binary};
 ghost use Rattle.st_rules.specs.Typings.{kind_of, is_untyped_typing, is_nothing, typing_of_kind, joined, settled};
-ghost use Rattle.st_rules.specs.Typings.{meets, are_operands};
+ghost use Rattle.st_rules.specs.Typings.{allows, are_operands};
 ghost use Rattle.st_rules.specs.Nodes.{offered};
 ghost use Rattle.st_rules.specs.Roots.{demand_of_typing};
 
@@ -18,7 +18,7 @@ use crate::sorts::{in_sorts, is_joining, sorts_of_binary, sorts_of_unary};
 use st_rules::{Broken, Demand, Rule, Sorts, Typing};
 use st_types::{BinaryOperator, Kind, UnaryOperator};
 
-/// The elementary or enumerated type that a typing is.
+/// The type of a typing, if it is elementary or enumerated.
 pub fn kind_of(typing: Typing) -> Option<Kind>
     ensures { result ≡ kind_of typing }
 {
@@ -28,7 +28,7 @@ pub fn kind_of(typing: Typing) -> Option<Kind>
     }
 }
 
-/// The typing of a type, where there is one.
+/// The typing of a type, if there is one.
 pub fn typing_of_kind(kind: Option<Kind>) -> Typing
     ensures { result ≡ typing_of_kind kind }
 {
@@ -50,14 +50,14 @@ pub fn are_untyped(left: Typing, right: Typing) -> bool
     is_untyped_typing(left) && is_untyped_typing(right)
 }
 
-/// Whether a typing hangs on an unknown name.
+/// Whether a typing depends on an unknown name.
 pub fn is_nothing(typing: Typing) -> bool
     ensures { result ≡ is_nothing typing }
 {
     matches!(typing, Typing::Nothing)
 }
 
-/// What a variable asks of a value: its type. What has parts takes none, and of what is unknown nothing is asked.
+/// The demand of a variable on a value: its type. A variable with parts takes none, and an unknown one has no demand.
 pub fn demand_of_typing(typing: Typing) -> Demand
     ensures { result ≡ demand_of_typing typing }
 {
@@ -68,7 +68,7 @@ pub fn demand_of_typing(typing: Typing) -> Demand
     }
 }
 
-/// What a place offers to an untyped expression.
+/// The type that a place offers to an untyped expression.
 pub fn expected_of(demand: Demand) -> Option<Kind>
     ensures { result ≡ expected_of demand }
 {
@@ -78,7 +78,7 @@ pub fn expected_of(demand: Demand) -> Option<Kind>
     }
 }
 
-/// The typing at a place that offers a type: what is untyped takes it.
+/// The typing at a place that offers a type: an untyped expression takes it.
 pub fn settled(offered: Option<Kind>, typing: Typing) -> Typing
     ensures { result ≡ settled offered typing }
 {
@@ -88,9 +88,9 @@ pub fn settled(offered: Option<Kind>, typing: Typing) -> Typing
     }
 }
 
-/// Whether the typing is what a place asks. What hangs on an unknown name is.
-pub fn meets(demand: Demand, typing: Typing) -> bool
-    ensures { result ≡ meets demand typing }
+/// Whether the typing meets the demand of a place. One that depends on an unknown name does.
+pub fn allows(demand: Demand, typing: Typing) -> bool
+    ensures { result ≡ allows demand typing }
 {
     match demand {
         Demand::Operand(_) => true,
@@ -128,7 +128,7 @@ pub fn typing_of_operation(operator: BinaryOperator, left: Typing, right: Typing
     }
 }
 
-/// Whether an operation is of literals without a type alone.
+/// Whether an operation has only untyped literals.
 pub fn stays_untyped(operator: BinaryOperator, left: Typing, right: Typing) -> bool
     ensures { result ≡ (is_joining operator && (is_untyped_typing left && is_untyped_typing right)) }
 {
@@ -150,7 +150,7 @@ fn are_operands(sorts: Sorts, left: Typing, right: Typing) -> bool
     }
 }
 
-/// What the operands of an operator are offered: where one has a type, that; where none has, what the place expects.
+/// The type offered to the operands of an operator: that of one, or, if none has one, the expected one of the place.
 pub fn offered(
     expected: Option<Kind>,
     operator: BinaryOperator,
@@ -166,9 +166,9 @@ pub fn offered(
     }
 }
 
-/// What is wrong at an operator before its operand (C3).
+/// A fault at an operator before its operand (C3).
 pub fn wrong_unary(operator: UnaryOperator, place: usize, operand: Typing) -> Option<Broken>
-    ensures { Finds (breaking WrongType (unless (meets (Asked None (sorts_of_unary operator)) operand) place)) result }
+    ensures { Finds (breaking WrongType (unless (allows (Asked None (sorts_of_unary operator)) operand) place)) result }
 {
     wrong_typing(
         Demand::Asked(None, sorts_of_unary(operator)),
@@ -177,7 +177,7 @@ pub fn wrong_unary(operator: UnaryOperator, place: usize, operand: Typing) -> Op
     )
 }
 
-/// What is wrong at an operator between its operands (C3).
+/// A fault at an operator between its operands (C3).
 pub fn wrong_binary(
     operator: BinaryOperator,
     place: usize,
@@ -196,11 +196,11 @@ pub fn wrong_binary(
     }
 }
 
-/// What is wrong where a typing is not what its place asks (C3).
+/// A typing that doesn't meet the demand of its place (C3).
 pub fn wrong_typing(demand: Demand, typing: Typing, place: usize) -> Option<Broken>
-    ensures { Finds (breaking WrongType (unless (meets demand typing) place)) result }
+    ensures { Finds (breaking WrongType (unless (allows demand typing) place)) result }
 {
-    if meets(demand, typing) {
+    if allows(demand, typing) {
         None
     } else {
         Some(Broken {

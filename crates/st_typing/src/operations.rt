@@ -18,7 +18,7 @@ use crate::verdicts::{either, verdict};
 use st_rules::{Broken, Demand, Typing};
 use st_types::{BinaryOperator, Expr, Kind, UnaryOperator};
 
-/// What is wrong in an operand that is offered a type, if it is untyped.
+/// A fault in an operand that is offered a type, if it is untyped.
 fn settle_untyped(offered: Option<Kind>, typing: Typing, expression: &Expr) -> Option<Broken>
     ensures { (env : Environment) → IsTyped env (expr_view expression.now) typing
         → Finds (wrong_within env offered (expr_view expression.now)) result }
@@ -76,7 +76,7 @@ pub fn negation(
     verdict(typing, wrong_unary(operator, place, typing))
 }
 
-/// What is wrong in an expression of a known typing at a place that asks something.
+/// A fault in an expression of a known typing at a place with a demand.
 pub fn wrong_at(demand: Demand, typing: Typing, expression: &Expr) -> Option<Broken>
     ensures { (env : Environment) → IsTyped env (expr_view expression.now) typing
         → Finds (wrong_expression env demand (expr_view expression.now)) result }

@@ -1,4 +1,4 @@
-//! Where expressions begin.
+//! The places at which expressions begin.
 
 ghost use Rattle.std.specs.Prelude.{◌≡◌};
 ghost use Rattle.st_types.specs.ExpressionViews.{expr_view};

@@ -18,7 +18,7 @@ use st_rules::{Broken, Rule, Typing};
 use st_types::{Identifier, Kind, Literal, Number};
 use symbols::{Reading, UnitNames};
 
-/// What is wrong where a value of an enumerated type is named at a place: no type has it (C1), or several (C3).
+/// A fault in the name of a value of an enumerated type at a place: no type has it (C1), or several do (C3).
 pub fn wrong_reading(place: usize, reading: Reading) -> Option<Broken>
     ensures { Finds (wrong_reading place (reading_view reading)) result }
 {
@@ -35,7 +35,7 @@ pub fn wrong_reading(place: usize, reading: Reading) -> Option<Broken>
     }
 }
 
-/// The typing of a value of an enumerated type, or what is wrong in it (C1, C3).
+/// The typing of a value of an enumerated type, or a fault in it (C1, C3).
 fn typing_of_reading(place: usize, reading: Reading) -> Result<Typing, Broken>
     ensures { Gives (typing_of_reading (reading_view reading)) (wrong_reading place (reading_view reading)) result }
 {
@@ -75,7 +75,7 @@ pub fn typing_of_literal(names: &UnitNames, spelled: &Literal) -> Result<Typing,
     }
 }
 
-/// The typing of a name alone: a variable where the unit has one, else a value of an enumerated type.
+/// The typing of a name alone: a variable if the unit has one, else a value of an enumerated type.
 pub fn typing_of_alone(names: &UnitNames, name: &Identifier) -> Result<Typing, Broken>
     ensures { (env : Environment) → Serves names.now env
         → Gives (typing_of_alone env name.now.name (type_of_name env name.now.name))

@@ -1,9 +1,9 @@
-//! What is selected of variables: members and elements.
+//! Selections of variables: members and elements.
 
 ghost use Rattle.std.specs.Prelude.{◌≡◌, ◌∷◌, [], map, option_map};
 ghost use Rattle.st_types.specs.Expressions.{selectors_of};
 ghost use Rattle.st_types.specs.ExpressionViews.{selector_view};
-ghost use Rattle.st_meaning.specs.NameTypes.{Declared, selected_type, type_behind};
+ghost use Rattle.st_meaning.specs.NameTypes.{Declared, selected_type, type_after_selectors};
 ghost use Rattle.symbols.specs.PlaceTypes.{place_type_view};
 ghost use Rattle.symbols.specs.Tables.{ServesTables};
 ghost use Rattle.st_rules.specs.Environments.{Environment};
@@ -17,7 +17,7 @@ use st_rules::{Broken, Demand, Rule, Typing};
 use st_types::Selector;
 use symbols::{PlaceType, TextTables};
 
-/// The type of what a selector selects.
+/// The type of the part that a selector selects.
 pub fn selected_type<'a>(
     tables: &TextTables<'a>,
     declared: PlaceType<'a>,
@@ -32,14 +32,14 @@ pub fn selected_type<'a>(
     }
 }
 
-/// The type of what selectors select, one after another.
-pub fn type_behind<'a>(
+/// The type of the part that selectors select, one after another.
+pub fn type_after_selectors<'a>(
     tables: &TextTables<'a>,
     declared: PlaceType<'a>,
     selectors: &[Selector],
 ) -> Option<PlaceType<'a>>
     ensures { (text : Declared) → ServesTables tables.now text → option_map place_type_view result
-        ≡ type_behind text (selectors_of (map selector_view selectors.now)) (place_type_view declared.entry) }
+        ≡ type_after_selectors text (selectors_of (map selector_view selectors.now)) (place_type_view declared.entry) }
 {
     let mut behind = declared;
     for selector in selectors {
@@ -51,8 +51,8 @@ pub fn type_behind<'a>(
     Some(behind)
 }
 
-/// What is wrong where a selector selects nothing: a member that a type has not (C1), or an element of what is no
-/// array (C3).
+/// The fault in a selector that selects nothing: a member that a type doesn't have (C1), or an element of a variable that
+/// isn't an array (C3).
 pub fn wrong_selector(place: usize, selector: &Selector) -> Broken
     ensures { wrong_selector place (selector_view selector.now) ≡ result ∷ [] }
 {
@@ -68,7 +68,7 @@ pub fn wrong_selector(place: usize, selector: &Selector) -> Broken
     }
 }
 
-/// The type of what a selector selects of a variable at a place; none of what is unknown.
+/// The type of the part that a selector selects of a variable at a place; none if that is unknown.
 pub fn select<'a>(
     tables: &TextTables<'a>,
     place: usize,
@@ -93,7 +93,7 @@ pub fn select<'a>(
     }
 }
 
-/// The typing of what a variable selects. Of what is unknown there is none.
+/// The typing of the part that a variable selects. If that is unknown there is none.
 pub fn typing_of_place(tables: &TextTables, declared: Option<PlaceType>) -> Typing
     ensures { (text : Declared) → ServesTables tables.now text
         → result ≡ typing_of_type text (option_map place_type_view declared.entry) }
@@ -104,7 +104,7 @@ pub fn typing_of_place(tables: &TextTables, declared: Option<PlaceType>) -> Typi
     }
 }
 
-/// What a place of this type asks of a value.
+/// The demand of a place of this type on a value.
 pub fn demand_of_type(tables: &TextTables, declared: Option<PlaceType>) -> Demand
     ensures { (env : Environment) → ServesTables tables.now env.text
         → result ≡ demand_of_type env (option_map place_type_view declared.entry) }

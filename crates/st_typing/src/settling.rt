@@ -25,7 +25,7 @@ fn settle_literal(offered: Option<Kind>, literal: &Literal) -> Option<Broken>
     }
 }
 
-/// What is wrong in an untyped expression that is offered a type. Of one that has a type it tells nothing.
+/// A fault in an untyped expression that is offered a type; none if it has a type.
 pub fn settle(offered: Option<Kind>, expression: &Expr) -> Option<Broken>
     ensures { (env : Environment) → is_untyped (expr_view expression.now) ≡ true
         → Finds (wrong_within env offered (expr_view expression.now)) result }

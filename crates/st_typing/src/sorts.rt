@@ -1,4 +1,4 @@
-//! What operators take.
+//! The operands of operators.
 
 ghost use Rattle.std.specs.Prelude.{◌≡◌};
 ghost use Rattle.st_meaning.specs.Resolution.{is_joining};
@@ -7,7 +7,7 @@ ghost use Rattle.st_rules.specs.Demands.{in_sorts, sorts_of_unary, sorts_of_bina
 use st_rules::Sorts;
 use st_types::{BinaryOperator, Sort, UnaryOperator};
 
-/// Whether the operator joins untyped operands to what is untyped.
+/// Whether the operator joins untyped operands to an untyped expression.
 pub fn is_joining(operator: BinaryOperator) -> bool
     ensures { result ≡ is_joining operator }
 {
@@ -39,7 +39,7 @@ pub fn in_sorts(sorts: Sorts, sort: Sort) -> bool
     }
 }
 
-/// What an operator before its operand takes.
+/// The operands that an operator before its operand takes.
 pub fn sorts_of_unary(operator: UnaryOperator) -> Sorts
     ensures { result ≡ sorts_of_unary operator }
 {
@@ -49,7 +49,7 @@ pub fn sorts_of_unary(operator: UnaryOperator) -> Sorts
     }
 }
 
-/// What an operator between its operands takes.
+/// The operands that an operator between its operands takes.
 pub fn sorts_of_binary(operator: BinaryOperator) -> Sorts
     ensures { result ≡ sorts_of_binary operator }
 {

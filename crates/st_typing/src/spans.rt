@@ -94,14 +94,14 @@ fn sort(spans: &mut Vec<Span>) -> Result<(), AllocError>
     Ok(())
 }
 
-/// Whether a span, of the type of the one before it, begins where that has not ended.
+/// Whether a span, of the type of the one before it, begins no later than that one ends.
 fn touches(before: &Span, span: &Span) -> bool
     ensures { result ≡ (same_kind before.now.kind span.now.kind && int_le span.now.lower before.now.upper) }
 {
     before.kind.is(span.kind) && span.lower <= before.upper
 }
 
-/// A span that begins before the one in front of it, of its type, ends.
+/// The place of a span that begins no later than the one before it, of its type, ends.
 fn first_touched(spans: &[Span]) -> Option<usize>
     ensures found { IfSome result (IsTouched spans.now) }
     ensures apart { result ≡ None → AreApart spans.now }

@@ -7,7 +7,7 @@ ghost use Rattle.st_typing.specs.Verdicts.{or_broken, verdict};
 
 use st_rules::{Broken, Rule, Typing};
 
-/// One fault, or else the other.
+/// The first fault, or else the other.
 pub fn either(fault: Option<Broken>, other: Option<Broken>) -> Option<Broken>
     ensures { result ≡ or_broken fault other }
 {
@@ -17,7 +17,7 @@ pub fn either(fault: Option<Broken>, other: Option<Broken>) -> Option<Broken>
     }
 }
 
-/// The rule broken at a place, where what has to hold there does not.
+/// The rule broken at a place, if the condition that has to hold there does not.
 pub fn unless(right: bool, rule: Rule, place: usize) -> Option<Broken>
     ensures { Finds (breaking rule (unless right place)) result }
 {
@@ -28,7 +28,7 @@ pub fn unless(right: bool, rule: Rule, place: usize) -> Option<Broken>
     }
 }
 
-/// The rule broken at a place, where something holds that must not.
+/// The rule broken at a place, if a condition holds that must not.
 pub fn in_case(wrong: bool, rule: Rule, place: usize) -> Option<Broken>
     ensures { Finds (breaking rule (in_case wrong place)) result }
 {
@@ -39,7 +39,7 @@ pub fn in_case(wrong: bool, rule: Rule, place: usize) -> Option<Broken>
     }
 }
 
-/// The rule, where there is a place at which it is broken.
+/// The rule, if there is a place at which it is broken.
 pub fn broken_at(rule: Rule, place: Option<usize>) -> Option<Broken>
     ensures { (places : List ℕ) → FindsPlace places place → Finds (breaking rule places) result }
 {
@@ -49,7 +49,7 @@ pub fn broken_at(rule: Rule, place: Option<usize>) -> Option<Broken>
     }
 }
 
-/// The typing, where nothing is wrong.
+/// The typing, if there is no fault.
 pub fn verdict(typing: Typing, fault: Option<Broken>) -> Result<Typing, Broken>
     ensures { result ≡ verdict typing fault }
 {

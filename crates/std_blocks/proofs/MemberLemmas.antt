@@ -71,7 +71,7 @@ not_stored vs k old v there same =
         → (if a && holds v.kind v.number then Ok (slice_set vs k v) else Err ill_typed) ≡ Err ill_typed
     by_test a p = rw p refl
 
--- what is behind a value that is stored
+-- the values after one that is stored
 pub stored_on : (vs us : List Datum) (k : ℕ) (x : Datum) (xs : List Datum) → stored_at vs k x ≡ Ok us
     → all_stored vs k (x ∷ xs) ≡ all_stored us (k + 1) xs
 unfolding all_stored

@@ -29,7 +29,7 @@ not_zero (pos zero) f h = absurd (h refl)
 not_zero (pos (suc n)) f h = omega arith
 not_zero (negsuc n) f h = let below = f.sfits in omega arith
 
--- what a division asks: the divisor is not 0, and the quotient is a number that the code can hold
+-- the preconditions of a division: the divisor is not 0, and the quotient is a number that the code can hold
 pub divides : (a d : ℤ) → FitsSigned w128 a → FitsSigned w128 d → d ≢ pos 0 → FitsSigned w128 (int_div a d)
     → (0 < of_z w128 d) × FitsSigned w128 (int_div (to_z w128 (of_z w128 a)) (to_z w128 (of_z w128 d)))
 divides a d f g h fits = (
@@ -44,7 +44,7 @@ divided k x y h = grind (arith, common_steps, Decides-int_eq)
 abbrev or_range : Bool → Kind → ℤ → Result Datum Fault
 or_range t k z = if t then Ok (record { kind = k; number = z }) else Err Range
 
--- what the code can't hold is beyond the bounds of a type that it can
+-- a number that the code can't hold is beyond the bounds of a type that it can
 pub beyond_each_type : (k : Kind) (z : ℤ) → FitsSigned w128 (least k) → FitsSigned w128 (greatest k)
     → (FitsSigned w128 z → ⊥) → in_range k z ≡ Err Range
 beyond_each_type k z l g h = by_test (holds k z) refl
@@ -59,7 +59,7 @@ beyond_each_type k z l g h = by_test (holds k z) refl
     by_test false e = refl
     by_test true e = absurd (h (fits e))
 
--- the value of a type that a number is, where there is one
+-- the value of a type for a number, if there is one
 abbrev or_conversion : Bool → Kind → ℤ → Result Datum Fault
 or_conversion t k z = if t then Ok (record { kind = k; number = z }) else Err Conversion
 
@@ -70,7 +70,7 @@ converted k z v = by_test (holds k z)
     by_test true e = e
     by_test false e = cc
 
--- a value without a sign is what it is without its sign
+-- a value without a sign is its own absolute value
 pub itself : (v : Datum) → holds v.kind v.number ≡ true → int_lt v.number (pos 0) ≡ false
     → in_range v.kind (pos (unsigned_abs v.number)) ≡ Ok v
 itself v h n = ap (in_range v.kind) (unsigned v.number n) ∙ ap (λ t. or_range t v.kind v.number) h

@@ -1,4 +1,4 @@
--- Members of an instance in consecutive slots, and what a call of a standard block makes of them.
+-- Members of an instance in consecutive slots, and their values after a call of a standard block.
 use Rattle.std.specs.Prelude.{◌≡◌, ℕ, zero, suc, List, [], ◌∷◌, Option, Some, option_map, option_and_then, slice_get}
 use Rattle.std.specs.Prelude.{Result, Ok, Err}
 use Rattle.st_types.specs.declared.fault.Fault.{Fault}
@@ -10,7 +10,7 @@ use Rattle.st_meaning.specs.StandardBlocks.{StandardBlock, members_of, stepped}
 use Rattle.slot_trees.specs.SlotExecution.{Slots, stored_at}
 use Rattle.slot_trees.specs.SlotRuns.{member_slots, members_stored}
 
--- the values of so many slots from one on
+-- the values of a number of slots from one on
 unfoldable pub values_from : Slots → ℕ → ℕ → Option (List Datum)
 values_from vs k zero = Some []
 values_from vs k (suc n) =
@@ -21,7 +21,7 @@ unfoldable pub all_stored : Slots → ℕ → List Datum → Result Slots Failur
 all_stored vs k [] = Ok vs
 all_stored vs k (x ∷ xs) = proceed (stored_at vs k x) (λ us. all_stored us (suc k) xs)
 
--- the slots after a call of a standard block whose members stand from one on
+-- the slots after a call of a standard block whose members begin at one
 unfoldable pub block_stepped : StandardBlock → ℕ → ℕ → Slots → Result Slots Failure
 block_stepped b now at vs = proceed (or_failure ill_typed (member_slots vs at (members_of b)))
     (λ xs. members_stored vs at (members_of b) (stepped b now xs))

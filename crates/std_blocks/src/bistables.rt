@@ -25,7 +25,7 @@ pub fn step_set_first(slots: &mut [Value], at: usize) -> Result<(), Fault>
     ensures { (now : ℕ) → Leaves result (block_stepped SR now at slots.old) slots.new }
 {
     let (set, reset, q) = three_members(slots, at)?;
-    let q = Value::truth(set_first(set.is_true(), reset.is_true(), q.is_true()));
+    let q = Value::from_bool(set_first(set.is_true(), reset.is_true(), q.is_true()));
     put_all(slots, at, &[set, reset, q])
 }
 
@@ -35,6 +35,6 @@ pub fn step_reset_first(slots: &mut [Value], at: usize) -> Result<(), Fault>
     ensures { (now : ℕ) → Leaves result (block_stepped RS now at slots.old) slots.new }
 {
     let (set, reset, q) = three_members(slots, at)?;
-    let q = Value::truth(reset_first(set.is_true(), reset.is_true(), q.is_true()));
+    let q = Value::from_bool(reset_first(set.is_true(), reset.is_true(), q.is_true()));
     put_all(slots, at, &[set, reset, q])
 }

@@ -10,12 +10,12 @@ use crate::timers::{step_off_delay, step_on_delay, step_pulse};
 use st_types::{Fault, Value};
 use symbols::StandardBlock;
 
-/// A call of a standard block at a moment, in milliseconds: the members of its instance, which stand in the slots from
-/// one on, take the values that the definition of the block gives them, inputs first, then outputs and hidden members.
-/// It takes no memory.
+/// A call of a standard block at a moment, in milliseconds: the members of its instance, whose slots are those from one on,
+/// take the values that the definition of the block gives them, inputs first, then outputs and hidden members. It takes no
+/// memory.
 ///
-/// F4 where a member's slot is not there or is of another type, as in no text that is well typed; what the slots have
-/// then is left open.
+/// F4 if a member's slot does not exist or is of another type, which no well-typed text has; the values of the slots are
+/// unspecified then.
 ///
 /// IEC 61131-3:2003, tables 34 to 37, with the step functions of our profile for timers.
 pub fn step(block: StandardBlock, slots: &mut [Value], at: usize, now: u64) -> Result<(), Fault>

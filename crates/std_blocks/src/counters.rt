@@ -2,14 +2,14 @@
 
 ghost use Rattle.std.specs.Prelude.{◌+◌, ◌∷◌, [], ◌≤◌, ℕ, int_le, pos, length};
 ghost use Rattle.st_meaning.specs.StandardBlocks.{CTU, CTD, CTUD, int};
-ghost use Rattle.st_types.specs.Values.{datum_of_truth, is_true};
+ghost use Rattle.st_types.specs.Values.{bool_datum, is_true};
 ghost use Rattle.std_blocks.specs.Members.{all_stored, block_stepped, Leaves};
 
 use crate::members::{held_value, put_all, six_members, ten_members};
 use st_types::{Fault, Kind, Value};
 use std_counts::{down_count, edge, up_count, up_down_count};
 
-/// Assigns the six members of an up counter or a down counter; F4 where one is of another type, or the count is none.
+/// Assigns the six members of an up counter or a down counter; F4 if one is of another type, or INT does not hold the count.
 #[tactic(auto, using(crate::proofs::BlockLemmas::unheld_count))]
 fn put_counter(
     slots: &mut [Value],
@@ -20,8 +20,8 @@ fn put_counter(
     memory: bool,
 ) -> Result<(), Fault>
     requires { at + 6 ≤ length slots.old }
-    ensures { Leaves result (all_stored slots.old at (inputs.0 ∷ inputs.1 ∷ inputs.2 ∷ datum_of_truth q ∷ int count
-        ∷ datum_of_truth memory ∷ [])) slots.new }
+    ensures { Leaves result (all_stored slots.old at (inputs.0 ∷ inputs.1 ∷ inputs.2 ∷ bool_datum q ∷ int count
+        ∷ bool_datum memory ∷ [])) slots.new }
 {
     let count = held_value(Kind::Int, count)?;
     let (edge, other, preset) = inputs;
@@ -29,9 +29,9 @@ fn put_counter(
         edge,
         other,
         preset,
-        Value::truth(q),
+        Value::from_bool(q),
         count,
-        Value::truth(memory),
+        Value::from_bool(memory),
     ];
     put_all(slots, at, &values)
 }
@@ -82,16 +82,16 @@ struct UpDown {
     preset: Value,
 }
 
-/// Assigns the ten members of an up and down counter; F4 where one is of another type, or the count is none.
+/// Assigns the ten members of an up and down counter; F4 if one is of another type, or INT does not hold the count.
 #[tactic(auto, using(crate::proofs::BlockLemmas::unheld_up_down))]
 fn put_up_down(slots: &mut [Value], at: usize, inputs: UpDown, count: i128) -> Result<(), Fault>
     requires { at + 10 ≤ length slots.old }
     ensures { Leaves result (all_stored slots.old at (inputs.up ∷ inputs.down ∷ inputs.reset ∷ inputs.load
-        ∷ inputs.preset ∷ datum_of_truth (int_le inputs.preset.number count) ∷ datum_of_truth (int_le count (pos 0))
-        ∷ int count ∷ datum_of_truth (is_true inputs.up) ∷ datum_of_truth (is_true inputs.down) ∷ [])) slots.new }
+        ∷ inputs.preset ∷ bool_datum (int_le inputs.preset.number count) ∷ bool_datum (int_le count (pos 0))
+        ∷ int count ∷ bool_datum (is_true inputs.up) ∷ bool_datum (is_true inputs.down) ∷ [])) slots.new }
 {
-    let up_q = Value::truth(inputs.preset.number() <= count);
-    let down_q = Value::truth(count <= 0);
+    let up_q = Value::from_bool(inputs.preset.number() <= count);
+    let down_q = Value::from_bool(count <= 0);
     let count = match held_value(Kind::Int, count) {
         Ok(count) => count,
         Err(fault) => return Err(fault),
@@ -105,8 +105,8 @@ fn put_up_down(slots: &mut [Value], at: usize, inputs: UpDown, count: i128) -> R
         up_q,
         down_q,
         count,
-        Value::truth(inputs.up.is_true()),
-        Value::truth(inputs.down.is_true()),
+        Value::from_bool(inputs.up.is_true()),
+        Value::from_bool(inputs.down.is_true()),
     ];
     put_all(slots, at, &values)
 }

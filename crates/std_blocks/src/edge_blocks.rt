@@ -15,8 +15,8 @@ pub fn step_rising(slots: &mut [Value], at: usize) -> Result<(), Fault>
 {
     let (clock, _, memory) = three_members(slots, at)?;
     let input = clock.is_true();
-    let q = Value::truth(edge(input, memory.is_true()));
-    put_all(slots, at, &[clock, q, Value::truth(input)])
+    let q = Value::from_bool(edge(input, memory.is_true()));
+    put_all(slots, at, &[clock, q, Value::from_bool(input)])
 }
 
 /// F_TRIG: a falling edge. Its memory starts FALSE, so that a first call with CLK FALSE gives Q TRUE (our profile).
@@ -26,6 +26,6 @@ pub fn step_falling(slots: &mut [Value], at: usize) -> Result<(), Fault>
 {
     let (clock, _, memory) = three_members(slots, at)?;
     let input = clock.is_true();
-    let q = Value::truth(falls(input, memory.is_true()));
-    put_all(slots, at, &[clock, q, Value::truth(!input)])
+    let q = Value::from_bool(falls(input, memory.is_true()));
+    put_all(slots, at, &[clock, q, Value::from_bool(!input)])
 }

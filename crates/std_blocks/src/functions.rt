@@ -31,7 +31,7 @@ fn greater(a: Value, b: Value) -> Value
     if is_at_most(b, a) { a } else { b }
 }
 
-/// The value without its sign; F1 where that leaves its type.
+/// The value without its sign; F1 if its type does not hold that.
 #[tactic(auto, using(crate::proofs::NumberLemmas::itself))]
 fn absolute(x: Value) -> Result<Value, Fault>
     ensures { result ≡ in_range x.kind (pos (unsigned_abs x.number)) }
@@ -44,7 +44,7 @@ fn absolute(x: Value) -> Result<Value, Fault>
     Value::new(x.kind(), size(x))
 }
 
-/// The same number as a value of another type; F4 where that does not hold it.
+/// The same number as a value of another type; F4 if that does not hold it.
 fn conversion(to: Kind, x: Value) -> Result<Value, Fault>
     ensures { result ≡ conversion to x.number }
 {
@@ -96,8 +96,8 @@ fn of_three(function: Standard, a: Value, b: Value, c: Value) -> Result<Value, F
     }
 }
 
-/// What a standard function gives for its arguments. F1 where it leaves its type or a shift is negative, F4 where a
-/// conversion would change the value, or where the arguments don't fit.
+/// The result of a standard function on its arguments. F1 if it isn't in its type or a shift is negative, F4 if a conversion
+/// would change the value, or if the arguments don't fit.
 ///
 /// IEC 61131-3:2003, tables 22 to 27, as far as whole numbers and bit strings have them.
 pub fn standard_value(function: Standard, arguments: &[Value]) -> Result<Value, Fault>

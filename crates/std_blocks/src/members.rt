@@ -1,4 +1,4 @@
-//! Members of an instance, which stand in consecutive slots.
+//! Members of an instance, which are in consecutive slots.
 
 ghost use Rattle.std.specs.Prelude.{◌≡◌, ◌+◌, ◌<◌, ◌≤◌, ◌∷◌, [], length, option_map, IfOk, IfErr, Some, None, false};
 ghost use Rattle.st_types.specs.declared.fault.Fault.TheVariants.{Conversion};
@@ -23,7 +23,7 @@ type Ten = (
     Value,
 );
 
-/// The values of so many slots from one on; F4 where they aren't there.
+/// The values of `count` slots from one on; F4 if they don't exist.
 #[inline(always)]
 #[tactic(auto, using(crate::proofs::MemberLemmas::values_there, crate::proofs::MemberLemmas::values_beyond))]
 fn members(slots: &[Value], at: usize, count: usize) -> Result<&[Value], Fault>
@@ -40,7 +40,7 @@ fn members(slots: &[Value], at: usize, count: usize) -> Result<&[Value], Fault>
     Ok(&slots[at..at + count])
 }
 
-/// The three values from a slot on; F4 where they aren't there.
+/// The three values from a slot on; F4 if they don't exist.
 #[inline(always)]
 pub fn three_members(slots: &[Value], at: usize) -> Result<(Value, Value, Value), Fault>
     ensures there { IfOk result (λ r. values_from slots.now at 3 ≡ Some (r.0 ∷ r.1 ∷ r.2 ∷ [])) }
@@ -52,7 +52,7 @@ pub fn three_members(slots: &[Value], at: usize) -> Result<(Value, Value, Value)
     Ok((m[0], m[1], m[2]))
 }
 
-/// The six values from a slot on; F4 where they aren't there.
+/// The six values from a slot on; F4 if they don't exist.
 #[inline(always)]
 pub fn six_members(slots: &[Value], at: usize) -> Result<Six, Fault>
     ensures there { IfOk result (λ r. values_from slots.now at 6
@@ -65,7 +65,7 @@ pub fn six_members(slots: &[Value], at: usize) -> Result<Six, Fault>
     Ok((m[0], m[1], m[2], m[3], m[4], m[5]))
 }
 
-/// The ten values from a slot on; F4 where they aren't there.
+/// The ten values from a slot on; F4 if they don't exist.
 #[inline(always)]
 pub fn ten_members(slots: &[Value], at: usize) -> Result<Ten, Fault>
     ensures there { IfOk result (λ r. values_from slots.now at 10
@@ -78,7 +78,7 @@ pub fn ten_members(slots: &[Value], at: usize) -> Result<Ten, Fault>
     Ok((m[0], m[1], m[2], m[3], m[4], m[5], m[6], m[7], m[8], m[9]))
 }
 
-/// The number as a value of a type; F4 where the type does not hold it.
+/// The number as a value of a type; F4 if the type does not hold it.
 pub fn held_value(kind: Kind, number: i128) -> Result<Value, Fault>
     ensures is { IfOk result (λ v. v ≡ record { kind = kind; number = number }) }
     ensures none { IfErr result (λ f. holds kind number ≡ false) }
@@ -90,7 +90,7 @@ pub fn held_value(kind: Kind, number: i128) -> Result<Value, Fault>
     }
 }
 
-/// Assigns a value to a slot; F4 where that is of another type.
+/// Assigns a value to a slot; F4 if that is of another type.
 #[inline(always)]
 #[tactic(auto, using(crate::proofs::MemberLemmas::stored_where, crate::proofs::MemberLemmas::not_stored))]
 fn put(slots: &mut [Value], at: usize, value: Value) -> Result<(), Fault>
@@ -104,7 +104,7 @@ fn put(slots: &mut [Value], at: usize, value: Value) -> Result<(), Fault>
     Ok(())
 }
 
-/// Assigns a value to a slot; F4 where that is of another type.
+/// Assigns a value to a slot; F4 if that is of another type.
 #[inline(always)]
 #[tactic(auto, unfolding(crate::specs::Members::all_stored))]
 fn put_one(slots: &mut [Value], at: usize, a: Value) -> Result<(), Fault>
@@ -115,7 +115,7 @@ fn put_one(slots: &mut [Value], at: usize, a: Value) -> Result<(), Fault>
     Ok(())
 }
 
-/// Assigns two values to the slots from one on; F4 where one is of another type.
+/// Assigns two values to the slots from one on; F4 if one is of another type.
 #[inline(always)]
 #[tactic(auto, unfolding(crate::specs::Members::all_stored))]
 fn put_two(slots: &mut [Value], at: usize, a: Value, b: Value) -> Result<(), Fault>
@@ -126,7 +126,7 @@ fn put_two(slots: &mut [Value], at: usize, a: Value, b: Value) -> Result<(), Fau
     put_one(slots, at + 1, b)
 }
 
-/// Assigns three values to the slots from one on; F4 where one is of another type.
+/// Assigns three values to the slots from one on; F4 if one is of another type.
 #[inline(always)]
 #[tactic(auto, unfolding(crate::specs::Members::all_stored))]
 fn put_three(slots: &mut [Value], at: usize, a: Value, b: Value, c: Value) -> Result<(), Fault>
@@ -137,7 +137,7 @@ fn put_three(slots: &mut [Value], at: usize, a: Value, b: Value, c: Value) -> Re
     put_two(slots, at + 1, b, c)
 }
 
-/// Assigns four values to the slots from one on; F4 where one is of another type.
+/// Assigns four values to the slots from one on; F4 if one is of another type.
 #[inline(always)]
 #[tactic(auto, unfolding(crate::specs::Members::all_stored))]
 fn put_four(
@@ -155,7 +155,7 @@ fn put_four(
     put_three(slots, at + 1, b, c, d)
 }
 
-/// Assigns five values to the slots from one on; F4 where one is of another type.
+/// Assigns five values to the slots from one on; F4 if one is of another type.
 #[inline(always)]
 #[tactic(auto, unfolding(crate::specs::Members::all_stored))]
 fn put_five(
@@ -174,7 +174,7 @@ fn put_five(
     put_four(slots, at + 1, b, c, d, e)
 }
 
-/// Assigns six values to the slots from one on; F4 where one is of another type.
+/// Assigns six values to the slots from one on; F4 if one is of another type.
 #[inline(always)]
 #[tactic(auto, unfolding(crate::specs::Members::all_stored))]
 fn put_six(
@@ -194,7 +194,7 @@ fn put_six(
     put_five(slots, at + 1, b, c, d, e, f)
 }
 
-/// Assigns the values to the slots from one on, one after another; F4 where one is of another type.
+/// Assigns the values to the slots from one on, one after another; F4 if one is of another type.
 #[tactic(auto, unfolding(crate::specs::Members::all_stored))]
 fn put_each(slots: &mut [Value], at: usize, values: &[Value]) -> Result<(), Fault>
     requires { at + length values.now ≤ length slots.old }
@@ -207,7 +207,7 @@ fn put_each(slots: &mut [Value], at: usize, values: &[Value]) -> Result<(), Faul
     put_each(slots, at + 1, rest)
 }
 
-/// Assigns the values to the slots from one on; F4 where one is of another type.
+/// Assigns the values to the slots from one on; F4 if one is of another type.
 #[inline(always)]
 pub fn put_all(slots: &mut [Value], at: usize, values: &[Value]) -> Result<(), Fault>
     requires { at + length values.now ≤ length slots.old }

@@ -1,4 +1,4 @@
-//! Numbers of values, which are compared and added as words where words are numbers.
+//! Numbers of values, which are compared and added as words if words are numbers.
 
 ghost use Rattle.std.specs.Prelude.{◌≡◌, int_le, int_lt, pos, false};
 ghost use Rattle.std.specs.Ordering.{int_eq};
@@ -8,7 +8,7 @@ ghost use Rattle.st_meaning.specs.Operators.{natural};
 
 use st_types::{Kind, Value, is_wide};
 
-/// Whether the two are of one number.
+/// Whether the two are the same number.
 #[inline(always)]
 pub fn is_same_number(a: Value, b: Value) -> bool
     ensures { result ≡ int_eq a.number b.number }

@@ -5,14 +5,14 @@ ghost use Rattle.std.specs.Prelude.{bit_and, bit_or, bit_xor};
 ghost use Rattle.st_types.specs.Values.{in_range};
 ghost use Rattle.st_types.specs.Kinds.{greatest};
 ghost use Rattle.st_meaning.specs.Failures.{run_result, failing};
-ghost use Rattle.st_meaning.specs.Operators.{apply, applied, apply_unary, truth, quotient, remainder, natural};
+ghost use Rattle.st_meaning.specs.Operators.{apply, applied, apply_unary, condition_of, quotient, remainder, natural};
 
 use crate::numbers::{bits, is_at_most, is_same_number};
 use st_types::{BinaryOperator, Fault, Kind, UnaryOperator, Value};
 
-/// The truth of a condition; F4 of a value of another type.
-pub fn truth(value: Value) -> Result<bool, Fault>
-    ensures { result ≡ run_result (truth value) }
+/// The truth of a condition; F4 for a value of another type.
+pub fn condition_of(value: Value) -> Result<bool, Fault>
+    ensures { result ≡ run_result (condition_of value) }
 {
     if !value.kind().is(Kind::Bool) {
         return Err(Fault::Conversion);
@@ -42,7 +42,7 @@ fn ratio(a: Value, b: Value) -> i128
     a.number() / b.number()
 }
 
-/// The quotient; F2 where the divisor is 0.
+/// The quotient; F2 if the divisor is 0.
 fn quotient(kind: Kind, a: Value, b: Value) -> Result<Value, Fault>
     ensures { result ≡ quotient kind a.number b.number }
 {
@@ -77,7 +77,7 @@ fn rest(a: Value, b: Value) -> i128
     a.number() % b.number()
 }
 
-/// The remainder of the truncated quotient, and 0 where the divisor is 0.
+/// The remainder of the truncated quotient, and 0 if the divisor is 0.
 fn remainder(kind: Kind, a: Value, b: Value) -> Result<Value, Fault>
     ensures { result ≡ in_range kind (remainder a.number b.number) }
 {
@@ -87,7 +87,7 @@ fn remainder(kind: Kind, a: Value, b: Value) -> Result<Value, Fault>
     Value::new(kind, rest(a, b))
 }
 
-/// The product; F1 also of one that no type holds, since the bounds of each type are numbers that the code can hold.
+/// The product; F1 also for one that no type holds, since the bounds of each type are numbers that the code can hold.
 #[tactic(auto, using(crate::proofs::NumberLemmas::beyond_each_type))]
 fn product(kind: Kind, a: Value, b: Value) -> Result<Value, Fault>
     ensures { result ≡ in_range kind (a.number *ℤ b.number) }
@@ -107,12 +107,12 @@ fn applied(op: BinaryOperator, kind: Kind, a: Value, b: Value) -> Result<Value, 
         BinaryOperator::Or => Value::new(kind, or_bits(a, b) as i128),
         BinaryOperator::Xor => Value::new(kind, xor_bits(a, b) as i128),
         BinaryOperator::And => Value::new(kind, and_bits(a, b) as i128),
-        BinaryOperator::Equal => Ok(Value::truth(is_same_number(a, b))),
-        BinaryOperator::NotEqual => Ok(Value::truth(!is_same_number(a, b))),
-        BinaryOperator::Less => Ok(Value::truth(!is_at_most(b, a))),
-        BinaryOperator::Greater => Ok(Value::truth(!is_at_most(a, b))),
-        BinaryOperator::LessOrEqual => Ok(Value::truth(is_at_most(a, b))),
-        BinaryOperator::GreaterOrEqual => Ok(Value::truth(is_at_most(b, a))),
+        BinaryOperator::Equal => Ok(Value::from_bool(is_same_number(a, b))),
+        BinaryOperator::NotEqual => Ok(Value::from_bool(!is_same_number(a, b))),
+        BinaryOperator::Less => Ok(Value::from_bool(!is_at_most(b, a))),
+        BinaryOperator::Greater => Ok(Value::from_bool(!is_at_most(a, b))),
+        BinaryOperator::LessOrEqual => Ok(Value::from_bool(is_at_most(a, b))),
+        BinaryOperator::GreaterOrEqual => Ok(Value::from_bool(is_at_most(b, a))),
         BinaryOperator::Add => Value::new(kind, sum(a, b)),
         BinaryOperator::Subtract => Value::new(kind, difference(a, b)),
         BinaryOperator::Multiply => product(kind, a, b),
@@ -121,8 +121,8 @@ fn applied(op: BinaryOperator, kind: Kind, a: Value, b: Value) -> Result<Value, 
     }
 }
 
-/// An operator between two values. Both are evaluated, also those of AND and OR. F1 where its result leaves its type,
-/// F2 where a divisor is 0, F4 where the values are of two types.
+/// An operator between two values. Both are evaluated, also those of AND and OR. F1 if its result isn't in its type, F2 if a
+/// divisor is 0, F4 if the values are of two types.
 ///
 /// IEC 61131-3:2003, table 55.
 pub fn apply(op: BinaryOperator, a: Value, b: Value) -> Result<Value, Fault>
@@ -146,7 +146,7 @@ fn turned(a: Value) -> i128
     a.kind().greatest() - a.number()
 }
 
-/// An operator before a value; F1 where its result leaves its type.
+/// An operator before a value; F1 if its result isn't in its type.
 pub fn apply_unary(op: UnaryOperator, a: Value) -> Result<Value, Fault>
     ensures { result ≡ run_result (failing (apply_unary op a)) }
 {

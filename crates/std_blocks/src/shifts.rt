@@ -26,7 +26,7 @@ fn width(kind: Kind) -> u64
     }
 }
 
-/// By how many places a value says to shift; none of a negative one.
+/// By how many places a value says to shift; none for a negative one.
 #[inline(always)]
 fn count(places: Value) -> Option<u64>
     ensures some { IfSome result (λ n. places.number ≡ pos n) }
@@ -38,7 +38,7 @@ fn count(places: Value) -> Option<u64>
     Some(bits(places))
 }
 
-/// The value of a type that a word is; F1 where the type does not hold it.
+/// The value of a type for a word; F1 if the type does not hold it.
 #[inline(always)]
 #[tactic(auto, using(crate::proofs::ShiftLemmas::held, crate::proofs::ShiftLemmas::not_held))]
 fn of_word(x: Value, word: i64) -> Result<Value, Fault>
@@ -51,7 +51,7 @@ fn of_word(x: Value, word: i64) -> Result<Value, Fault>
     Ok(x.with_word(word))
 }
 
-/// The value of a type that such bits are; F1 where the type does not hold them.
+/// The value of a type for these bits; F1 if the type does not hold them.
 #[inline(always)]
 fn of_bits(x: Value, bits: u64) -> Result<Value, Fault>
     ensures { result ≡ in_range x.kind (pos bits) }
@@ -62,7 +62,7 @@ fn of_bits(x: Value, bits: u64) -> Result<Value, Fault>
     of_word(x, bits as i64)
 }
 
-/// The value of the type of `x` that bits are which are no more than those of `x`. Its type holds them.
+/// The value of the type of `x` for bits that are at most those of `x`. Its type holds them.
 #[inline(always)]
 #[tactic(auto, using(crate::proofs::ShiftLemmas::fewer_are, crate::proofs::ShiftLemmas::fewer_held))]
 fn of_fewer(x: Value, bits: u64) -> Result<Value, Fault>
@@ -76,7 +76,7 @@ fn of_fewer(x: Value, bits: u64) -> Result<Value, Fault>
     Ok(x.with_word(bits as i64))
 }
 
-/// The bits moved up: zeros follow, and what leaves the width is lost.
+/// The bits moved up: zeros follow, and bits that leave the width are lost.
 #[inline(always)]
 fn bits_up(width: u64, x: u64, n: u64) -> u64
     requires some { 0 < width }
@@ -116,7 +116,7 @@ fn remainder(width: u64, n: u64) -> u64
     if n < width { n } else { n % width }
 }
 
-/// The value of the type of `x` that these two are together; F1 where the type does not hold it.
+/// The value of the type of `x` for these two together; F1 if the type does not hold it.
 #[inline(always)]
 fn of_sum(x: Value, up: u64, down: u64) -> Result<Value, Fault>
     ensures { result ≡ in_range x.kind (pos (up + down)) }
@@ -127,7 +127,7 @@ fn of_sum(x: Value, up: u64, down: u64) -> Result<Value, Fault>
     }
 }
 
-/// The bits of a value turned up: what leaves at the top comes in below.
+/// The bits of a value rotated up: bits that leave at the top come in below.
 #[inline(always)]
 fn turned(x: Value, width: u64, n: u64) -> Result<Value, Fault>
     requires some { 0 < width }
@@ -143,7 +143,7 @@ fn turned(x: Value, width: u64, n: u64) -> Result<Value, Fault>
     )
 }
 
-/// SHL: the bits of a value moved up; F1 of a negative number of places.
+/// SHL: the bits of a value moved up; F1 for a negative number of places.
 #[tactic(auto, using(crate::proofs::ShiftLemmas::by_none))]
 pub fn shift_left(x: Value, places: Value) -> Result<Value, Fault>
     ensures { result ≡ shifted bits_up x places.number }
@@ -154,7 +154,7 @@ pub fn shift_left(x: Value, places: Value) -> Result<Value, Fault>
     of_bits(x, bits_up(width(x.kind()), bits(x), n))
 }
 
-/// SHR: the bits of a value moved down; F1 of a negative number of places.
+/// SHR: the bits of a value moved down; F1 for a negative number of places.
 #[tactic(auto, using(crate::proofs::ShiftLemmas::by_none))]
 pub fn shift_right(x: Value, places: Value) -> Result<Value, Fault>
     ensures { result ≡ shifted bits_down x places.number }
@@ -165,7 +165,7 @@ pub fn shift_right(x: Value, places: Value) -> Result<Value, Fault>
     of_fewer(x, bits_down(width(x.kind()), bits(x), n))
 }
 
-/// ROL: the bits of a value turned up; F1 of a negative number of places.
+/// ROL: the bits of a value rotated up; F1 for a negative number of places.
 #[tactic(auto, using(crate::proofs::ShiftLemmas::by_none))]
 pub fn rotate_left(x: Value, places: Value) -> Result<Value, Fault>
     ensures { result ≡ shifted bits_turned x places.number }
@@ -176,7 +176,7 @@ pub fn rotate_left(x: Value, places: Value) -> Result<Value, Fault>
     turned(x, width(x.kind()), n)
 }
 
-/// ROR: the bits of a value turned down; F1 of a negative number of places.
+/// ROR: the bits of a value rotated down; F1 for a negative number of places.
 #[tactic(auto, using(crate::proofs::ShiftLemmas::by_none))]
 pub fn rotate_right(x: Value, places: Value) -> Result<Value, Fault>
     ensures { result ≡ shifted turned_down x places.number }

@@ -2,7 +2,7 @@
 
 ghost use Rattle.std.specs.Prelude.{◌≡◌, ◌+◌, ◌∷◌, [], ◌<◌, ◌≤◌, ◌≤ℤ◌, ◌-ℤ◌, ◌^◌, ◌-◌, ℕ, length, neg_ℤ, pos};
 ghost use Rattle.std.specs.Int.{int_max, int_min};
-ghost use Rattle.st_types.specs.Values.{datum_of_truth};
+ghost use Rattle.st_types.specs.Values.{bool_datum};
 ghost use Rattle.st_meaning.specs.StandardBlocks.{TON, TOF, TP, time, running, elapsed, timed_from, timed_until};
 ghost use Rattle.st_meaning.specs.StandardBlocks.{stopped, ended, on_delay, off_delay, pulse, timer_of};
 ghost use Rattle.std_blocks.specs.Members.{all_stored, block_stepped, Leaves};
@@ -12,7 +12,7 @@ use crate::members::{held_value, put_all, six_members};
 use crate::timer::Timer;
 use st_types::{Fault, Kind, Value};
 
-/// A timer that is to run: it starts where it did not run.
+/// A timer that is to run: it starts unless it runs.
 fn running(now: u64, t: Timer) -> Timer
     ensures { timer_view result ≡ running now (timer_view t) }
 {
@@ -27,7 +27,7 @@ fn running(now: u64, t: Timer) -> Timer
     }
 }
 
-/// The time since the start; 0 where that lies ahead.
+/// The time since the start; 0 if that is in the future.
 fn elapsed(now: u64, t: Timer) -> i128
     ensures { result ≡ elapsed now (timer_view t) }
 {
@@ -126,7 +126,7 @@ pub fn pulse(now: u64, input: bool, pt: i128, t: Timer) -> Timer
     }
 }
 
-/// Assigns the six members of a timer; F4 where one is of another type, or a time is none.
+/// Assigns the six members of a timer; F4 if one is of another type, or TIME does not hold a time.
 fn put_timer(
     slots: &mut [Value],
     at: usize,
@@ -135,8 +135,8 @@ fn put_timer(
     timer: Timer,
 ) -> Result<(), Fault>
     requires { at + 6 ≤ length slots.old }
-    ensures { Leaves result (all_stored slots.old at (input ∷ preset ∷ datum_of_truth timer.q ∷ time timer.elapsed
-        ∷ datum_of_truth timer.run ∷ time timer.start ∷ [])) slots.new }
+    ensures { Leaves result (all_stored slots.old at (input ∷ preset ∷ bool_datum timer.q ∷ time timer.elapsed
+        ∷ bool_datum timer.run ∷ time timer.start ∷ [])) slots.new }
 {
     let elapsed = match held_value(Kind::Time, timer.elapsed) {
         Ok(elapsed) => elapsed,
@@ -149,15 +149,15 @@ fn put_timer(
     let values = [
         input,
         preset,
-        Value::truth(timer.q),
+        Value::from_bool(timer.q),
         elapsed,
-        Value::truth(timer.run),
+        Value::from_bool(timer.run),
         start,
     ];
     put_all(slots, at, &values)
 }
 
-/// The timer that these members are.
+/// The timer of these members.
 fn timer_of(q: Value, elapsed: Value, run: Value, start: Value) -> Timer
     ensures { timer_view result ≡ timer_of q elapsed run start }
 {

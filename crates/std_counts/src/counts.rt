@@ -19,7 +19,7 @@ fn one_down(z: i128) -> i128
     if Kind::Int.least() < z { z - 1 } else { z }
 }
 
-/// What a counter counts where it is neither reset nor loaded. Two edges at once count nothing.
+/// The next count of a counter that is neither reset nor loaded. Two edges at once count nothing.
 fn counted(up: bool, down: bool, z: i128) -> i128
     ensures { result ≡ counted up down z }
 {
@@ -34,14 +34,14 @@ fn counted(up: bool, down: bool, z: i128) -> i128
     }
 }
 
-/// What an up counter counts: 0 where it is reset.
+/// The next count of an up counter: 0 if it is reset.
 pub fn up_count(reset: bool, up: bool, z: i128) -> i128
     ensures { result ≡ up_count reset up z }
 {
     if reset { 0 } else { counted(up, false, z) }
 }
 
-/// What a down counter counts: its preset where it is loaded.
+/// The next count of a down counter: its preset if it is loaded.
 pub fn down_count(load: bool, preset: i128, down: bool, z: i128) -> i128
     ensures { result ≡ down_count load preset down z }
 {
@@ -52,7 +52,7 @@ pub fn down_count(load: bool, preset: i128, down: bool, z: i128) -> i128
     }
 }
 
-/// What an up and down counter counts: a reset goes before a load, and that before edges.
+/// The next count of an up and down counter: a reset goes before a load, and that before edges.
 pub fn up_down_count(reset: bool, load: bool, preset: i128, up: bool, down: bool, z: i128) -> i128
     ensures { result ≡ up_down_count reset load preset up down z }
 {

@@ -11,6 +11,7 @@ use Rattle.st_meaning.specs.StandardFunctions.{Standard, ABS, MIN, MAX, LIMIT, S
 use Rattle.st_meaning.specs.StandardFunctions.{convertible, conversion_name, conversions_from, named, standard_functions}
 use Rattle.st_meaning.specs.StandardFunctions.{standard_of}
 use Rattle.symbols.specs.Found.{or_found}
+use Rattle.std.proofs.lemmas.Bool.{and_right}
 
 -- one conversion among others
 no_hit : (same b : Bool) (x name : Name) (f : Standard) (rest : List (List ℕ × Standard)) → bytes_eq x name ≡ b
@@ -19,21 +20,17 @@ no_hit true b x name f rest is h = refl
 no_hit false true x name f rest is h = absurd (cc)
 no_hit false false x name f rest is h = ap (λ c. if c then Some f else named rest x) is
 
-both_false : (b c : Bool) → c ≡ false → (b && c) ≡ false
-both_false true c h = h
-both_false false c h = refl
-
 pub no_target : (k : Kind) (ls : List Kind) (x : Name)
     → ((to : List ℕ) → bytes_eq x ((row_of k).keyword ++ codes "_TO_" ++ to) ≡ false)
     → named (conversions_from k ls) x ≡ None
 no_target k [] x h = refl
 no_target k (l ∷ ls) x h =
     no_hit (same_kind k l) false x (conversion_name k l) (CONVERT k l) (conversions_from k ls) (h (row_of l).keyword)
-    (both_false (not (same_kind k l)) false refl)
+    (and_right (not (same_kind k l)) false refl)
     ∙ no_target k ls x h
 
 -- those from one type, and the others
-or_if : {T : Type 0} (b : Bool) (x : T) (o p : Option T)
+pub or_if : {T : Type 0} (b : Bool) (x : T) (o p : Option T)
     → (if b then Some x else or_found o p) ≡ or_found (if b then Some x else o) p
 or_if true x o p = refl
 or_if false x o p = refl
@@ -54,7 +51,7 @@ from_more ks to i k x lt =
     ∙ named_append (conversions_from (slice_index_or ks i k) to) (flat_map (λ l. conversions_from l to) (drop (i + 1) ks))
     x
 
--- the nine names that are no conversion's, and the conversions behind them
+-- the nine names that aren't a conversion's, and the conversions after them
 abbrev pub simple : Name → Option Standard
 simple x = if bytes_eq x (codes "ABS") then Some ABS
     else if bytes_eq x (codes "MIN") then Some MIN else if bytes_eq x (codes "MAX") then Some MAX

@@ -29,7 +29,7 @@ added : {T : Type 0} (b : Bool) (o p : Option T) (v : T) → p ≡ (if b then So
 added true o p v is h = rw (is, h refl) refl
 added false o p v is h = rw is (or_none o)
 
-same_bytes : (r : Bool) (xs ys : List ℕ) → Decides r (xs ≡ ys) → r ≡ true → xs ≡ ys
+pub same_bytes : (r : Bool) (xs ys : List ℕ) → Decides r (xs ≡ ys) → r ≡ true → xs ≡ ys
 same_bytes r xs ys d h = grind (arith, d)
 
 pub one_added : {T : Type 0} (q x k : List ℕ) (old : List ℕ → Option T) (new : Option T) (v : T) → k ≡ x → old x ≡ None

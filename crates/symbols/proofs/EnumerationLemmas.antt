@@ -2,7 +2,7 @@
 use Rattle.std.proofs.Common.{◌≡◌, refl, sym, ap, subst, ◌∙◌, arith, ℕ, ◌+◌, ◌<◌, List, [], ◌∷◌, ◌++◌, Bool, true, false}
 use Rattle.std.proofs.Common.{◌&&◌, not, if◌then◌else◌, Option, Some, None, take, length, slice_index_or}
 use Rattle.std.specs.Prelude.{option_map, is_some, bytes_eq}
-use Rattle.std.proofs.lemmas.List.{take_more, length-take-le}
+use Rattle.std.proofs.lemmas.List.{take_more, length-take-le, append-nil}
 use Rattle.st_types.specs.declared.identifier.Identifier.{Identifier}
 use Rattle.st_types.specs.Declarations.{TypeDeclaration}
 use Rattle.st_meaning.specs.Scopes.{Name}
@@ -10,8 +10,8 @@ use Rattle.st_meaning.specs.Enumerations.{Enumeration, Member, enumerated_names,
 use Rattle.st_meaning.specs.Enumerations.{enumeration_named, place_among, member_of, members_named}
 use Rattle.symbols.specs.Found.{or_found}
 use Rattle.symbols.specs.declared.enumerations.ValueNames.{ValueNames}
-use Rattle.symbols.specs.Enumerated.{listed, Tells}
-use Rattle.symbols.proofs.TextLemmas.{append_none}
+use Rattle.symbols.specs.Enumerated.{listed, IsListedAs}
+use Rattle.symbols.proofs.ConversionLemmas.{or_if}
 
 -- the place of a name in a list that gets one name more
 place_step : (b c : Bool) (o : Option ℕ) (n m : ℕ) → m ≡ n + 1
@@ -39,11 +39,11 @@ place_more xs i y q lt is =
     ∙ ap (λ n. or_found (place_among (take i xs) q) (if bytes_eq q y.name then Some n else None))
     (length-take-le i xs (omega arith))
 
--- the values of a name, where a type's names are gone through
+-- the values of a name, as a type's names are gone through
 values_step : (f : ℕ → Member) (ms : List Member) (b : Bool) (o p : Option ℕ) (i : ℕ) → p ≡ o
     → (if b && not (is_some p) then (ms ++ listed (option_map f o)) ++ f i ∷ [] else ms ++ listed (option_map f o))
     ≡ ms ++ listed (option_map f (or_found o (if b then Some i else None)))
-values_step f ms true None p i h = rw h (ap (λ ys. ys ++ f i ∷ []) (append_none ms))
+values_step f ms true None p i h = rw h (ap (λ ys. ys ++ f i ∷ []) (append-nil ms))
 values_step f ms false None p i h = refl
 values_step f ms true (Some n) p i h = rw h refl
 values_step f ms false (Some n) p i h = refl
@@ -51,12 +51,12 @@ values_step f ms false (Some n) p i h = refl
 pub values_more : (f : ℕ → Member) (values : ValueNames) (ms : List Member) (xs : List Identifier) (i : ℕ)
     (y : Identifier) (q : Name) (p : Option ℕ) → i < length xs → y ≡ slice_index_or xs i y
     → p ≡ place_among (take i xs) q
-    → Tells values q (if bytes_eq q y.name && not (is_some p)
+    → IsListedAs values q (if bytes_eq q y.name && not (is_some p)
     then (ms ++ listed (option_map f (place_among (take i xs) q))) ++ f i ∷ []
     else ms ++ listed (option_map f (place_among (take i xs) q)))
-    → Tells values q (ms ++ listed (option_map f (place_among (take (i + 1) xs) q)))
+    → IsListedAs values q (ms ++ listed (option_map f (place_among (take (i + 1) xs) q)))
 values_more f values ms xs i y q p lt is h told =
-    subst (Tells values q)
+    subst (IsListedAs values q)
     (values_step f ms (bytes_eq q y.name) (place_among (take i xs) q) p i h
     ∙ ap (λ o. ms ++ listed (option_map f o)) (sym (place_more xs i y q lt is))) told
 
@@ -92,7 +92,7 @@ pub not_enumerated : (ts : List TypeDeclaration) (t : TypeDeclaration) → enume
     → enumerations_of (ts ++ t ∷ []) ≡ enumerations_of ts
 not_enumerated ts t h =
     from_append 0 ts t ∙ ap (λ es. enumerations_of ts ++ es) (only_names (0 + length (enumerations_of ts)) t None h)
-    ∙ append_none (enumerations_of ts)
+    ∙ append-nil (enumerations_of ts)
 
 pub enumerated : (ts : List TypeDeclaration) (t : TypeDeclaration) (names : List Identifier)
     → enumerated_names t.definition ≡ Some names
@@ -103,19 +103,13 @@ enumerated ts t names h =
     ∙ ap (λ es. enumerations_of ts ++ es) (only_names (0 + length (enumerations_of ts)) t (Some names) h)
     ∙ ap (λ n. enumerations_of ts ++ record { number = n; name = t.name.name; names = names } ∷ []) (omega arith)
 
--- what a list of enumerated types tells, with one more
-or_step : {T : Type 0} (b : Bool) (x : T) (o p : Option T)
-    → (if b then Some x else or_found o p) ≡ or_found (if b then Some x else o) p
-or_step true x o p = refl
-or_step false x o p = refl
-
 pub named_append : (es : List Enumeration) (e : Enumeration) (x : Name)
     → enumeration_named (es ++ e ∷ []) x
     ≡ or_found (enumeration_named es x) (if bytes_eq x e.name then Some e else None)
 named_append [] e x = refl
 named_append (f ∷ es) e x =
     ap (λ o. if bytes_eq x f.name then Some f else o) (named_append es e x)
-    ∙ or_step (bytes_eq x f.name) f (enumeration_named es x) (if bytes_eq x e.name then Some e else None)
+    ∙ or_if (bytes_eq x f.name) f (enumeration_named es x) (if bytes_eq x e.name then Some e else None)
 
 abbrev put_first : Option Member → List Member → List Member
 put_first o ms = elim o [ Some m ↦ m ∷ ms | None ↦ ms ]

@@ -14,12 +14,9 @@ use Rattle.st_meaning.specs.ResolvedUnits.{field_in}
 use Rattle.symbols.specs.declared.index.Index.{Index}
 use Rattle.symbols.specs.Found.{or_found}
 use Rattle.symbols.specs.Fields.{type_in}
-use Rattle.symbols.proofs.TextLemmas.{or_mapped, if_mapped, more_mapped, type_named_append}
-
-or_if : {T : Type 0} (b : Bool) (x : T) (o p : Option T)
-    → (if b then Some x else or_found o p) ≡ or_found (if b then Some x else o) p
-or_if true x o p = refl
-or_if false x o p = refl
+use Rattle.symbols.proofs.TextLemmas.{or_mapped, if_mapped, type_named_append}
+use Rattle.st_types.proofs.ListLemmas.{map_take_next}
+use Rattle.symbols.proofs.ConversionLemmas.{or_if}
 
 field_type_append : (xs ys : List Field) (q : Name)
     → field_type (xs ++ ys) q ≡ or_found (field_type xs q) (field_type ys q)
@@ -28,7 +25,7 @@ field_type_append (x ∷ xs) ys q =
     ap (λ o. if is_named q x.name then Some x.declared else o) (field_type_append xs ys q)
     ∙ or_if (is_named q x.name) x.declared (field_type xs q) (field_type ys q)
 
--- a field more, behind those that were looked at
+-- one more field, after those that were looked at
 pub field_added : (fs : List code_field.Field) (i : ℕ) (x : code_field.Field) (q : Name)
     (now new : Option (Bor VariableType)) (d : Bor VariableType)
     → i < length fs → x ≡ slice_index_or fs i x
@@ -41,17 +38,17 @@ field_added fs i x q now new d lt is h added same =
     ap (option_map f) added ∙ or_mapped f now (if b then Some d else None)
     ∙ ap (or_found (option_map f now)) (if_mapped f b d ∙ ap (λ e. if b then Some e else None) same)
     ∙ ap (λ o. or_found o (if b then Some x.declared else None)) h
-    ∙ sym (ap (λ zs. field_type zs q) (more_mapped field_view fs i x lt is)
+    ∙ sym (ap (λ zs. field_type zs q) (map_take_next field_view fs i x lt is)
     ∙ field_type_append (map field_view (take i fs)) (field_view x ∷ []) q)
 
--- the types of a text of which so many were looked at
+-- the types of a text of which the first `i` were looked at
 pub types_more : (ts : List (Bor code_type.TypeDeclaration)) (i : ℕ) (t : Bor code_type.TypeDeclaration) (x : Name)
     → i < length ts → t ≡ slice_index_or ts i t
     → type_named (map (λ u. type_declaration_view u.now) (take (i + 1) ts)) x
     ≡ or_found (type_named (map (λ u. type_declaration_view u.now) (take i ts)) x)
     (if is_named x t.now.name then Some (type_definition_view t.now.definition) else None)
 types_more ts i t x lt is =
-    ap (λ zs. type_named zs x) (more_mapped (λ u. type_declaration_view u.now) ts i t lt is)
+    ap (λ zs. type_named zs x) (map_take_next (λ u. type_declaration_view u.now) ts i t lt is)
     ∙ type_named_append (map (λ u. type_declaration_view u.now) (take i ts)) (type_declaration_view t.now ∷ []) x
 
 -- a table that has each type, and gets one more
@@ -64,7 +61,7 @@ type_there None p (Some e) u one d b is us h = absurd (cc)
 type_there None p None u one d true is us h = rw (is, us) refl
 type_there None p None u one d false is us h = rw (is, us) refl
 
--- and that tells the fields of each
+-- and that has the fields of each
 pub fields_there : (o p : Option (Index (Bor VariableType))) (t u : Option TypeDefinition) (one : Index (Bor VariableType))
     (d : TypeDefinition) (b : Bool) (q : Name)
     → p ≡ or_found o (if b then Some one else None) → u ≡ or_found t (if b then Some d else None)

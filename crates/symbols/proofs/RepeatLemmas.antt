@@ -1,4 +1,4 @@
--- Names that stand again, from the front of a list on.
+-- Names that occur again, from the front of a list on.
 use Rattle.std.proofs.Common.{◌≡◌, refl, sym, ap, ◌∙◌, ℕ, List, [], ◌∷◌, ◌++◌, Bool, true, false, ◌||◌, if◌then◌else◌}
 use Rattle.std.proofs.Common.{Option, Some}
 use Rattle.std.proofs.Common.{None, take, drop, length, ◌<◌, ◌+◌, slice_index_or, append_assoc, arith}
@@ -13,7 +13,8 @@ use Rattle.st_meaning.specs.NameTypes.{is_named}
 use Rattle.st_rules.specs.Places.{places_where, repeats}
 use Rattle.symbols.specs.Found.{or_found}
 use Rattle.symbols.proofs.Entries.{turned}
-use Rattle.symbols.proofs.TextLemmas.{more_mapped}
+use Rattle.st_types.proofs.ListLemmas.{append_parts, map_take_next}
+use Rattle.std.proofs.lemmas.Bool.{or_parts}
 
 -- an index that has the names of a list, and gets one more
 pub more_found : (b c : Bool) (o : Option (Unit {0})) → is_some o ≡ c
@@ -49,7 +50,7 @@ none_there f (y ∷ ys) x h k = one_more (f y) h (λ e. none_there f ys x e k)
     one_more true e g = absurd (cc)
     one_more false e g = g e
 
--- a name that stood before
+-- a name that came before
 repeated_here : (y x : Identifier) (pre post : List Identifier) (b : Bool) → is_named x.name y ≡ b
     → (b || list_any (is_named x.name) pre) ≡ true
     → (list_any (is_named x.name) pre ≡ true → Contains (repeats (pre ++ x ∷ post)) x.place)
@@ -66,31 +67,22 @@ pub repeated : (pre post : List Identifier) (x : Identifier) → list_any (is_na
 repeated [] post x h = absurd (cc)
 repeated (y ∷ pre) post x h = repeated_here y x pre post (is_named x.name y) refl h (λ k. repeated pre post x k)
 
--- a name that did not
-both_false : (b c : Bool) → (b || c) ≡ false → (b ≡ false) × (c ≡ false)
-both_false true c e = absurd (cc)
-both_false false c e = (refl, e)
-
-both_empty : {X : Type 0} (xs ys : List X) → xs ++ ys ≡ [] → (xs ≡ []) × (ys ≡ [])
-both_empty [] ys e = (refl, e)
-both_empty (z ∷ xs) ys e = absurd (cc)
-
 pub not_repeated : (pre : List Identifier) (x : Identifier) → repeats pre ≡ [] → list_any (is_named x.name) pre ≡ false
     → repeats (pre ++ x ∷ []) ≡ []
 not_repeated [] x h k = refl
 not_repeated (y ∷ pre) x h k =
-    let parts = both_false (is_named x.name y) (list_any (is_named x.name) pre) k in
-    let clean = both_empty (places_where (is_named y.name) pre) (repeats pre) h in
+    let parts = or_parts (is_named x.name y) (list_any (is_named x.name) pre) k in
+    let clean = append_parts (places_where (is_named y.name) pre) (repeats pre) h in
     let first = none_there (is_named y.name) pre x clean.0 (turned y.name x.name ∙ parts.0) in
     let rest = not_repeated pre x clean.1 parts.1 in
     rw (first, rest) refl
 
--- a list where a loop is in it, through a view
+-- a list, split at an element in a loop, through a view
 pub parted : {A : Type 0} (f : A → Identifier) (xs : List A) (i : ℕ) (x : A) → i < length xs → x ≡ slice_index_or xs i x
     → map f (take i xs) ++ f x ∷ map f (drop (i + 1) xs) ≡ map f xs
 parted f xs i x h is =
     sym (append_assoc (map f (take i xs)) (f x ∷ []) (map f (drop (i + 1) xs)))
-    ∙ ap (λ ys. ys ++ map f (drop (i + 1) xs)) (sym (more_mapped f xs i x h is))
+    ∙ ap (λ ys. ys ++ map f (drop (i + 1) xs)) (sym (map_take_next f xs i x h is))
     ∙ sym (map-append f (take (i + 1) xs) (drop (i + 1) xs)) ∙ ap (map f) (take-append-drop (i + 1) xs)
 
 pub more_named : (before now : List Identifier) (x : Identifier) (q : Name) (o p : Option (Unit {0}))

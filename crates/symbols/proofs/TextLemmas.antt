@@ -20,6 +20,8 @@ use Rattle.st_types.specs.Sources.{LibraryElement, Source}
 use Rattle.st_meaning.specs.Scopes.{Name}
 use Rattle.st_meaning.specs.NameTypes.{is_named, type_named, unit_named, types_in, units_in}
 use Rattle.symbols.specs.Found.{or_found}
+use Rattle.st_types.proofs.ListLemmas.{map_take_next}
+use Rattle.symbols.proofs.ConversionLemmas.{or_if}
 
 pub or_none : {T : Type 0} (o : Option T) → or_found o None ≡ o
 or_none None = refl
@@ -29,7 +31,7 @@ pub or_assoc : {T : Type 0} (a b c : Option T) → or_found (or_found a b) c ≡
 or_assoc None b c = refl
 or_assoc (Some x) b c = refl
 
--- what an index tells through a view
+-- the entry of an index, through a view
 pub or_mapped : {T U : Type 0} (f : T → U) (a b : Option T)
     → option_map f (or_found a b) ≡ or_found (option_map f a) (option_map f b)
 or_mapped f None b = refl
@@ -39,11 +41,6 @@ pub if_mapped : {T U : Type 0} (f : T → U) (b : Bool) (x : T)
     → option_map f (if b then Some x else None) ≡ (if b then Some (f x) else None)
 if_mapped f true x = refl
 if_mapped f false x = refl
-
-or_if : {T : Type 0} (b : Bool) (x : T) (o p : Option T)
-    → (if b then Some x else or_found o p) ≡ or_found (if b then Some x else o) p
-or_if true x o p = refl
-or_if false x o p = refl
 
 pub type_named_append : (xs ys : List TypeDeclaration) (q : Name)
     → type_named (xs ++ ys) q ≡ or_found (type_named xs q) (type_named ys q)
@@ -72,18 +69,12 @@ units_append (sources.types ts ∷ xs) ys = units_append xs ys
 units_append (sources.unit u ∷ xs) ys = ap (λ r. u ∷ r) (units_append xs ys)
 units_append (sources.configuration c ∷ xs) ys = units_append xs ys
 
--- a list of a slice where a loop is in it, through a view
-pub more_mapped : {A B : Type 0} (f : A → B) (xs : List A) (i : ℕ) (x : A) → i < length xs → x ≡ slice_index_or xs i x
-    → map f (take (i + 1) xs) ≡ map f (take i xs) ++ f x ∷ []
-more_mapped f xs i x h is =
-    ap (map f) (take_more xs i x h ∙ ap (λ y. take i xs ++ y ∷ []) (sym is)) ∙ map-append f (take i xs) (x ∷ [])
-
--- one entry more, behind what is there
+-- one more entry, after the others
 pub entry_added : {T : Type 0} (old now new one before : Option T) → now ≡ or_found old before → new ≡ or_found now one
     → new ≡ or_found old (or_found before one)
 entry_added old now new one before h is = is ∙ ap (λ o. or_found o one) h ∙ or_assoc old before one
 
--- a type more, behind those that were looked at
+-- one more type, after those that were looked at
 pub type_added : (ts : List code_type.TypeDeclaration) (i : ℕ) (x : code_type.TypeDeclaration) (q : Name)
     (now new : Option (Bor code_definition.TypeDefinition)) (d : Bor code_definition.TypeDefinition)
     (old : Option TypeDefinition)
@@ -103,10 +94,10 @@ type_added ts i x q now new d old lt is h added same =
     ∙ ap (or_found (option_map f now)) (if_mapped f b d
     ∙ ap (λ e. if b then Some (type_definition_view e) else None) same) in
     entry_added old (option_map f now) (option_map f new) one before h told
-    ∙ ap (or_found old) (sym (ap (λ zs. type_named zs q) (more_mapped type_declaration_view ts i x lt is)
+    ∙ ap (or_found old) (sym (ap (λ zs. type_named zs q) (map_take_next type_declaration_view ts i x lt is)
     ∙ type_named_append (map type_declaration_view (take i ts)) (type_declaration_view x ∷ []) q))
 
--- a text of which so many elements were looked at
+-- a text of which the first `i` elements were looked at
 pub types_more : (es : List code_element.LibraryElement) (i : ℕ) (x : code_element.LibraryElement) (q : Name)
     (now new : Option TypeDefinition) (ts : List TypeDeclaration)
     → i < length es → x ≡ slice_index_or es i x → now ≡ type_named (types_in (map element_view (take i es))) q
@@ -115,7 +106,7 @@ pub types_more : (es : List code_element.LibraryElement) (i : ℕ) (x : code_ele
 types_more es i x q now new ts lt is h one added =
     let before = map element_view (take i es) in
     added ∙ ap (λ o. or_found o (type_named ts q)) h
-    ∙ sym (ap (λ xs. type_named (types_in xs) q) (more_mapped element_view es i x lt is)
+    ∙ sym (ap (λ xs. type_named (types_in xs) q) (map_take_next element_view es i x lt is)
     ∙ ap (λ xs. type_named xs q) (types_append before (element_view x ∷ []))
     ∙ type_named_append (types_in before) (types_in (element_view x ∷ [])) q
     ∙ ap (λ xs. or_found (type_named (types_in before) q) (type_named xs q)) one)
@@ -128,7 +119,7 @@ pub units_more : (es : List code_element.LibraryElement) (i : ℕ) (x : code_ele
 units_more es i x q now new us lt is h one added =
     let before = map element_view (take i es) in
     added ∙ ap (λ o. or_found o (unit_named us q)) h
-    ∙ sym (ap (λ xs. unit_named (units_in xs) q) (more_mapped element_view es i x lt is)
+    ∙ sym (ap (λ xs. unit_named (units_in xs) q) (map_take_next element_view es i x lt is)
     ∙ ap (λ xs. unit_named xs q) (units_append before (element_view x ∷ []))
     ∙ unit_named_append (units_in before) (units_in (element_view x ∷ [])) q
     ∙ ap (λ xs. or_found (unit_named (units_in before) q) (unit_named xs q)) one)
@@ -143,7 +134,3 @@ unit_added now new u q name added same =
     ap (option_map f) added ∙ or_mapped f now (if is_named q name then Some u else None)
     ∙ ap (or_found (option_map f now)) (if_mapped f (is_named q name) u
     ∙ ap (λ x. if is_named q x then Some (unit_view u.now) else None) (sym same))
-
-pub append_none : {X : Type 0} (xs : List X) → xs ++ [] ≡ xs
-append_none [] = refl
-append_none (x ∷ xs) = ap (λ ys. x ∷ ys) (append_none xs)

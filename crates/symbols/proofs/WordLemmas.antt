@@ -3,10 +3,7 @@ use Rattle.std.specs.Prelude.{bytes_eq}
 use Rattle.std.proofs.Common.{◌≡◌, ℕ, ◌-◌, ◌==◌, ◌<◌, List, [], ◌∷◌, ◌++◌, length, take, drop, Bool, true, false, ◌&&◌}
 use Rattle.std.proofs.Common.{refl, sym, ap, ◌∙◌, arith}
 use Rattle.std.proofs.lemmas.List.{take_rest}
-
-and_assoc : (a b c : Bool) → (a && (b && c)) ≡ ((a && b) && c)
-and_assoc true b c = refl
-and_assoc false b c = refl
+use Rattle.st_types.proofs.TestLemmas.{and_assoc}
 
 pub word_by_parts : (w front back : List ℕ)
     → bytes_eq w (front ++ back) ≡ (bytes_eq (take (length front) w) front && bytes_eq (drop (length front) w) back)

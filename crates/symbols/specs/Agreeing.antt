@@ -1,4 +1,4 @@
--- What a table tells of a name, and what a definition does.
+-- The entry of a table for a name, and that of a definition.
 use Rattle.std.specs.Prelude.{Option, Some, None}
 
 -- both have something, and it fits, or neither has

@@ -1,4 +1,4 @@
--- Enumerated types and their values, as tables tell them.
+-- Enumerated types and their values, as tables have them.
 use Rattle.std.specs.Prelude.{◌≡◌, ℕ, List, [], ◌∷◌, Bool, true, false, Option, Some, None, option_map, is_some, length}
 use Rattle.st_types.specs.declared.kind.Kind.{Kind}
 use Rattle.st_meaning.specs.Enumerations.{Enumeration, Member, enumeration_named, kind_of_enumeration, place_among}
@@ -37,8 +37,8 @@ is_several [] = false
 is_several (x ∷ []) = false
 is_several (x ∷ y ∷ zs) = true
 
--- The tables tell of a name that it has these values: the first, and whether there are more.
-pub record Tells (values : ValueNames) (q : List ℕ) (ms : List Member) : Type 0 where
+-- The tables give these values for a name: the first, and whether there are more.
+pub record IsListedAs (values : ValueNames) (q : List ℕ) (ms : List Member) : Type 0 where
   pub first : option_map member_view (found values.first q) ≡ first_of ms
   pub again : is_some (found values.again q) ≡ is_several ms
 
@@ -51,4 +51,4 @@ pub record IsTable (t : code_enumeration.Enumeration) (e : Enumeration) : Type 0
 pub record HasEnumerations (names : EnumeratedNames) (es : List Enumeration) : Type 0 where
   pub count : names.count ≡ length es
   pub types : (x : List ℕ) → Agree IsTable (found names.types x) (enumeration_named es x)
-  pub values : (q : List ℕ) → Tells names.values q (members_named es q)
+  pub values : (q : List ℕ) → IsListedAs names.values q (members_named es q)

@@ -1,4 +1,4 @@
--- Fields of structures, as tables tell them.
+-- Fields of structures, as tables have them.
 use Rattle.std.specs.Prelude.{◌≡◌, ℕ, List, Option, option_map, option_and_then}
 use denote.Bor.{Bor}
 use Rattle.st_types.specs.declared.data_type.VariableType.{VariableType}

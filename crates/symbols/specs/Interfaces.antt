@@ -1,4 +1,4 @@
--- What units take and give, as tables tell it.
+-- The interfaces of units, as tables have them.
 use Rattle.std.specs.Prelude.{◌≡◌, ℕ, List, Bool, true, false, Option, Some, None}
 use Rattle.st_types.specs.declared.declaration.Section.{Section}
 use Rattle.st_types.specs.Units.{OrganisationUnit}
@@ -39,7 +39,7 @@ HasSides (FunctionBlock b) u =
     × ((q : List ℕ) → type_found b.outputs q ≡ type_in_sections is_output u.blocks q)
 HasSides _ u = Unit {0}
 
--- what a table tells of a unit
+-- the entry of a table for a unit
 pub record IsInterface (text : Declared) (t : code_interface.Interface) (u : OrganisationUnit) : Type 0 where
   pub signature : signature_of t ≡ callee_of_sort text u.sort u.blocks
   pub is_block : is_block_interface t ≡ is_block_sort u.sort

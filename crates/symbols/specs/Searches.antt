@@ -1,4 +1,4 @@
--- What a search for a place answers.
+-- The answer of a search for a place.
 use Rattle.std.specs.Prelude.{◌≡◌, ℕ, List, [], Option, Some, None}
 use Rattle.std.specs.List.{Contains}
 

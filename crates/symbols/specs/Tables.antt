@@ -1,4 +1,4 @@
--- The tables of a text, and what the names of a unit stand for in it.
+-- The tables of a text, and the meanings of the names of a unit in it.
 use Rattle.std.specs.Prelude.{List}
 use Rattle.st_meaning.specs.StandardBlocks.{StandardBlock, BlockMember, inputs_of, outputs_of}
 use Rattle.st_meaning.specs.Enumerations.{enumerations_of}

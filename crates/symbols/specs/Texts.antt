@@ -12,7 +12,7 @@ use Rattle.symbols.specs.declared.index.Index.{Index}
 use Rattle.symbols.specs.declared.texts.TextNames.{TextNames}
 use Rattle.symbols.specs.Found.{found}
 
--- what a table of types and one of units tell
+-- the entries of a table of types and of one of units
 abbrev pub type_found : Index (Bor code_definition.TypeDefinition) → List ℕ → Option TypeDefinition
 type_found types q = option_map (λ d. type_definition_view d.now) (found types q)
 

@@ -1,4 +1,4 @@
--- Variables of a unit, as tables tell them.
+-- Variables of a unit, as tables have them.
 use Rattle.std.specs.Prelude.{◌≡◌, ℕ, List, Option, option_map}
 use Rattle.st_types.specs.declared.data_type.VariableType.{VariableType}
 use Rattle.st_types.specs.declared.declaration.Section.{Section}

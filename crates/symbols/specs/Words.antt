@@ -1,4 +1,4 @@
--- What stands after a prefix of a word.
+-- The rest after a prefix of a word.
 use Rattle.std.specs.Prelude.{◌≡◌, ◌++◌, ℕ, List, Bool, false, Option, Some, None, bytes_eq, codes}
 use Rattle.st_types.specs.declared.kind.Kind.{Kind}
 use Rattle.st_types.specs.Kinds.{row_of}

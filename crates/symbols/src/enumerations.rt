@@ -12,7 +12,7 @@ ghost use Rattle.st_meaning.specs.Enumerations.{member_of_type};
 ghost use Rattle.st_meaning.specs.Enumerations as meaning;
 ghost use Rattle.st_rules.specs.Readings.{reading_of, reading_of_name, reading_written};
 ghost use Rattle.symbols.specs.Found.{found, or_found};
-ghost use Rattle.symbols.specs.Enumerated.{member_view, reading_view, member_at, listed, Tells, HasEnumerations};
+ghost use Rattle.symbols.specs.Enumerated.{member_view, reading_view, member_at, listed, IsListedAs, HasEnumerations};
 
 use crate::index::Index;
 use st_types::{
@@ -28,7 +28,7 @@ pub struct Member {
     pub place: usize,
 }
 
-/// What a value stands for as a text writes it.
+/// The meaning of a value as a text writes it.
 #[derive(Clone, Copy)]
 pub enum Reading {
     Value(Member),
@@ -38,14 +38,14 @@ pub enum Reading {
     Ambiguous,
 }
 
-/// An enumerated type with the places of its names; of several of one name the first.
+/// An enumerated type with the places of its names; if several have one name, the first.
 #[derive(Drop)]
 struct Enumeration<'a> {
     kind: Kind,
     places: Index<'a, usize>,
 }
 
-/// What names of values stand for: the first that has each name, and which names a later type has again.
+/// The meanings of the names of values: the first that has each name, and which names a later type has again.
 #[derive(Drop)]
 struct ValueNames<'a> {
     first: Index<'a, Member>,
@@ -73,8 +73,8 @@ impl Drop for EnumeratedNames<'_> {
 impl<'a> ValueNames<'a> {
     /// Adds a value of a type that has no other of this name.
     fn add(&mut self, name: &'a Name, member: Member) -> Result<(), AllocError>
-        ensures { OnOk result ((q : List ℕ) (ms : List meaning.Member) → Tells self.old q ms
-            → Tells self.new q (if bytes_eq q name.now then ms ++ member_view member ∷ [] else ms)) }
+        ensures { OnOk result ((q : List ℕ) (ms : List meaning.Member) → IsListedAs self.old q ms
+            → IsListedAs self.new q (if bytes_eq q name.now then ms ++ member_view member ∷ [] else ms)) }
     {
         if self.first.find(name).is_some() {
             self.again.add(name, ())
@@ -84,7 +84,7 @@ impl<'a> ValueNames<'a> {
     }
 }
 
-/// Adds a value to its type and to all values, where the type has no other of its name.
+/// Adds a value to its type and to all values, if the type has no other of its name.
 fn add_value<'a>(
     places: &mut Index<'a, usize>,
     values: &mut ValueNames<'a>,
@@ -93,8 +93,8 @@ fn add_value<'a>(
 ) -> Result<(), AllocError>
     ensures places { OnOk result ((q : List ℕ) → found places.new q
         ≡ or_found (found places.old q) (if bytes_eq q name.now then Some member.place else None)) }
-    ensures values { OnOk result ((q : List ℕ) (ms : List meaning.Member) → Tells values.old q ms
-        → Tells values.new q (if bytes_eq q name.now && not (is_some (found places.old q))
+    ensures values { OnOk result ((q : List ℕ) (ms : List meaning.Member) → IsListedAs values.old q ms
+        → IsListedAs values.new q (if bytes_eq q name.now && not (is_some (found places.old q))
         then ms ++ member_view member ∷ [] else ms)) }
 {
     if places.find(name).is_some() {
@@ -104,7 +104,7 @@ fn add_value<'a>(
     values.add(name, member)
 }
 
-/// Adds the names of a type to all values, and answers their places.
+/// Adds the names of a type to all values, and gives their places.
 fn add_names<'a>(
     alloc: Global,
     values: &mut ValueNames<'a>,
@@ -112,8 +112,8 @@ fn add_names<'a>(
     names: &'a [Identifier],
 ) -> Result<Index<'a, usize>, AllocError>
     ensures places { IfOk result (λ places. (q : List ℕ) → found places q ≡ place_among names.now q) }
-    ensures values { OnOk result ((q : List ℕ) (ms : List meaning.Member) → Tells values.old q ms
-        → Tells values.new q (ms ++ listed (option_map (member_at kind) (place_among names.now q)))) }
+    ensures values { OnOk result ((q : List ℕ) (ms : List meaning.Member) → IsListedAs values.old q ms
+        → IsListedAs values.new q (ms ++ listed (option_map (member_at kind) (place_among names.now q)))) }
 {
     let mut places = Index::new(alloc);
     for (place, value) in names.iter().enumerate() {
@@ -123,7 +123,7 @@ fn add_names<'a>(
     Ok(places)
 }
 
-/// The type of so many names that comes after so many others. More than it can have room for are none.
+/// The enumerated type of this number, with these names. More names than 16 bits hold count as out of memory.
 fn kind_of(names: &[Identifier], number: u32) -> Result<Kind, AllocError>
     ensures { IfOk result (λ kind. kind ≡ Enumerated (length names.now) number) }
 {
@@ -143,7 +143,7 @@ fn one_more(count: u32) -> Result<u32, AllocError>
 }
 
 impl<'a> EnumeratedNames<'a> {
-    /// Adds an enumerated type behind the others.
+    /// Adds an enumerated type after the others.
     fn add_enumeration(
         &mut self,
         alloc: Global,
@@ -162,7 +162,7 @@ impl<'a> EnumeratedNames<'a> {
         Ok(())
     }
 
-    /// Adds a type behind the others, if it is an enumerated one.
+    /// Adds a type after the others, if it is an enumerated one.
     fn add(&mut self, alloc: Global, declared: &'a TypeDeclaration) -> Result<(), AllocError>
         ensures { OnOk result ((ts : List tree.TypeDeclaration) → HasEnumerations self.old (enumerations_of ts)
             → HasEnumerations self.new (enumerations_of (ts ++ type_declaration_view declared.now ∷ []))) }
@@ -210,7 +210,7 @@ impl<'a> EnumeratedNames<'a> {
         }
     }
 
-    /// The elementary or enumerated type that a type is.
+    /// The type, if it is elementary or enumerated.
     pub fn kind_of_simple(&self, declared: &SimpleType) -> Option<Kind>
         ensures { (ts : List tree.TypeDeclaration) → HasEnumerations self.now (enumerations_of ts)
             → result ≡ kind_among ts (types.Simple declared.now) }
@@ -221,7 +221,7 @@ impl<'a> EnumeratedNames<'a> {
         }
     }
 
-    /// The elementary or enumerated type that a type is.
+    /// The type, if it is elementary or enumerated.
     pub fn kind_of_type(&self, declared: &VariableType) -> Option<Kind>
         ensures { (ts : List tree.TypeDeclaration) → HasEnumerations self.now (enumerations_of ts)
             → result ≡ kind_among ts declared.now }
@@ -232,7 +232,7 @@ impl<'a> EnumeratedNames<'a> {
         }
     }
 
-    /// What a name alone stands for.
+    /// The meaning of a name alone.
     pub fn reading_of_name(&self, name: &Name) -> Reading
         ensures { (text : Declared) → HasEnumerations self.now (enumerations_of text.types)
             → reading_view result ≡ reading_of_name text name.now }
@@ -249,7 +249,7 @@ impl<'a> EnumeratedNames<'a> {
         }
     }
 
-    /// What a name of a type stands for.
+    /// The meaning of a name of a type.
     fn reading_of_type(&self, type_name: &Name, name: &Name) -> Reading
         ensures { (text : Declared) → HasEnumerations self.now (enumerations_of text.types)
             → reading_view result ≡ reading_of (member_of_type text.types type_name.now name.now) }
@@ -266,7 +266,7 @@ impl<'a> EnumeratedNames<'a> {
         }
     }
 
-    /// What a name alone, or one with its type, stands for.
+    /// The meaning of a name alone, or of one with its type.
     pub fn reading_written(&self, value: &EnumeratedValue) -> Reading
         ensures { (text : Declared) → HasEnumerations self.now (enumerations_of text.types)
             → reading_view result ≡ reading_written text value.now }

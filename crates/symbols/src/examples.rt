@@ -1,4 +1,4 @@
-//! Worked examples: what a search for a place may answer.
+//! Worked examples: the answers of a search for a place.
 
 ghost use Rattle.std.specs.Prelude.{◌∷◌, [], Some, None};
 ghost use Rattle.symbols.specs.Searches.{FindsPlace};

@@ -10,7 +10,7 @@ use crate::index::Index;
 use st_types::{Field, Name, TypeDeclaration, TypeDefinition, VariableType};
 use std::alloc::{AllocError, Global};
 
-/// The fields of each structure of a text with their types; of several of one name the first.
+/// The fields of each structure of a text with their types; if several have one name, the first.
 pub struct FieldNames<'a> {
     structures: Index<'a, Index<'a, &'a VariableType>>,
 }
@@ -34,7 +34,7 @@ fn fields_of<'a>(
     Ok(index)
 }
 
-/// The fields of a type; none of what is no structure.
+/// The fields of a type; none if it isn't a structure.
 fn fields_of_definition<'a>(
     alloc: Global,
     definition: &'a TypeDefinition,

@@ -7,7 +7,7 @@ use st_types::Name;
 use std::alloc::{AllocError, Global};
 use std::collections::BTreeMap;
 
-/// What each name stands for; of several entries of one name the first.
+/// The meaning of each name; if several entries have one name, the first.
 pub struct Index<'a, T> {
     map: BTreeMap<&'a [u8], T>,
 }
@@ -28,14 +28,14 @@ impl<'a, T: Drop> Index<'a, T> {
         }
     }
 
-    /// What the name stands for, where it is kept.
+    /// The meaning of the name, if it is kept.
     pub fn get(&self, name: &Name) -> Option<&T>
         ensures { option_map (λ v. v.now) result ≡ found self.now name.now }
     {
         self.map.get(name.as_slice())
     }
 
-    /// Adds an entry behind the others.
+    /// Adds an entry after the others.
     pub fn add(&mut self, name: &'a Name, value: T) -> Result<(), AllocError>
         ensures added { OnOk result ((q : List ℕ) → found self.new q
             ≡ or_found (found self.old q) (if bytes_eq q name.now then Some value else None)) }
@@ -49,7 +49,7 @@ impl<'a, T: Drop> Index<'a, T> {
 }
 
 impl<'a, T: Copy> Index<'a, T> {
-    /// What the name stands for.
+    /// The meaning of the name.
     pub fn find(&self, name: &Name) -> Option<T>
         ensures { result ≡ found self.now name.now }
     {

@@ -1,4 +1,4 @@
-//! What the units of a text take and give, by their names.
+//! The interfaces of the units of a text, by their names.
 
 ghost use Rattle.std.specs.Prelude.{◌≡◌, ◌++◌, [], List, ℕ, Some, None, IfOk, OnOk, map, option_map, option_and_then};
 ghost use Rattle.std.specs.Prelude.{if◌then◌else◌};
@@ -23,7 +23,7 @@ use st_types::{
 };
 use std::alloc::{AllocError, Global};
 
-/// What a call of a function takes and gives. What is neither elementary nor enumerated has no type here.
+/// The inputs and the result of a function. A type that is neither elementary nor enumerated is missing here.
 pub struct Signature {
     /// The types of the inputs, in order.
     pub inputs: Vec<Option<Kind>>,
@@ -39,7 +39,7 @@ impl Drop for Signature {
     }
 }
 
-/// Which variables of a block are meant.
+/// The side of a block: its inputs or its outputs.
 #[derive(Clone, Copy)]
 pub enum Side {
     Input,
@@ -53,7 +53,7 @@ struct BlockSides<'a> {
     outputs: Index<'a, Variable<'a>>,
 }
 
-/// What a unit takes and gives.
+/// The interface of a unit.
 #[derive(Drop)]
 enum Interface<'a> {
     Function(Signature),
@@ -61,7 +61,7 @@ enum Interface<'a> {
     Program,
 }
 
-/// The units of a text; of several of one name the first.
+/// The units of a text; if several have one name, the first.
 pub struct UnitInterfaces<'a> {
     units: Index<'a, Interface<'a>>,
 }
@@ -203,7 +203,7 @@ fn interface_of<'a>(
 }
 
 impl<'a> UnitInterfaces<'a> {
-    /// What these units take and give.
+    /// The interfaces of these units.
     pub fn new(
         alloc: Global,
         enumerated: &EnumeratedNames,
@@ -221,7 +221,7 @@ impl<'a> UnitInterfaces<'a> {
         Ok(UnitInterfaces { units: interfaces })
     }
 
-    /// What a call of the function of this name takes and gives.
+    /// The inputs and the result of the function of this name.
     pub fn function(&self, name: &Name) -> Option<&Signature>
         ensures { (text : Declared) → HasUnits text self.now text.units
             → option_map (λ s. signature_view s.now) result

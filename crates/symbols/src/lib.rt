@@ -1,7 +1,7 @@
 //! Names of a text, each looked up in a time that grows with the logarithm of their number.
 //!
-//! A hostile text chooses its names, so they are kept in order and not hashed. What each look-up answers is what the
-//! definitions of `st_meaning` and `st_rules` say that the name stands for.
+//! A hostile text chooses its names, so they are kept in order and not hashed. Each look-up answers with the meaning of the
+//! name in the definitions of `st_meaning` and `st_rules`.
 #![tactic(auto)]
 
 mod enumerations;
@@ -25,7 +25,7 @@ pub use index::Index;
 pub use interfaces::{Side, Signature, UnitInterfaces};
 pub use place_types::{PlaceType, place_type};
 pub use repeats::{first_repeat, index_of};
-pub use standard_blocks::{StandardBlock, input_kind, output_kind, standard_block};
+pub use standard_blocks::{StandardBlock, input_kind, member_count, output_kind, standard_block};
 pub use standard_functions::{Standard, standard_function};
 pub use text_tables::{Callee, TextTables};
 pub use texts::TextNames;

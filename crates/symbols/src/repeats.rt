@@ -1,4 +1,4 @@
-//! Names that stand twice in a scope.
+//! Names that occur twice in a scope.
 
 ghost use Rattle.std.specs.Prelude.{◌≡◌, List, ℕ, map, is_some, IfOk};
 ghost use Rattle.std.specs.List.{list_any};
@@ -11,7 +11,7 @@ use crate::index::Index;
 use st_types::Identifier;
 use std::alloc::{AllocError, Global};
 
-/// The first place at which a name of the list stands again.
+/// The first place at which a name of the list occurs again.
 pub fn first_repeat(alloc: Global, names: &[&Identifier]) -> Result<Option<usize>, AllocError>
     ensures { IfOk result (λ place. FindsPlace (repeats (map (λ x. x.now) names.now)) place) }
 {

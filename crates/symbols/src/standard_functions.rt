@@ -8,12 +8,12 @@ ghost use Rattle.st_meaning.specs.StandardFunctions.{ABS, MIN, MAX, LIMIT, SEL, 
 ghost use Rattle.symbols.specs.Words.{is_back, IsTarget};
 ghost use Rattle.symbols.specs.Standard.{standard_view};
 
-use crate::words::{behind, is_same, is_word};
+use crate::words::{after_prefix, is_same, is_word};
 use st_types::{Kind, Name};
 
 /// A standard function.
 ///
-/// IEC 61131-3:2003, tables 22 to 27, as far as whole numbers and bit strings have them.
+/// IEC 61131-3:2003, tables 22 to 27, as far as they apply to whole numbers and bit strings.
 #[derive(Clone, Copy, Debug, PartialEq, Eq)]
 pub enum Standard {
     Abs,
@@ -25,11 +25,11 @@ pub enum Standard {
     Shr,
     Rol,
     Ror,
-    /// From a type to another.
+    /// From one type to another.
     Convert(Kind, Kind),
 }
 
-/// The standard function of a name that is no conversion's.
+/// The standard function of a name that isn't a conversion's.
 fn selection_or_shift(name: &Name) -> Option<Standard>
     ensures { option_map standard_view result ≡ (if bytes_eq name.now (codes "ABS") then Some ABS
         else if bytes_eq name.now (codes "MIN") then Some MIN else if bytes_eq name.now (codes "MAX") then Some MAX
@@ -82,13 +82,13 @@ fn convertible() -> [Kind; 13]
     ]
 }
 
-/// What stands after the name of a type and `_TO_`.
+/// The rest after the name of a type and `_TO_`.
 fn target<'a>(name: &'a Name, from: Kind) -> Option<&'a [u8]>
     ensures { (to : List ℕ) → bytes_eq name.now ((row_of from).keyword ++ codes "_TO_" ++ to)
         ≡ is_back to (option_map (λ r. r.now) result) }
 {
-    match behind(name.as_slice(), from.row().keyword.as_bytes()) {
-        Some(rest) => behind(rest, b"_TO_"),
+    match after_prefix(name.as_slice(), from.row().keyword.as_bytes()) {
+        Some(rest) => after_prefix(rest, b"_TO_"),
         None => None,
     }
 }

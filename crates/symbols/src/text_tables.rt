@@ -1,4 +1,4 @@
-//! What the names of a text stand for, whatever unit has them.
+//! The meanings of the names of a text, whatever unit has them.
 
 ghost use Rattle.std.specs.Prelude.{◌≡◌, Some, None, IfOk, map, option_map};
 ghost use Rattle.st_types.specs.declared.data_type.SimpleType.TheVariants.{Named};
@@ -39,7 +39,7 @@ pub enum Callee<'t> {
     Own(&'t Signature),
 }
 
-/// The types and units of a text by their names, with what is in them.
+/// The types and units of a text by their names, with their parts.
 pub struct TextTables<'a> {
     names: TextNames<'a>,
     enumerated: EnumeratedNames<'a>,
@@ -58,7 +58,7 @@ impl Drop for TextTables<'_> {
     }
 }
 
-/// What a type is that is declared as this.
+/// The type of the elements of an array; none for another definition.
 fn array_of<'a>(definition: &'a TypeDefinition) -> Option<PlaceType<'a>>
     ensures { option_map place_type_view result ≡ element_type (Some (type_definition_view definition.now)) }
 {
@@ -142,7 +142,7 @@ impl<'a> TextTables<'a> {
         }
     }
 
-    /// What a name alone stands for, as a value.
+    /// The meaning of a name alone, as a value.
     pub fn reading_of_name(&self, name: &Name) -> Reading
         ensures { (text : Declared) → ServesTables self.now text
             → reading_view result ≡ reading_of_name text name.now }
@@ -150,7 +150,7 @@ impl<'a> TextTables<'a> {
         self.enumerated.reading_of_name(name)
     }
 
-    /// What a value of an enumerated type stands for as it is written.
+    /// The meaning of a value of an enumerated type as it is written.
     pub fn reading_written(&self, value: &EnumeratedValue) -> Reading
         ensures { (text : Declared) → ServesTables self.now text
             → reading_view result ≡ reading_written text value.now }
@@ -158,7 +158,7 @@ impl<'a> TextTables<'a> {
         self.enumerated.reading_written(value)
     }
 
-    /// The type of the elements of a type; none of what is no array.
+    /// The type of the elements of a type; none if it isn't an array.
     pub fn element_type(&self, declared: PlaceType<'a>) -> Option<PlaceType<'a>>
         ensures { (text : Declared) → ServesTables self.now text → option_map place_type_view result
             ≡ element_type (definition_of text (place_type_view declared.entry)) }
@@ -207,7 +207,7 @@ impl<'a> TextTables<'a> {
         }
     }
 
-    /// The type of a member of what has a named type: a field of a structure, or an output of an instance.
+    /// The type of a member of a variable with a named type: a field of a structure, or an output of an instance.
     fn member_of(&self, declared: &Identifier, member: &Name) -> Option<PlaceType<'a>>
         ensures { (text : Declared) → ServesTables self.now text → option_map place_type_view result
             ≡ member_type text (types.Simple (Named declared.now)) member.now

@@ -12,7 +12,7 @@ use crate::index::Index;
 use st_types::{LibraryElement, Name, Source, TypeDeclaration, TypeDefinition, Unit};
 use std::alloc::{AllocError, Global};
 
-/// The types and the units of a text; of several of one name the first.
+/// The types and the units of a text; if several have one name, the first.
 pub struct TextNames<'a> {
     types: Index<'a, &'a TypeDefinition>,
     units: Index<'a, &'a Unit>,
@@ -24,7 +24,7 @@ impl Drop for TextNames<'_> {
     }
 }
 
-/// Adds the types of one block behind the others.
+/// Adds the types of one block after the others.
 fn add_types<'a>(
     types: &mut Index<'a, &'a TypeDefinition>,
     declared: &'a [TypeDeclaration],
@@ -55,7 +55,7 @@ impl<'a> TextNames<'a> {
         Ok(TextNames { types, units })
     }
 
-    /// What the type of this name is.
+    /// The definition of the type of this name.
     pub fn type_named(&self, name: &Name) -> Option<&'a TypeDefinition>
         ensures { (text : Declared) → ServesText self.now text
             → option_map (λ d. type_definition_view d.now) result ≡ type_named text.types name.now }

@@ -1,4 +1,4 @@
-//! What the names of a unit's body stand for.
+//! The meanings of the names of a unit's body.
 
 ghost use Rattle.std.specs.Prelude.{◌≡◌, IfOk, option_map};
 ghost use Rattle.st_types.specs.UnitViews.{unit_view};
@@ -74,7 +74,7 @@ impl<'t, 'a> UnitNames<'t, 'a> {
         }
     }
 
-    /// The words that the variable's block begins with; a function's result has none.
+    /// The words with which the variable's block begins; a function's result has none.
     pub fn section_of(&self, name: &Name) -> Option<Section>
         ensures { (env : Environment) → Serves self.now env → result ≡ section_of env name.now }
     {

@@ -13,14 +13,14 @@ use crate::index::Index;
 use st_types::{Declaration, Identifier, Name, Section, VariableBlock, VariableType};
 use std::alloc::{AllocError, Global};
 
-/// A variable: its type, and the words that its block begins with.
+/// A variable: its type, and the words with which its block begins.
 #[derive(Clone, Copy)]
 pub struct Variable<'a> {
     pub declared: &'a VariableType,
     pub section: Section,
 }
 
-/// The variables of a unit; of several of one name the first.
+/// The variables of a unit; if several have one name, the first.
 pub struct VariableNames<'a> {
     variables: Index<'a, Variable<'a>>,
 }
@@ -95,7 +95,7 @@ impl<'a> VariableNames<'a> {
         }
     }
 
-    /// The words that a variable's block begins with.
+    /// The words with which a variable's block begins.
     pub fn section_named(&self, name: &Name) -> Option<Section>
         ensures { (bs : List tree.VariableBlock) → ServesVariables self.now bs → result ≡ section_in bs name.now }
     {

@@ -17,9 +17,9 @@ pub fn is_word(name: &Name, word: &[u8]) -> bool
     is_same(name.as_slice(), word)
 }
 
-/// What stands after a prefix of a word.
+/// The rest of a word after a prefix.
 #[tactic(auto, using(crate::proofs::WordLemmas::short_word, crate::proofs::WordLemmas::word_by_parts, crate::proofs::WordLemmas::word_behind))]
-pub fn behind<'a>(word: &'a [u8], front: &[u8]) -> Option<&'a [u8]>
+pub fn after_prefix<'a>(word: &'a [u8], front: &[u8]) -> Option<&'a [u8]>
     ensures { (back : List ℕ) → bytes_eq word.now (front.now ++ back) ≡ is_back back (option_map (λ r. r.now) result) }
 {
     if word.len() < front.len() {

@@ -4,7 +4,7 @@ use std::alloc::{AllocError, Global};
 use std::fmt::{Display, Write};
 use std::str;
 
-/// What is answered to a row. Parts are added to its end; where memory runs out, it is no answer.
+/// The answer to a row. Parts are added to its end; if memory runs out, there is no answer.
 #[derive(Drop)]
 pub struct Answer {
     text: String,

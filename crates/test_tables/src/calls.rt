@@ -6,7 +6,7 @@ use commit_lock::Event;
 use st_types::{Row, Value};
 use std::alloc::{AllocError, Global};
 
-/// A number of a call, `3`, or `3+10` where it grows by 10 each time that the calls are made.
+/// A number of a call, `3`, or `3+10` if it grows by 10 each time that the calls are made.
 fn number_at(written: &str, time: u64) -> Result<u64, RowError> {
     let (first, step) = written.split_once("+").unwrap_or((written, "0"));
     let grown = number(step)?.saturating_mul(time);
@@ -17,7 +17,7 @@ fn number_at(written: &str, time: u64) -> Result<u64, RowError> {
 fn image_of(alloc: Global, words: &str) -> Result<Vec<Value>, AllocError> {
     let mut image = Vec::new(alloc);
     for _ in words.split_whitespace() {
-        image.push(Value::truth(true))?;
+        image.push(Value::from_bool(true))?;
     }
     Ok(image)
 }

@@ -1,16 +1,16 @@
-//! Chains of lives, each whole or stopped within each device step that it has. Two chains that come to one file go on
-//! alike, so a life is lived once over each file that the lives before it may leave. A life may run another text than
-//! the one before it, and a warm start of either text goes on alike from each file.
+//! Chains of lives, each whole or stopped within each device step that it has. Two chains that lead to one file go on alike,
+//! so a life is lived once over each file that the lives before it may leave. A life may run another text than the one
+//! before it, and a warm start of either text goes on alike from each file.
 //!
-//! They are thousands of lives: a few seconds as they are built, and many minutes under `rt try`, whose code is slow.
+//! They are thousands of lives: a few seconds when they are compiled, and many minutes under `rt try`, whose code is slow.
 
 use crate::calls::events_of;
+use crate::details::number_of;
 use crate::disks::Cut;
 use crate::lives_in_turn::life_with;
 use crate::living::{Setting, plan_of};
 use crate::row_error::RowError;
 use crate::row_words::{number, split, write_number};
-use crate::telling::number_of;
 use crate::thread_runs::restarted;
 use commit_lock::{Course, LifeEnd, Reply, lives};
 use config::Plan;
@@ -21,7 +21,7 @@ use st_types::{Name, Path};
 use std::alloc::{AllocError, Global};
 use std::sync::Arc;
 
-/// No life of two rows has so many device steps.
+/// More device steps than any life of two rows has.
 const STEPS: u64 = 30;
 
 /// The greatest number that is looked for.
@@ -38,8 +38,8 @@ const WITH_K: Setting<'static> = Setting {
 /// The initial value of K.
 const INITIAL_K: i128 = 7;
 
-/// What is left where bytes were written since the last sync: the mark of an open gate in each, zeros, or what was
-/// written.
+/// The bytes that are left if bytes were written since the last sync: the mark of an open gate in each, zeros, or the
+/// written bytes.
 const TORN: [&str; 3] = ["\\A5", "\\00", "written"];
 
 /// N and the moment that a life goes on from.
@@ -52,7 +52,7 @@ struct Point {
 /// Where a cold life begins, and a warm one over a file without a record.
 const INITIAL: Point = Point { n: 0, moment: None };
 
-/// Where a warm start of the text over the file goes on from, and its K; -1 where it has none.
+/// The values from which a warm start of the text over the file goes on, and its K; -1 if it has none.
 fn restarted_at(
     alloc: Global,
     setting: Setting<'_>,
@@ -115,7 +115,7 @@ impl<'a> Chapter<'a> {
         Ok(calls)
     }
 
-    /// Where the life begins over a file of which a warm start goes on from there.
+    /// Where the life begins over a file from which a warm start goes on at this point.
     fn start(self, before: Point) -> Point {
         match self.mode {
             StartMode::Warm => before,
@@ -123,8 +123,8 @@ impl<'a> Chapter<'a> {
         }
     }
 
-    /// Where a warm start goes on from after so many entries of its log: a row and its execution, which adds 1, and
-    /// the same again.
+    /// Where a warm start goes on from after the first `entries` entries of its log: a row and its execution, which adds 1,
+    /// and the same again.
     fn front(self, start: Point, entries: usize) -> Point {
         let (added, moment) = match entries {
             0 => return start,
@@ -149,8 +149,8 @@ impl<'a> Chapter<'a> {
         false
     }
 
-    /// Whether a warm start goes on from a prefix of the life's log that holds all that it acknowledged. A life that
-    /// was not started leaves what was there before, or where it begins. N has this place among the variables.
+    /// Whether a warm start goes on from a prefix of the life's log that holds all that it acknowledged. A life that was not
+    /// started leaves the state before it, or its own beginning. N has this place among the variables.
     fn is_kept(self, before: Point, end: &LifeEnd, place: usize, after: Point) -> bool {
         let start = self.start(before);
         match &end.course {
@@ -197,7 +197,7 @@ struct Left {
     point: Point,
 }
 
-/// A sum over the bytes, by which most files are told apart.
+/// A sum over the bytes, by which most files differ.
 fn sum_of(file: &[u8]) -> u64 {
     let mut sum: u64 = 0;
     for byte in file {

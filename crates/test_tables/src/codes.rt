@@ -1,4 +1,4 @@
-//! By what the programs of a plan run.
+//! The ways in which the programs of a plan run.
 
 use crate::living::plan_of;
 use crate::row_error::RowError;
@@ -14,7 +14,7 @@ fn way_of(code: &Code) -> &'static str {
     }
 }
 
-/// Writes for each program of the text's plan, in order, by what its runs go.
+/// Writes for each program of the text's plan, in order, the way of its runs.
 pub fn write_codes(answer: &mut String, alloc: Global, text: &str) -> Result<(), RowError> {
     let plan = plan_of(alloc, text)?;
     answer.push_str("by")?;

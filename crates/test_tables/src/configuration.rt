@@ -1,4 +1,4 @@
-//! The text of a configuration, as the parts of a row say it.
+//! The text of a configuration, from the parts of a row.
 
 use crate::row_error::RowError;
 use crate::row_words::{number, split};
@@ -81,7 +81,7 @@ impl<'a> Configuration<'a> {
         self.resources.push_str("END_RESOURCE\n")
     }
 
-    /// Adds a resource that is written `BODY`, or `COUNT times BODY` with so many programs.
+    /// Adds a resource that is written `BODY`, or `COUNT times BODY` with that number of programs.
     pub fn add_resource(&mut self, asked: &str) -> Result<(), RowError> {
         let (times, body) = asked.split_once(" times ").unwrap_or(("1", asked));
         let first = self.program_count;

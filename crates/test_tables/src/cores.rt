@@ -10,7 +10,7 @@ use st_types::limits::MAX_LOG_ROOM;
 use std::alloc::Global;
 use std::sync::Arc;
 
-/// A core of the plan over the disk, with room in its log as far as a log may have it.
+/// A core of the plan over the disk, with as much room in its log as a log may have.
 pub fn started(
     alloc: Global,
     plan: Arc<Plan>,

@@ -45,7 +45,7 @@ fn assignment_depth(alloc: Global, tokens: &[Token]) -> Option<usize> {
     Some(Stmt::assign(target, value).depth())
 }
 
-/// The depth of the tree of this form that the text is.
+/// The depth of the text's tree of this form.
 pub fn depth_of(alloc: Global, form: &str, tokens: &[Token]) -> Option<usize> {
     match form {
         "expression" => expression_depth(alloc, tokens),

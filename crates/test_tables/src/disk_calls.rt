@@ -6,15 +6,15 @@ use crate::row_words::{count, number, split, write_bytes, write_number};
 use disk::{Disk, DiskError};
 use std::alloc::{AllocError, Global};
 
-/// What a buffer has before it is read into.
+/// The bytes of a buffer before it is read into.
 const UNREAD: u8 = 0x77;
 
-/// More bytes than this are told by their number.
-const MOST_TOLD: usize = 64;
+/// If there are more bytes than this, only their number is shown.
+const MOST_SHOWN_BYTES: usize = 64;
 
 /// Writes bytes, or how many they are.
 pub fn write_content(text: &mut String, bytes: &[u8]) -> Result<(), AllocError> {
-    if bytes.len() > MOST_TOLD {
+    if bytes.len() > MOST_SHOWN_BYTES {
         write_number(text, "", bytes.len() as i128)?;
         return text.push_str(" bytes");
     }
@@ -45,7 +45,7 @@ fn is_unread(buf: &[u8]) -> bool {
     true
 }
 
-/// Writes the bytes that were read, or the error and what it left in the buffer.
+/// Writes the bytes that were read, or the error and the contents of the buffer after it.
 fn write_read(
     text: &mut String,
     answer: Result<(), DiskError>,
@@ -87,7 +87,7 @@ fn write<D: Disk>(
     written(text.push_str(word_of(disk.write_at(place, &bytes))))
 }
 
-/// Makes a call that is written `len`, `sync`, `read PLACE COUNT` or `write PLACE BYTES`, and tells its answer.
+/// Makes a call that is written `len`, `sync`, `read PLACE COUNT` or `write PLACE BYTES`, and writes its answer.
 fn call<D: Disk>(
     text: &mut String,
     alloc: Global,
@@ -105,7 +105,7 @@ fn call<D: Disk>(
     }
 }
 
-/// Makes calls that have `, ` between them, tells the answer of each, and how many have failed.
+/// Makes calls that have `, ` between them, writes the answer of each, and how many have failed.
 pub fn play<D: Disk>(
     text: &mut String,
     alloc: Global,

@@ -1,4 +1,4 @@
-//! What a device meets.
+//! Mishaps of a device.
 
 use crate::escapes::unescaped;
 use crate::row_error::RowError;
@@ -10,7 +10,7 @@ use std::alloc::{AllocError, Global};
 #[derive(Clone, Copy)]
 pub struct Cut<'a> {
     pub step: u64,
-    /// The bytes that it leaves in turn where one was written since the last sync, or `written` where it leaves those.
+    /// The bytes that it leaves in turn where one was written since the last sync, or `written` if it leaves those.
     pub torn: &'a str,
     /// The length that it leaves, moved into the span from the synced length to the current one.
     pub len: u64,
@@ -41,7 +41,7 @@ impl<'a> Cut<'a> {
     }
 }
 
-/// What a device meets: a step that fails, and a stop.
+/// The mishaps of a device: a step that fails, and a stop.
 #[derive(Clone, Copy)]
 pub struct Mishap<'a> {
     pub fails: Option<u64>,

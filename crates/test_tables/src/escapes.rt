@@ -2,7 +2,7 @@
 
 use std::alloc::{AllocError, Global};
 
-/// The value of a digit of base 16; 0 where it is none.
+/// The value of a digit of base 16; 0 if it isn't a digit.
 fn digit(byte: u8) -> u8 {
     match byte {
         b'0'..=b'9' => byte - b'0',
@@ -11,7 +11,7 @@ fn digit(byte: u8) -> u8 {
     }
 }
 
-/// Where a byte stands.
+/// Where a byte is.
 #[derive(Clone, Copy)]
 enum Reading {
     /// It is itself, or begins an escape.
@@ -43,7 +43,7 @@ pub fn unescaped(alloc: Global, written: &str) -> Result<Vec<u8>, AllocError> {
     Ok(text)
 }
 
-/// Adds a part so many times.
+/// Adds a part this number of times.
 pub fn add(text: &mut Vec<u8>, times: usize, part: &[u8]) -> Result<(), AllocError> {
     for _ in 0..times {
         text.extend_from_slice(part)?;
@@ -51,7 +51,7 @@ pub fn add(text: &mut Vec<u8>, times: usize, part: &[u8]) -> Result<(), AllocErr
     Ok(())
 }
 
-/// The text so many times.
+/// The text this number of times.
 pub fn repeated(alloc: Global, times: usize, text: &[u8]) -> Result<Vec<u8>, AllocError> {
     let mut all = Vec::new(alloc);
     add(&mut all, times, text)?;

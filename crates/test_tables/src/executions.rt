@@ -1,10 +1,10 @@
-//! Executions of what a core gives at its first row, as it is or changed.
+//! Executions of a core's activation at its first row, as it is or changed.
 
 use crate::cores::started;
+use crate::details::write_outcome;
 use crate::living::plan_of;
 use crate::row_error::RowError;
 use crate::row_words::{count, number, split};
-use crate::telling::write_outcome;
 use commit_lock::Reply;
 use disk::SimDisk;
 use durable_core::{Core, StartMode};
@@ -19,7 +19,7 @@ const MOMENT: u64 = 50;
 /// Room in the log.
 const ROOM: usize = 10;
 
-/// What is changed of a snapshot before it is run.
+/// A change of a snapshot before it is run.
 #[derive(Clone, Copy)]
 enum Change {
     Nothing,
@@ -31,7 +31,7 @@ enum Change {
     Budget(u32),
 }
 
-/// A change that is written `moment 51`; nothing where nothing is written.
+/// A change that is written `moment 51`; none if nothing is written.
 fn change_of(written: &str) -> Result<Change, RowError> {
     let (word, given) = split(written, " ");
     match word {
@@ -70,7 +70,7 @@ fn at_a_row(alloc: Global, text: &str) -> Result<Core<SimDisk>, RowError> {
     Ok(core)
 }
 
-/// What the plan's first resource gives at the first row.
+/// The snapshot for the plan's first resource at the first row.
 fn taken(alloc: Global, text: &str) -> Result<Option<Snapshot>, RowError> {
     let core = at_a_row(alloc, text)?;
     let taken = core.take(alloc, 0);
@@ -78,7 +78,7 @@ fn taken(alloc: Global, text: &str) -> Result<Option<Snapshot>, RowError> {
     Ok(taken?)
 }
 
-/// What is taken, with this change.
+/// That snapshot, with this change.
 fn snapshot_of(alloc: Global, text: &str, change: Change) -> Result<Snapshot, RowError> {
     match taken(alloc, text)? {
         Some(snapshot) => Ok(changed(snapshot, change)),
@@ -99,8 +99,8 @@ fn are_same(these: &[Cell], those: &[Cell]) -> bool {
     true
 }
 
-/// The execution of what is taken, with a change that is written `moment 51`. It is run by both machines, which have to
-/// do the same.
+/// The execution of that snapshot, with a change that is written `moment 51`. It is run by both machines, which have to do
+/// the same.
 pub fn execution_of(alloc: Global, text: &str, change: &str) -> Result<Execution, RowError> {
     let change = change_of(change)?;
     let execution = run(alloc, snapshot_of(alloc, text, change)?)?;
@@ -115,8 +115,7 @@ pub fn execution_of(alloc: Global, text: &str, change: &str) -> Result<Execution
     }
 }
 
-/// Tells by which machine the execution of what is taken goes, with a change that is written `budget 3`, and how it
-/// ends.
+/// Writes which machine runs that snapshot, with a change that is written `budget 3`, and how the execution ends.
 pub fn write_machine(
     answer: &mut String,
     alloc: Global,
@@ -132,7 +131,7 @@ pub fn write_machine(
     Ok(())
 }
 
-/// What a core of the text's plan answers to an execution.
+/// The answer of a core of the text's plan to an execution.
 pub fn committed(alloc: Global, text: &str, execution: Execution) -> Result<Reply, RowError> {
     let mut core = at_a_row(alloc, text)?;
     let answer = core.commit(execution);

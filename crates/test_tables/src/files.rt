@@ -28,7 +28,7 @@ fn put(file: &mut [u8], at: usize, part: &[u8]) {
     }
 }
 
-/// Writes what is written `PLACE BYTES`.
+/// Writes the bytes of a part `PLACE BYTES`.
 fn put_written(alloc: Global, file: &mut [u8], written: &str) -> Result<(), RowError> {
     let (at, bytes) = split(written, " ");
     let at = count(at)?;

@@ -1,34 +1,34 @@
-//! What is asked in the rows of the table. Each is a word and what is given to it.
+//! The rows of the table that ask about the language. Each is a word and its argument.
 //!
 //! Of the words of the language:
 //!
-//! | Row | What is answered |
+//! | Row | Answer |
 //! |---|---|
 //! | `type SINT` | its keyword, sort, width in bits and range |
 //! | `value SINT -128` | the value, or the fault that it is |
-//! | `truth TRUE` | that value |
+//! | `from_bool TRUE` | that value |
 //! | `printed SINT -128`, `spelled r/p x [5] f` | the value or the path as it is printed |
 //! | `faults` | how the faults of programs show |
 //! | `name Ab`, `bytes Ab` | the name that a text spells so, the name of these bytes |
 //! | `identifier a@7`, `owner r/p`, `step [5]`, `path r/p x [5] f` | a copy of it |
-//! | `same FORM ONE // OTHER // THIRD` | with how many of them each is one, itself included |
+//! | `same FORM ONE // OTHER // THIRD` | for each, how many of them are the same, itself included |
 //!
 //! Of texts, which `nesting` spells:
 //!
-//! | Word | What is answered |
+//! | Word | Answer |
 //! |---|---|
-//! | `lexer` | what the tokens of the text are, or where they stand |
+//! | `lexer` | the tokens of the text, or where they are |
 //! | `source` | how many elements the text has, or its refusal |
 //! | `prefixes` | how many of its prefixes are sources with a configuration |
 //! | `declarations` | its declarations with their places |
-//! | `expression`, `initial`, `number`, `statements` | what the text begins with, and the place where it goes on |
-//! | `tokens`, `next`, `refused` | what is read of single tokens |
-//! | `last`, `end`, `deep`, `memory` | how that refusal is told |
-//! | `depth FORM` | how deep the tree of that form is that the text is |
-//! | `same FORM` | whether the two texts with ` // ` between them have one tree of that form |
-//! | `layout` | the slots of its layout, each with its type, and `input`, or what it starts with and `retained` |
+//! | `expression`, `initial`, `number`, `statements` | the tree at the front of the text, and the place where it goes on |
+//! | `tokens`, `next`, `refused` | the readings of single tokens |
+//! | `last`, `end`, `deep`, `memory` | how that refusal is reported |
+//! | `depth FORM` | the depth of the text's tree of that form |
+//! | `same FORM` | whether the two texts with ` // ` between them have the same tree of that form |
+//! | `layout` | the slots of its layout, each with its type, and `input`, or its initial value and `retained` |
 //! | `slots` | how many these are |
-//! | `sizes` | of each declaration of a unit the first name and the size of its type |
+//! | `sizes` | for each declaration of a unit the first name and the size of its type |
 //! | `linked` | the functions, the blocks and the programs of its linked form, each with how much it has |
 
 use crate::answer::Answer;
@@ -60,7 +60,7 @@ pub fn asks(asked: &str) -> bool {
     WORDS.split(' ').any(|known| known == word)
 }
 
-/// What is answered of the tokens of a text.
+/// Writes the answer about the tokens of a text.
 fn part(out: &mut Answer, alloc: Global, word: &str, tokens: &[Token]) {
     match word {
         "source" | "declarations" | "layout" | "slots" | "sizes" | "linked" => shown_source(
@@ -78,8 +78,8 @@ fn part(out: &mut Answer, alloc: Global, word: &str, tokens: &[Token]) {
     }
 }
 
-/// What is answered of a text.
-fn told(out: &mut Answer, alloc: Global, word: &str, written: &str) -> Option<()> {
+/// Writes the answer about a text.
+fn text_answer(out: &mut Answer, alloc: Global, word: &str, written: &str) -> Option<()> {
     let text = spelled(alloc, written).ok()?;
     if word == "prefixes" {
         prefixes(out, alloc, &text);
@@ -92,7 +92,7 @@ fn told(out: &mut Answer, alloc: Global, word: &str, written: &str) -> Option<()
     Some(())
 }
 
-/// What is answered of words that are one, or of texts that have one tree.
+/// Writes the answer about words that are the same, or about texts that have the same tree.
 fn same(out: &mut Answer, alloc: Global, asked: &str) -> Option<()> {
     let (form, written) = asked.split_once(' ')?;
     match form {
@@ -101,8 +101,8 @@ fn same(out: &mut Answer, alloc: Global, asked: &str) -> Option<()> {
     }
 }
 
-/// What is answered to a row of names, paths or texts.
-fn tell_other(out: &mut Answer, alloc: Global, word: &str, given: &str) -> Option<()> {
+/// Writes the answer to a row of names, paths or texts.
+fn write_other(out: &mut Answer, alloc: Global, word: &str, given: &str) -> Option<()> {
     match word {
         "name" => write_name(out, alloc, name_of(alloc, given)),
         "bytes" => write_name(out, alloc, name_of_bytes(alloc, given)),
@@ -113,29 +113,29 @@ fn tell_other(out: &mut Answer, alloc: Global, word: &str, given: &str) -> Optio
         "same" => same(out, alloc, given),
         "lexer" => lexed(out, alloc, given),
         "depth" => depth(out, alloc, given),
-        _ => told(out, alloc, word, given),
+        _ => text_answer(out, alloc, word, given),
     }
 }
 
-/// What is answered to a row; nothing where it is none of the table's, or memory ran out.
-fn tell(out: &mut Answer, alloc: Global, asked: &str) -> Option<()> {
+/// Writes the answer to a row; nothing if it isn't one of the table's, or memory ran out.
+fn row_answer(out: &mut Answer, alloc: Global, asked: &str) -> Option<()> {
     let (word, given) = asked.split_once(' ').unwrap_or((asked, ""));
     match word {
         "type" => write_kind(out, given),
         "value" => write_value(out, given),
-        "truth" => Some(show_value(out, Value::truth(given == "TRUE"))),
+        "truth" => Some(show_value(out, Value::from_bool(given == "TRUE"))),
         "printed" => print_value(out, alloc, given),
         "named" => print_named(out, alloc, given),
         "spelled" => print_path(out, alloc, given),
         "faults" => Some(write_faults(out)),
-        _ => tell_other(out, alloc, word, given),
+        _ => write_other(out, alloc, word, given),
     }
 }
 
-/// What is answered to a row.
+/// The answer to a row.
 pub fn answer_of(alloc: Global, asked: &str) -> Result<String, AllocError> {
     let mut out = Answer::new(alloc);
-    if tell(&mut out, alloc, asked).is_none() {
+    if row_answer(&mut out, alloc, asked).is_none() {
         out.put("unread");
     }
     out.finished()

@@ -1,4 +1,4 @@
-//! Which words are one.
+//! Which words are the same.
 
 use crate::answer::Answer;
 use crate::kinds::kind_of;
@@ -48,7 +48,7 @@ fn words_of(alloc: Global, form: &str, written: &str) -> Option<Vec<Word>> {
     Some(words)
 }
 
-/// How many of the words are one with this.
+/// How many of the words are the same as this one.
 fn count(this: &Word, words: &[Word]) -> u64 {
     let mut count: u64 = 0;
     for that in words {
@@ -59,7 +59,7 @@ fn count(this: &Word, words: &[Word]) -> u64 {
     count
 }
 
-/// Writes with how many of the words that are written `ONE // OTHER // THIRD` each is one, itself included.
+/// Writes for each of the words that are written `ONE // OTHER // THIRD` how many of them are the same, itself included.
 pub fn write_counts(out: &mut Answer, alloc: Global, form: &str, written: &str) -> Option<()> {
     let words = words_of(alloc, form, written)?;
     for i in 0..words.len() {

@@ -51,7 +51,7 @@ fn shown_slots(out: &mut Answer, alloc: Global, layout: &Layout) -> Option<()> {
     Some(())
 }
 
-/// How many slots there are, and what a plan has of them: variables and inputs.
+/// How many slots there are, and how many of them a plan has: variables and inputs.
 fn counted(out: &mut Answer, alloc: Global, layout: &Layout) -> Option<()> {
     out.show(&layout.len());
     out.put(" slots, ");
@@ -108,7 +108,7 @@ fn shown_sizes(out: &mut Answer, alloc: Global, source: &Source) -> Option<()> {
     Some(())
 }
 
-/// What is answered of the layout of a checked source, or why it has none.
+/// Writes the layout of a checked source, or why it has none.
 fn laid_out(out: &mut Answer, alloc: Global, word: &str, source: &Source) -> Option<()> {
     if word == "sizes" {
         return shown_sizes(out, alloc, source);
@@ -120,7 +120,7 @@ fn laid_out(out: &mut Answer, alloc: Global, word: &str, source: &Source) -> Opt
     }
 }
 
-/// What is answered of the layout of a source, or why it has none.
+/// Writes the layout of a source, or why it has none.
 pub fn shown_layout(out: &mut Answer, alloc: Global, word: &str, source: Source) -> Option<()> {
     match check(alloc, source) {
         Ok(checked) => laid_out(out, alloc, word, checked.source()),

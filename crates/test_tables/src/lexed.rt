@@ -45,7 +45,7 @@ fn kind(out: &mut Answer, kind: &TokenKind) {
     }
 }
 
-/// The kinds of the tokens, `nothing` where there are none.
+/// The kinds of the tokens, `nothing` if there are none.
 fn kinds(out: &mut Answer, tokens: &[Token]) {
     if tokens.is_empty() {
         out.put("nothing");
@@ -78,7 +78,7 @@ fn tokens(out: &mut Answer, alloc: Global, text: &[u8]) {
     }
 }
 
-/// Where the text's tokens stand, or the refusal.
+/// Where the text's tokens are, or the refusal.
 fn spans(out: &mut Answer, alloc: Global, text: &[u8]) {
     match lex(alloc, text) {
         Ok(tokens) => places(out, &tokens),
@@ -86,15 +86,15 @@ fn spans(out: &mut Answer, alloc: Global, text: &[u8]) {
     }
 }
 
-/// The text that is written `TIMES TEXT`, which has the other text so many times.
+/// The text that is written `TIMES TEXT`: the other text that number of times.
 fn many(alloc: Global, written: &str) -> Option<Vec<u8>> {
     let (times, text) = written.split_once(' ')?;
     let text = unescaped(alloc, text).ok()?;
     repeated(alloc, times.parse::<usize>().ok()?, &text).ok()
 }
 
-/// What the lexer answers. `\*1048577 \20` is the text `\20` so many times, `\@TEXT` asks where the tokens of the text
-/// stand, `\!` how out of memory is reported, and any other text what the tokens are.
+/// Writes the answer of the lexer. `\*1048577 \20` is the text `\20` that number of times, `\@TEXT` asks where the tokens of
+/// the text are, `\!` how out of memory is reported, and any other text which the tokens are.
 pub fn lexed(out: &mut Answer, alloc: Global, written: &str) -> Option<()> {
     if written == "\\!" {
         out.show(&LexError::Memory);

@@ -66,7 +66,7 @@ fn shown_links(out: &mut Answer, alloc: Global, source: &Source) -> Option<()> {
     Some(())
 }
 
-/// What is answered of the linked form of a source, or why it has none.
+/// Writes the linked form of a source, or why it has none.
 pub fn shown_linked(out: &mut Answer, alloc: Global, source: Source) -> Option<()> {
     match check(alloc, source) {
         Ok(checked) => shown_links(out, alloc, checked.source()),

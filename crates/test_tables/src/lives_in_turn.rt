@@ -5,11 +5,11 @@ ghost use Rattle.std.specs.List.{AllByRecursion};
 ghost use Rattle.st_types.specs.declared.limits.TheConstants.{MAX_LOG_ROOM};
 
 use crate::calls::events_of;
+use crate::details::{write_fault, write_replies};
 use crate::disks::Cut;
 use crate::living::{Setting, plan_of};
 use crate::row_error::RowError;
 use crate::row_words::{number, split, write_number};
-use crate::telling::{write_fault, write_replies};
 use commit_lock::{Course, Event, Life, LifeEnd, lives};
 use disk::Stop;
 use durable_core::StartMode;
@@ -36,7 +36,7 @@ pub fn life_with(
     }
 }
 
-/// What a life meets, as it is written.
+/// The terms of a life, as they are written.
 #[derive(Drop)]
 struct Terms {
     mode: StartMode,
@@ -59,7 +59,7 @@ impl Terms {
     }
 }
 
-/// What is written `cold, stops 3 \A5 0, fails 2`.
+/// The terms that are written `cold, stops 3 \A5 0, fails 2`.
 fn terms_of(alloc: Global, written: &str) -> Result<Terms, RowError> {
     let mut terms = Terms {
         mode: StartMode::Warm,
@@ -93,7 +93,7 @@ fn lives_of(alloc: Global, written: &str) -> Result<Vec<Life>, RowError>
     Ok(made)
 }
 
-/// Writes the values at the start, what the events were answered, and how much of the log is acknowledged.
+/// Writes the values at the start, the answers to the events, and how much of the log is acknowledged.
 fn write_course(text: &mut String, course: &Course) -> Result<(), AllocError> {
     for value in &course.values {
         write_number(text, "", value.number())?;
@@ -111,7 +111,7 @@ fn write_end(text: &mut String, end: &LifeEnd) -> Result<(), AllocError> {
     }
 }
 
-/// Lives the lives over a copy of the file in turn, and tells the end of each.
+/// Lives the lives over a copy of the file in turn, and writes the end of each.
 pub fn write_lives(
     text: &mut String,
     alloc: Global,

@@ -1,11 +1,11 @@
 //! Lives: a start over a disk, calls, and the file that is left when power goes.
 
 use crate::calls::events_of;
-use crate::row_error::RowError;
-use crate::row_words::write_number;
-use crate::telling::{
+use crate::details::{
     write_acked, write_fault, write_globals, write_outcomes, write_overruns, write_replies,
 };
+use crate::row_error::RowError;
+use crate::row_words::write_number;
 use crate::trace_texts::{write_short_trace, write_trace_of};
 use commit_lock::drive;
 use config::{Plan, build};
@@ -18,7 +18,7 @@ use std::sync::Arc;
 /// The ticks of an execution.
 const BUDGET: u32 = 10_000;
 
-/// A plan's text, and its globals that are told.
+/// A plan's text, and the globals that are reported.
 #[derive(Clone, Copy)]
 pub struct Setting<'a> {
     pub text: &'a str,
@@ -26,9 +26,9 @@ pub struct Setting<'a> {
     pub globals: &'a str,
 }
 
-/// What is told of a life besides the globals.
+/// The report of a life besides the globals.
 #[derive(Clone, Copy)]
-pub enum Telling {
+pub enum Detail {
     Nothing,
     /// How far it came.
     Numbers,
@@ -38,7 +38,7 @@ pub enum Telling {
     Whole,
     /// Its trace alone.
     Trace,
-    /// What a writer gets of its trace that takes 40 bytes.
+    /// The part of its trace that reaches a writer that takes 40 bytes.
     ShortTrace,
 }
 
@@ -47,7 +47,7 @@ pub enum Telling {
 pub struct Life<'a> {
     pub mode: StartMode,
     pub room: usize,
-    pub telling: Telling,
+    pub telling: Detail,
     pub calls: &'a str,
 }
 
@@ -66,7 +66,7 @@ pub fn plan_of(alloc: Global, text: &str) -> Result<Arc<Plan>, RowError> {
     Ok(Arc::new(alloc, plan)?)
 }
 
-/// Makes the calls of a life, and tells the replies.
+/// Makes the calls of a life, and writes the replies.
 fn answer_calls(
     text: &mut String,
     core: &mut Core<SimDisk>,
@@ -76,14 +76,14 @@ fn answer_calls(
     let events = events_of(alloc, life.calls)?;
     let replies = drive(core, alloc, events)?;
     match life.telling {
-        Telling::Nothing | Telling::Numbers | Telling::Trace | Telling::ShortTrace => {}
-        Telling::Replies | Telling::Whole => write_replies(text, &replies)?,
+        Detail::Nothing | Detail::Numbers | Detail::Trace | Detail::ShortTrace => {}
+        Detail::Replies | Detail::Whole => write_replies(text, &replies)?,
     }
     Ok(())
 }
 
-/// Makes the calls of a life, and tells its trace.
-fn tell_trace(
+/// Makes the calls of a life, and writes its trace.
+fn write_life(
     text: &mut String,
     core: &mut Core<SimDisk>,
     alloc: Global,
@@ -91,14 +91,14 @@ fn tell_trace(
 ) -> Result<(), RowError> {
     answer_calls(text, core, alloc, life)?;
     match life.telling {
-        Telling::ShortTrace => Ok(write_short_trace(text, core)?),
+        Detail::ShortTrace => Ok(write_short_trace(text, core)?),
         _ => Ok(write_trace_of(text, alloc, core)?),
     }
 }
 
-/// Makes the calls of a life on a core of so many programs, and tells the globals before and after them, and how much
+/// Makes the calls of a life on a core with a number of programs, and writes the globals before and after them, and how much
 /// of the log is acknowledged.
-fn tell_course(
+fn write_course(
     text: &mut String,
     core: &mut Core<SimDisk>,
     alloc: Global,
@@ -108,7 +108,7 @@ fn tell_course(
 ) -> Result<(), RowError> {
     write_globals(text, alloc, core, globals)?;
     answer_calls(text, core, alloc, life)?;
-    if matches!(life.telling, Telling::Whole) {
+    if matches!(life.telling, Detail::Whole) {
         write_outcomes(text, core)?;
         write_overruns(text, core, programs)?;
     }
@@ -123,7 +123,7 @@ fn left_of(disk: SimDisk) -> Lived {
     }
 }
 
-/// Lives a life over the disk, and tells it.
+/// Lives a life over the disk, and reports it.
 pub fn live(
     text: &mut String,
     alloc: Global,
@@ -137,8 +137,8 @@ pub fn live(
         Ok(core) => {
             let mut core = core;
             let told = match life.telling {
-                Telling::Trace | Telling::ShortTrace => tell_trace(text, &mut core, alloc, life),
-                _ => tell_course(text, &mut core, alloc, setting.globals, programs, life),
+                Detail::Trace | Detail::ShortTrace => write_life(text, &mut core, alloc, life),
+                _ => write_course(text, &mut core, alloc, setting.globals, programs, life),
             };
             let left = left_of(core.stop());
             told?;

@@ -6,13 +6,14 @@
 #![tactic(auto)]
 
 mod answer;
+mod answer_counts;
 mod calls;
 mod chains;
 mod codes;
 mod configuration;
 mod cores;
-mod cuts;
 mod depths;
+mod details;
 mod disk_calls;
 mod disks;
 mod escapes;
@@ -34,6 +35,7 @@ mod odd_file;
 mod parts;
 mod paths;
 mod plants;
+mod power_cuts;
 mod printing;
 mod reading;
 mod ready_lists;
@@ -53,11 +55,9 @@ mod shown_units;
 mod shown_words;
 mod sources;
 mod table;
-mod telling;
 mod terminals;
 mod terms;
 mod thread_runs;
-mod told_runs;
 mod trace_replays;
 mod trace_texts;
 mod trees;

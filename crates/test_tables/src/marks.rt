@@ -8,7 +8,7 @@ use run_lock::{Mark, Pass, RaisePass};
 use std::alloc::Global;
 use std::fmt::Write;
 
-/// Makes these calls of a mark by its passes, and writes what is loaded.
+/// Makes these calls of a mark by its passes, and writes the loaded numbers.
 fn write_calls(
     text: &mut String,
     mark: &Mark,
@@ -30,7 +30,7 @@ fn write_calls(
     Ok(())
 }
 
-/// Makes these calls of a new mark, and writes what is loaded.
+/// Makes these calls of a new mark, and writes the loaded numbers.
 pub fn write_loads(text: &mut String, alloc: Global, calls: &str) -> Result<(), RowError> {
     let (mark, mut raises, mut pass): (Mark, RaisePass, Pass) = Mark::new(alloc)?;
     write_calls(text, &mark, &mut raises, &mut pass, calls)

@@ -15,7 +15,7 @@ pub fn name_of_bytes(alloc: Global, written: &str) -> Option<Name> {
     Name::from_slice(alloc, written.as_bytes()).ok()
 }
 
-/// What stands before the place of what is written `valve@7`, and the place.
+/// The text before the place in `valve@7`, and the place.
 pub fn placed(written: &str) -> Option<(&str, usize)> {
     let (value, place) = written.split_once('@')?;
     Some((value, place.parse::<usize>().ok()?))

@@ -3,7 +3,7 @@
 use crate::escapes::{add, unescaped};
 use std::alloc::{AllocError, Global};
 
-/// The text of head, so many openings, middle, as many closings and tail: every second part is repeated.
+/// The text of head, `times` openings, middle, as many closings and tail: every second part is repeated.
 fn nested(alloc: Global, times: usize, parts: &str) -> Result<Vec<u8>, AllocError> {
     let mut text = Vec::new(alloc);
     let mut is_repeated = false;
@@ -18,7 +18,7 @@ fn nested(alloc: Global, times: usize, parts: &str) -> Result<Vec<u8>, AllocErro
     Ok(text)
 }
 
-/// The text that a row writes: `\^62 head|(|1|)|tail` is a text with so many openings and closings, and any other has
+/// The text that a row writes: `\^62 head|(|1|)|tail` is a text with that number of openings and closings, and any other has
 /// escapes alone.
 pub fn spelled(alloc: Global, written: &str) -> Result<Vec<u8>, AllocError> {
     if let Some(deep) = written.strip_prefix("\\^") {

@@ -1,6 +1,6 @@
 //! The numbers that refusals and faults show as.
 
-use crate::telling::write_fault;
+use crate::details::write_fault;
 use durable_core::{Refusal, StartFault};
 use retain_store::StoreFault;
 use serial_core::Refusal as Serial;
@@ -25,7 +25,7 @@ pub fn write_refusals(text: &mut String) -> Result<(), AllocError> {
 }
 
 /// Writes the numbers of the faults of a start: a file that is too long or damaged, a device that failed, the greatest
-/// generation, want of memory, a store that failed before, out of memory.
+/// generation, a store that is out of memory, a store that failed before, out of memory.
 pub fn write_start_faults(text: &mut String) -> Result<(), AllocError> {
     text.push_str("faults")?;
     for fault in [

@@ -5,12 +5,12 @@ use std::io;
 use std::io::ErrorKind;
 use std::os::unix::fs::FileExt;
 
-/// What a file does less than it should.
+/// The defect of a file.
 #[derive(Clone, Copy)]
 pub enum Oddity {
     /// It moves one byte a call at most.
     Slow,
-    /// It tells its length, and its bytes can be neither read nor written.
+    /// It gives its length, and its bytes can be neither read nor written.
     Deaf,
     /// Each of its calls fails.
     Broken,

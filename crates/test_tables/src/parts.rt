@@ -1,4 +1,4 @@
-//! What stands at the front of a text, and the place where it goes on.
+//! The tree at the front of a text, and the place where it goes on.
 
 use crate::answer::Answer;
 use crate::shown_expressions::expression;
@@ -11,7 +11,7 @@ use st_parse::{
 };
 use std::alloc::Global;
 
-/// The place of the token that comes next, where there is one.
+/// The place of the token that comes next, if there is one.
 fn left(out: &mut Answer, rest: &[Token]) {
     if let [next, ..] = rest {
         out.put(" then ");

@@ -11,7 +11,7 @@ use std::fmt::Write;
 use std::io;
 use std::io::Read;
 
-/// Gives a text byte by byte, and fails where so many bytes are left.
+/// Gives a text byte by byte, and fails when a number of bytes is left.
 #[derive(Drop)]
 struct Failing<'a> {
     left: &'a [u8],
@@ -56,7 +56,7 @@ fn plan_with(alloc: Global, inputs: &str) -> Result<Plan, RowError> {
     Ok(build(alloc, text.as_bytes(), 1)?)
 }
 
-/// Writes of each row its moment and its values' numbers, and a semicolon.
+/// Writes for each row its moment and its values' numbers, and a semicolon.
 fn write_rows(text: &mut String, rows: &[Row]) -> Result<(), AllocError> {
     for row in rows {
         write_number(text, "", i128::from(row.moment()))?;
@@ -82,7 +82,7 @@ fn write_read<R: Read + Drop>(
     }
 }
 
-/// Writes the rows of a plant with these inputs. Where `fails` says so, its reader fails where so many bytes are left.
+/// Writes the rows of a plant with these inputs. If `fails` is given, its reader fails when that number of bytes is left.
 pub fn write_plant(
     text: &mut String,
     alloc: Global,
@@ -104,7 +104,7 @@ pub fn write_plant(
     Ok(())
 }
 
-/// A plant without inputs and with so many rows, at 0, 1, 2 and so on.
+/// A plant without inputs and with this number of rows, at 0, 1, 2 and so on.
 fn numbered(alloc: Global, rows: u64) -> Result<String, AllocError> {
     let mut plant = String::from_str(alloc, "t\n")?;
     for moment in 0..rows {
@@ -114,7 +114,7 @@ fn numbered(alloc: Global, rows: u64) -> Result<String, AllocError> {
     Ok(plant)
 }
 
-/// Writes how many rows are read of a plant with so many.
+/// Writes how many rows are read of a plant with this number of them.
 pub fn write_row_count(text: &mut String, alloc: Global, rows: &str) -> Result<(), RowError> {
     let plant = numbered(alloc, number(rows)?)?;
     let plan = plan_with(alloc, "")?;

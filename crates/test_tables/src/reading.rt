@@ -1,4 +1,4 @@
-//! The trees that whole texts are.
+//! The trees of whole texts.
 
 use crate::nesting::spelled;
 use st_lex::{Token, lex};
@@ -12,7 +12,7 @@ pub fn tokens_of(alloc: Global, written: &str) -> Option<Vec<Token>> {
     lex(alloc, &text).ok()
 }
 
-/// What was read, where no token is left.
+/// The tree that was read, if no token is left.
 fn whole<T: Drop>(read: Result<(T, &[Token]), ReadError>) -> Option<T> {
     match read {
         Ok((found, [])) => Some(found),

@@ -56,7 +56,7 @@ impl Listed {
         })
     }
 
-    /// The list after one more row, where it may take it.
+    /// The list after one more row, if it may take it.
     fn after(self, moment: u64, samples: &[bool]) -> Result<Listed, RowError> {
         let Listed {
             mut list,
@@ -93,7 +93,7 @@ fn write_activation(text: &mut String, a: Activation) -> Result<(), AllocError> 
     text.push_str(",")
 }
 
-/// Takes the best until none waits, and writes what was taken.
+/// Takes the best until none waits, and writes the activations that were taken.
 fn write_taken(text: &mut String, list: &mut ReadyList, programs: usize) -> Result<(), AllocError> {
     text.push_str("taken")?;
     for _ in 0..=programs {
@@ -105,7 +105,7 @@ fn write_taken(text: &mut String, list: &mut ReadyList, programs: usize) -> Resu
     text.push_str(" none")
 }
 
-/// Writes what is taken of the list of these tasks after rows, and the overruns of each program.
+/// Writes the activations taken of the list of these tasks after rows, and the overruns of each program.
 pub fn write_ready(
     text: &mut String,
     alloc: Global,

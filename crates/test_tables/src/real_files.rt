@@ -42,8 +42,8 @@ fn play_on(
     play(text, rt.alloc(), &mut disk, calls)
 }
 
-/// Tells what a file has, and takes it away.
-fn tell_left(text: &mut String, rt: &HostRuntime, name: &str) -> Result<(), RowError> {
+/// Writes the contents of a file, and removes it.
+fn write_left(text: &mut String, rt: &HostRuntime, name: &str) -> Result<(), RowError> {
     let left = fs::read(rt, name)?;
     fs::remove_file(rt, name)?;
     text.push_str(", left ")?;
@@ -51,7 +51,7 @@ fn tell_left(text: &mut String, rt: &HostRuntime, name: &str) -> Result<(), RowE
     Ok(())
 }
 
-/// Makes the calls on a file of the system with these bytes, or on a new one, and tells what it has then.
+/// Makes the calls on a file of the system with these bytes, or on a new one, and writes its contents then.
 pub fn write_real(
     text: &mut String,
     rt: &HostRuntime,
@@ -64,10 +64,10 @@ pub fn write_real(
         fs::write(rt, name.as_str(), bytes)?;
     }
     play_on(text, rt, sort, name.as_str(), calls)?;
-    tell_left(text, rt, name.as_str())
+    write_left(text, rt, name.as_str())
 }
 
-/// Writes whether a file in a folder that isn't there is opened.
+/// Writes whether a file in a folder that doesn't exist is opened.
 pub fn write_folderless(text: &mut String, rt: &HostRuntime) -> Result<(), AllocError> {
     let found = FileDisk::<File>::open(rt, "/tmp/pokerebony_disk_no_folder/file");
     let told = if found.is_ok() { "opened" } else { "refused" };

@@ -55,7 +55,7 @@ pub fn write_recovered(text: &mut String, alloc: Global, file: &[u8]) -> Result<
     Ok(written?)
 }
 
-/// The file that a save of this record makes of an empty one.
+/// The file after a save of this record over an empty one.
 fn saved(alloc: Global, last: &Record) -> Result<Vec<u8>, RowError>
     requires { IsRecordable last.now }
 {
@@ -80,7 +80,7 @@ fn saved(alloc: Global, last: &Record) -> Result<Vec<u8>, RowError>
     }
 }
 
-/// The file that a save of what is recovered of this one makes of an empty file.
+/// The file after a save of the record recovered from this one over an empty file.
 pub fn resaved(alloc: Global, file: &[u8]) -> Result<Vec<u8>, RowError> {
     let store = opened(alloc, file)?;
     let made = match store.last() {

@@ -1,7 +1,7 @@
 //! Why a row has no answer.
 
+use crate::details::write_fault;
 use crate::row_words::write_number;
-use crate::telling::write_fault;
 use config::BuildError;
 use durable_core::{Refusal, StartFault};
 use std::alloc::{AllocError, AllocFailed};
@@ -14,7 +14,7 @@ pub enum RowError {
     Memory,
     /// A file of the system failed.
     File,
-    /// Something in the row is written otherwise than the table's forms.
+    /// Something in the row is not in the table's forms.
     Form,
     /// The text has no plan.
     Plan(BuildError),
@@ -60,7 +60,7 @@ impl From<Refusal> for RowError {
     }
 }
 
-/// What was written, where memory sufficed.
+/// The result of writing, with out of memory as a row error.
 pub fn written(text: Result<(), AllocError>) -> Result<(), RowError> {
     Ok(text?)
 }

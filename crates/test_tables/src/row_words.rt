@@ -4,7 +4,7 @@ use crate::row_error::RowError;
 use std::alloc::AllocError;
 use std::fmt::Write;
 
-/// What stands before and behind the first such divider; all and nothing where there is none.
+/// The text before and after the first such divider; all and nothing if there is none.
 pub fn split<'a>(written: &'a str, divider: &str) -> (&'a str, &'a str) {
     written.split_once(divider).unwrap_or((written, ""))
 }
@@ -20,7 +20,7 @@ pub fn count(written: &str) -> Result<usize, RowError> {
     Ok(number(written)? as usize)
 }
 
-/// Writes a number behind these words.
+/// Writes a number after these words.
 pub fn write_number(text: &mut String, before: &str, number: i128) -> Result<(), AllocError> {
     write!(text, "{before}{number}")
 }

@@ -3,23 +3,23 @@
 use crate::chains::write_chain;
 use crate::codes::write_codes;
 use crate::configuration::Configuration;
-use crate::cuts::write_cuts;
+use crate::details::{write_execution, write_reply};
 use crate::disk_calls::{play, write_content};
 use crate::disks::disk_with;
 use crate::escapes::unescaped;
 use crate::executions::{committed, execution_of, write_machine};
 use crate::files::file_of;
 use crate::lives_in_turn::write_lives;
-use crate::living::{Life, Setting, Telling, live};
+use crate::living::{Detail, Life, Setting, live};
 use crate::marks::write_loads;
 use crate::numbers::{write_refusals, write_start_faults};
 use crate::plants::{write_plant, write_row_count};
+use crate::power_cuts::write_cuts;
 use crate::ready_lists::write_ready;
 use crate::real_files::{write_folderless, write_real};
 use crate::records::{resaved, write_recovered};
 use crate::row_error::{RowError, written};
 use crate::row_words::{count, split, write_bytes, write_number};
-use crate::telling::{write_execution, write_reply};
 use crate::terms::{TERMS, Terms};
 use crate::thread_runs::write_run;
 use crate::trace_replays::{write_budget, write_replay};
@@ -30,7 +30,7 @@ use std::rt::Clock;
 use std::sync::Wait;
 use std::thread::Threads;
 
-/// The plan of a row that says none.
+/// The plan of a row that gives none.
 const COUNTER: Setting<'static> = Setting {
     text: "PROGRAM Unit0 VAR_EXTERNAL N : INT; END_VAR N := N + 1; END_PROGRAM CONFIGURATION C \
         VAR_GLOBAL RETAIN N : INT; END_VAR RESOURCE R0 ON CPU TASK T0 (INTERVAL := T#10ms, PRIORITY := 0); \
@@ -38,15 +38,15 @@ const COUNTER: Setting<'static> = Setting {
     globals: "N",
 };
 
-/// What the parts of a row have made so far.
+/// The results of the parts of a row so far.
 #[derive(Drop)]
 pub struct Scene<'a, R: Threads + Wait + Clock + Sync> {
     rt: &'a HostRuntime,
-    /// What starts threads and waits for them.
+    /// The runtime that starts threads and waits for them.
     threads: &'a R,
     alloc: Global,
     setting: Setting<'a>,
-    /// What is run in threads.
+    /// The configuration of runs in threads.
     configuration: Configuration<'a>,
     /// The inputs of plants.
     inputs: &'a str,
@@ -85,7 +85,7 @@ impl<'a, R: Threads + Wait + Clock + Sync> Scene<'a, R> {
         self.answer.push_str(" | ")
     }
 
-    /// Lives a life over the file, and tells it unless nothing is to be told.
+    /// Lives a life over the file, and reports it unless nothing is to be reported.
     fn live(&mut self, mode: StartMode, calls: &str) -> Result<(), RowError> {
         let life = Life {
             mode,
@@ -98,14 +98,14 @@ impl<'a, R: Threads + Wait + Clock + Sync> Scene<'a, R> {
         let lived = live(&mut told, self.alloc, self.setting, disk, life)?;
         self.is_same = lived.left.as_slice() == self.file.as_slice();
         self.file = lived.left;
-        if !matches!(life.telling, Telling::Nothing) {
+        if !matches!(life.telling, Detail::Nothing) {
             self.divide()?;
             self.answer.push_str(told.as_str())?;
         }
         Ok(())
     }
 
-    /// Makes calls of a simulated disk with the file, and tells the file that is left.
+    /// Makes calls of a simulated disk with the file, and writes the file that is left.
     fn simulate(&mut self, calls: &str) -> Result<(), RowError> {
         let mut disk = disk_with(self.alloc, &self.file, self.terms.mishap)?;
         play(&mut self.answer, self.alloc, &mut disk, calls)?;
@@ -114,7 +114,7 @@ impl<'a, R: Threads + Wait + Clock + Sync> Scene<'a, R> {
         Ok(())
     }
 
-    /// Runs what a core gives at its first row, with a change, and tells the execution.
+    /// Runs the activation of a core at its first row, with a change, and writes the execution.
     fn run(&mut self, change: &str) -> Result<(), RowError> {
         let execution = execution_of(self.alloc, self.setting.text, change)?;
         write_execution(&mut self.answer, &execution)?;
@@ -122,7 +122,7 @@ impl<'a, R: Threads + Wait + Clock + Sync> Scene<'a, R> {
         Ok(())
     }
 
-    /// Commits the last execution in a core at its first row, and tells the answer.
+    /// Commits the last execution in a core at its first row, and writes the answer.
     fn commit(&mut self) -> Result<(), RowError> {
         let Some(execution) = self.execution.take() else {
             return Err(RowError::Form);
@@ -132,7 +132,7 @@ impl<'a, R: Threads + Wait + Clock + Sync> Scene<'a, R> {
         Ok(())
     }
 
-    /// Runs the configuration in threads, and tells of the runs what is asked.
+    /// Runs the configuration in threads, and writes the answer about the run.
     fn run_in_threads(&mut self, asked: &str) -> Result<(), RowError> {
         let text = self.configuration.text(self.alloc)?;
         let setting = Setting {
@@ -159,7 +159,7 @@ impl<'a, R: Threads + Wait + Clock + Sync> Scene<'a, R> {
         }
     }
 
-    /// Reads a recorded plant, and tells its rows.
+    /// Reads a recorded plant, and writes its rows.
     fn read_plant(&mut self, written: &str) -> Result<(), RowError> {
         let plant = unescaped(self.alloc, written)?;
         write_plant(
@@ -171,14 +171,14 @@ impl<'a, R: Threads + Wait + Clock + Sync> Scene<'a, R> {
         )
     }
 
-    /// Tells what is taken of a ready list, whose tasks and rows are written `TASKS: ROWS`.
-    fn tell_ready(&mut self, written: &str) -> Result<(), RowError> {
+    /// Writes the activations taken of a ready list, whose tasks and rows are written `TASKS: ROWS`.
+    fn write_ready_scene(&mut self, written: &str) -> Result<(), RowError> {
         let (tasks, rows) = split(written, ": ");
         write_ready(&mut self.answer, self.alloc, tasks, rows)
     }
 
-    /// Tells so many bytes of the file from a place on, which are written `PLACE COUNT`.
-    fn tell_bytes(&mut self, written: &str) -> Result<(), RowError> {
+    /// Writes the bytes of the file from a place on that are written `PLACE COUNT`.
+    fn write_bytes_of(&mut self, written: &str) -> Result<(), RowError> {
         let (at, len) = split(written, " ");
         let at = count(at)?.min(self.file.len());
         let end = at.saturating_add(count(len)?).min(self.file.len());
@@ -186,26 +186,26 @@ impl<'a, R: Threads + Wait + Clock + Sync> Scene<'a, R> {
         Ok(())
     }
 
-    /// Tells whether the last life left the file as it was.
-    fn tell_same(&mut self) -> Result<(), AllocError> {
+    /// Writes whether the last life left the file as it was.
+    fn write_same(&mut self) -> Result<(), AllocError> {
         let word = if self.is_same { "same" } else { "changed" };
         self.answer.push_str(word)
     }
 
-    fn tell_length(&mut self) -> Result<(), AllocError> {
+    fn write_length(&mut self) -> Result<(), AllocError> {
         write_number(&mut self.answer, "", self.file.len() as i128)?;
         self.answer.push_str(" bytes")
     }
 
-    /// A part that tells something, a life aside.
-    fn tell(&mut self, word: &str, given: &str) -> Result<(), RowError> {
+    /// A part that reports something, other than a life.
+    fn write_part(&mut self, word: &str, given: &str) -> Result<(), RowError> {
         self.divide()?;
         match word {
             "sim:" => self.simulate(given),
             "folderless" => written(write_folderless(&mut self.answer, self.rt)),
             "plant" => self.read_plant(given),
             "rows" => write_row_count(&mut self.answer, self.alloc, given),
-            "ready" => self.tell_ready(given),
+            "ready" => self.write_ready_scene(given),
             "run" => self.run(given),
             "codes" => write_codes(&mut self.answer, self.alloc, self.setting.text),
             "machine" => write_machine(&mut self.answer, self.alloc, self.setting.text, given),
@@ -222,9 +222,9 @@ impl<'a, R: Threads + Wait + Clock + Sync> Scene<'a, R> {
             "chain" => write_chain(&mut self.answer, self.alloc, self.setting, given),
             "threads:" => self.run_in_threads(given),
             "mark" => write_loads(&mut self.answer, self.alloc, given),
-            "bytes" => self.tell_bytes(given),
-            "length" => written(self.tell_length()),
-            "same" => written(self.tell_same()),
+            "bytes" => self.write_bytes_of(given),
+            "length" => written(self.write_length()),
+            "same" => written(self.write_same()),
             "replay" => write_replay(&mut self.answer, self.alloc, self.setting, given),
             "ticks" => write_budget(&mut self.answer, self.alloc, given),
             "recovered" => write_recovered(&mut self.answer, self.alloc, &self.file),
@@ -234,18 +234,18 @@ impl<'a, R: Threads + Wait + Clock + Sync> Scene<'a, R> {
         }
     }
 
-    /// A part that is answered. The terms that were said hold for it alone.
+    /// A part that is answered. The terms that were set hold for it alone.
     fn answer(&mut self, word: &str, given: &str) -> Result<(), RowError> {
         match word {
             "cold" | "cold:" => self.live(StartMode::Cold, given)?,
             "warm" | "warm:" => self.live(StartMode::Warm, given)?,
-            _ => self.tell(word, given)?,
+            _ => self.write_part(word, given)?,
         }
         self.terms = TERMS;
         Ok(())
     }
 
-    /// A part that says something of the next one that is answered, or is answered itself.
+    /// A part that sets something for the next one that is answered, or is answered itself.
     fn read_other(&mut self, word: &str, given: &'a str) -> Result<(), RowError> {
         match self.terms.with(word, given)? {
             Some(terms) => {
@@ -261,7 +261,7 @@ impl<'a, R: Threads + Wait + Clock + Sync> Scene<'a, R> {
         self.setting = Setting { text, globals };
     }
 
-    /// Reads a part, and adds what it is answered.
+    /// Reads a part, and adds the answer to it.
     pub fn read(&mut self, part: &'a str) -> Result<(), RowError> {
         let (word, given) = split(part, " ");
         match word {

@@ -2,7 +2,7 @@
 
 use crate::answer::Answer;
 use crate::shown_types::declared_as;
-use crate::shown_words::{address, name, name_behind, names};
+use crate::shown_words::{address, name, name_after, names};
 use st_types::{
     Configuration, GlobalBlock, GlobalDeclaration, GlobalNames, GlobalQualifier, Instance,
     Resource, Task,
@@ -40,9 +40,9 @@ fn global_block(out: &mut Answer, shown: &GlobalBlock) {
 }
 
 fn task(out: &mut Answer, shown: &Task) {
-    name_behind(out, " TASK ", &shown.name);
+    name_after(out, " TASK ", &shown.name);
     if let Some(single) = &shown.single {
-        name_behind(out, " SINGLE ", single);
+        name_after(out, " SINGLE ", single);
     }
     if let Some(milliseconds) = shown.interval {
         out.put(" INTERVAL ");
@@ -55,16 +55,16 @@ fn task(out: &mut Answer, shown: &Task) {
 }
 
 fn instance(out: &mut Answer, shown: &Instance) {
-    name_behind(out, " PROGRAM ", &shown.name);
+    name_after(out, " PROGRAM ", &shown.name);
     if let Some(task) = &shown.task {
-        name_behind(out, " WITH ", task);
+        name_after(out, " WITH ", task);
     }
-    name_behind(out, " : ", &shown.program)
+    name_after(out, " : ", &shown.program)
 }
 
 fn resource(out: &mut Answer, shown: &Resource) {
-    name_behind(out, " RESOURCE ", &shown.name);
-    name_behind(out, " ON ", &shown.processor);
+    name_after(out, " RESOURCE ", &shown.name);
+    name_after(out, " ON ", &shown.processor);
     for found in &shown.tasks {
         task(out, found);
     }
@@ -74,7 +74,7 @@ fn resource(out: &mut Answer, shown: &Resource) {
 }
 
 pub fn configuration(out: &mut Answer, shown: &Configuration) {
-    name_behind(out, "CONFIGURATION ", &shown.name);
+    name_after(out, "CONFIGURATION ", &shown.name);
     for found in &shown.globals {
         global_block(out, found);
     }

@@ -1,7 +1,7 @@
-//! Variables and expressions as texts. `{ }` are parentheses of the text, and `( )` show what an operator takes.
+//! Variables and expressions as texts. `{ }` are parentheses of the text, and `( )` show the operands of an operator.
 
 use crate::answer::Answer;
-use crate::shown_words::{literal, name, name_behind};
+use crate::shown_words::{literal, name, name_after};
 use st_types::{BinaryOperator, Expr, Selector, UnaryOperator, Variable};
 
 fn sign(operator: BinaryOperator) -> &'static str {
@@ -81,7 +81,7 @@ fn arguments(out: &mut Answer, shown: &[Expr]) {
 #[cycle(shown)]
 fn selector(out: &mut Answer, shown: &Selector) {
     match shown {
-        Selector::Member(member) => name_behind(out, ".", member),
+        Selector::Member(member) => name_after(out, ".", member),
         Selector::Subscript(subscript) => {
             out.mark('[');
             expression(out, subscript);
@@ -99,7 +99,7 @@ pub fn variable(out: &mut Answer, shown: &Variable) {
 }
 
 /// Writes an expression after this text.
-pub fn expression_behind(out: &mut Answer, before: &str, shown: &Expr) {
+pub fn expression_after(out: &mut Answer, before: &str, shown: &Expr) {
     out.put(before);
     expression(out, shown)
 }

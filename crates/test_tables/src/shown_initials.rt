@@ -1,7 +1,7 @@
 //! Initial values as texts.
 
 use crate::answer::Answer;
-use crate::shown_words::{literal, name_behind, number};
+use crate::shown_words::{literal, name_after, number};
 use st_types::{Initial, InitialElement, InitialMember};
 
 #[cycle(shown_initial)]
@@ -35,7 +35,7 @@ fn elements(out: &mut Answer, shown: &[InitialElement]) {
 #[cycle(shown_initial)]
 fn members(out: &mut Answer, shown: &[InitialMember]) {
     for i in 0..shown.len() {
-        name_behind(out, " ", &shown[i].name);
+        name_after(out, " ", &shown[i].name);
         out.put(" := ");
         initial(out, &shown[i].value);
     }

@@ -1,18 +1,18 @@
 //! Statements as texts.
 
 use crate::answer::Answer;
-use crate::shown_expressions::{expression_behind, variable};
-use crate::shown_words::{name, name_behind, number, value};
+use crate::shown_expressions::{expression_after, variable};
+use crate::shown_words::{name, name_after, number, value};
 use st_types::{Argument, Arm, CaseArm, Expr, Identifier, Label, Stmt};
 
 fn argument(out: &mut Answer, shown: &Argument) {
     match shown {
         Argument::Input(input, value) => {
-            name_behind(out, " ", input);
-            expression_behind(out, " := ", value)
+            name_after(out, " ", input);
+            expression_after(out, " := ", value)
         }
         Argument::Output(output, target) => {
-            name_behind(out, " ", output);
+            name_after(out, " ", output);
             out.put(" => ");
             variable(out, target)
         }
@@ -47,10 +47,10 @@ fn invocation(out: &mut Answer, instance: &Identifier, arguments: &[Argument]) {
 
 /// The range that the control variable of a FOR runs through.
 fn range(out: &mut Answer, start: &Expr, limit: &Expr, step: &Option<Expr>) {
-    expression_behind(out, " := ", start);
-    expression_behind(out, " to ", limit);
+    expression_after(out, " := ", start);
+    expression_after(out, " to ", limit);
     match step {
-        Some(step) => expression_behind(out, " by ", step),
+        Some(step) => expression_after(out, " by ", step),
         None => {}
     }
 }
@@ -61,7 +61,7 @@ fn statement(out: &mut Answer, shown: &Stmt) {
         Stmt::Empty => out.put("empty"),
         Stmt::Assign(target, value) => {
             variable(out, target);
-            expression_behind(out, " := ", value)
+            expression_after(out, " := ", value)
         }
         Stmt::Invoke(instance, arguments) => invocation(out, instance, arguments),
         Stmt::If(found, otherwise) => {
@@ -69,7 +69,7 @@ fn statement(out: &mut Answer, shown: &Stmt) {
             block(out, "else ", otherwise)
         }
         Stmt::Case(selector, found, otherwise) => {
-            expression_behind(out, "case ", selector);
+            expression_after(out, "case ", selector);
             case_arms(out, found);
             block(out, " else ", otherwise)
         }
@@ -80,17 +80,17 @@ fn statement(out: &mut Answer, shown: &Stmt) {
             step,
             body,
         } => {
-            name_behind(out, "for ", control);
+            name_after(out, "for ", control);
             range(out, start, limit, step);
             block(out, " ", body)
         }
         Stmt::While(condition, body) => {
-            expression_behind(out, "while ", condition);
+            expression_after(out, "while ", condition);
             block(out, " ", body)
         }
         Stmt::Repeat(body, condition) => {
             block(out, "repeat ", body);
-            expression_behind(out, " until ", condition)
+            expression_after(out, " until ", condition)
         }
         Stmt::Exit(place) => {
             out.put("exit");
@@ -103,7 +103,7 @@ fn statement(out: &mut Answer, shown: &Stmt) {
 #[cycle(shown)]
 fn arms(out: &mut Answer, shown: &[Arm]) {
     for arm in shown {
-        expression_behind(out, "if ", &arm.condition);
+        expression_after(out, "if ", &arm.condition);
         block(out, " ", &arm.body);
         out.mark(' ');
     }

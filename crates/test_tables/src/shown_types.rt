@@ -2,7 +2,7 @@
 
 use crate::answer::Answer;
 use crate::shown_initials::given;
-use crate::shown_words::{name, name_behind, number};
+use crate::shown_words::{name, name_after, number};
 use st_types::{
     ArrayType, Field, Identifier, Initial, Kind, SimpleType, TypeDeclaration, TypeDefinition,
     VariableType,
@@ -38,7 +38,7 @@ fn variable_type(out: &mut Answer, shown: &VariableType) {
     }
 }
 
-/// The type and the initial value of what is declared, to the end of its declaration.
+/// The type and the initial value of a declaration, to its end.
 pub fn declared_as(out: &mut Answer, declared: &VariableType, initial: &Option<Initial>) {
     out.put(": ");
     variable_type(out, declared);
@@ -49,7 +49,7 @@ pub fn declared_as(out: &mut Answer, declared: &VariableType, initial: &Option<I
 fn structure(out: &mut Answer, shown: &[Field]) {
     out.put("struct");
     for field in shown {
-        name_behind(out, " {", &field.name);
+        name_after(out, " {", &field.name);
         out.mark(' ');
         declared_as(out, &field.declared, &field.initial);
     }
@@ -58,7 +58,7 @@ fn structure(out: &mut Answer, shown: &[Field]) {
 fn enumeration(out: &mut Answer, shown: &[Identifier]) {
     out.put("one of");
     for found in shown {
-        name_behind(out, " ", found);
+        name_after(out, " ", found);
     }
 }
 
@@ -74,7 +74,7 @@ fn definition(out: &mut Answer, shown: &TypeDefinition) {
 pub fn types(out: &mut Answer, shown: &[TypeDeclaration]) {
     out.put("TYPE");
     for declaration in shown {
-        name_behind(out, " {", &declaration.name);
+        name_after(out, " {", &declaration.name);
         out.put(" : ");
         definition(out, &declaration.definition);
         out.mark('}');

@@ -2,7 +2,7 @@
 
 use crate::answer::Answer;
 use crate::shown_types::{declared_as, simple};
-use crate::shown_words::{name_behind, names};
+use crate::shown_words::{name_after, names};
 use st_types::{Declaration, Retention, Section, Unit, UnitSort, VariableBlock};
 
 /// Writes these words, and the word after them.
@@ -42,12 +42,12 @@ fn block(out: &mut Answer, shown: &VariableBlock) {
 fn heading(out: &mut Answer, shown: &Unit) {
     match &shown.sort {
         UnitSort::Function(answer) => {
-            name_behind(out, "FUNCTION ", &shown.name);
+            name_after(out, "FUNCTION ", &shown.name);
             out.put(" : ");
             simple(out, answer)
         }
-        UnitSort::FunctionBlock => name_behind(out, "FUNCTION_BLOCK ", &shown.name),
-        UnitSort::Program => name_behind(out, "PROGRAM ", &shown.name),
+        UnitSort::FunctionBlock => name_after(out, "FUNCTION_BLOCK ", &shown.name),
+        UnitSort::Program => name_after(out, "PROGRAM ", &shown.name),
     }
 }
 

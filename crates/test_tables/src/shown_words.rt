@@ -1,4 +1,4 @@
-//! Names and literals as texts. After each `@` stands a place.
+//! Names and literals as texts. After each `@` there is a place.
 
 use crate::answer::Answer;
 use st_types::{Address, AddressWidth, Direction, EnumeratedValue, Identifier, Literal, Number};
@@ -9,7 +9,7 @@ pub fn name(out: &mut Answer, shown: &Identifier) {
 }
 
 /// Writes a name after this text.
-pub fn name_behind(out: &mut Answer, before: &str, shown: &Identifier) {
+pub fn name_after(out: &mut Answer, before: &str, shown: &Identifier) {
     out.put(before);
     name(out, shown)
 }
@@ -37,7 +37,7 @@ pub fn number(out: &mut Answer, shown: &Number) {
     out.at(shown.place);
 }
 
-/// A value of an enumerated type, with its type where that is written.
+/// A value of an enumerated type, with its type if that is written.
 pub fn value(out: &mut Answer, shown: &EnumeratedValue) {
     if let Some(found) = &shown.type_name {
         out.name(found.as_slice());

@@ -1,4 +1,4 @@
-//! What the parser makes of whole texts and of their prefixes.
+//! The parser's results for whole texts and for their prefixes.
 
 use crate::answer::Answer;
 use crate::layouts::shown_layout;
@@ -19,7 +19,7 @@ fn is_configured(source: &Source) -> bool {
     false
 }
 
-/// What is answered of a source as it was parsed.
+/// Writes the answer about a source as it was parsed.
 fn shown_parsed(out: &mut Answer, word: &str, source: &Source) {
     match word {
         "declarations" => declarations(out, source),
@@ -30,7 +30,7 @@ fn shown_parsed(out: &mut Answer, word: &str, source: &Source) {
     }
 }
 
-/// What is answered of a source that is checked first.
+/// Writes the answer about a source that is checked first.
 fn shown_checked(out: &mut Answer, alloc: Global, word: &str, source: Source) {
     let shown = match word {
         "linked" => shown_linked(out, alloc, source),
@@ -41,7 +41,7 @@ fn shown_checked(out: &mut Answer, alloc: Global, word: &str, source: Source) {
     }
 }
 
-/// What is answered of the source that the tokens are, or why they are none.
+/// Writes the answer about the source of these tokens, or why they are none.
 pub fn shown_source(out: &mut Answer, alloc: Global, word: &str, tokens: &[Token]) {
     match parse(alloc, tokens) {
         Ok(source) if matches!(word, "layout" | "slots" | "sizes" | "linked") => {
@@ -52,7 +52,7 @@ pub fn shown_source(out: &mut Answer, alloc: Global, word: &str, tokens: &[Token
     }
 }
 
-/// What the lexer and the parser make of a text.
+/// The result of the lexer and the parser for a text.
 enum Outcome {
     Configured,
     Unconfigured,
@@ -79,7 +79,7 @@ fn outcome_of(alloc: Global, text: &[u8]) -> Outcome {
 }
 
 /// Of the prefixes of the text, itself included: how many are read as a source with a configuration, and how many are
-/// refused otherwise than a text that ends too early.
+/// refused for another reason than that the text ends too early.
 pub fn prefixes(out: &mut Answer, alloc: Global, text: &[u8]) {
     let mut configured: u64 = 0;
     let mut refused: u64 = 0;

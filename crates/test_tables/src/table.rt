@@ -12,7 +12,7 @@ struct Count {
 }
 
 /// Asks the rows of a table, `GIVEN ==> ANSWER`, each scene of which begins with a line that has its name. It prints the
-/// names, and each row that is answered otherwise.
+/// names, and each row that is answered differently.
 fn ask_table<R: Input + Print + AllocGlobal, F: Fn(Global, &str) -> Result<String, AllocError>>(
     rt: &R,
     table: &str,

@@ -1,4 +1,4 @@
-//! Single tokens, as those who put texts together read them, and how a refusal is told.
+//! Single tokens, as the readers of larger parts see them, and how a refusal is reported.
 
 use crate::answer::Answer;
 use crate::parts::refused as show_refused;
@@ -44,7 +44,7 @@ fn shown_given(out: &mut Answer, given: &Given) {
     out.put(" left");
 }
 
-/// Reads the keyword TASK, a name and what is given after it, and writes them.
+/// Reads the keyword TASK, a name and the tokens after it, and writes them.
 fn read_each(out: &mut Answer, alloc: Global, tokens: &[Token]) -> Result<(), ReadError> {
     let (first, rest) = keyword(Keyword::Task, tokens)?;
     let (found, rest) = name(alloc, rest)?;
@@ -107,7 +107,7 @@ pub fn shown_refused(out: &mut Answer, alloc: Global, tokens: &[Token]) {
     out.put(told);
 }
 
-/// How a refusal is told: that of the last token, of one after it, of a tree that is too deep, or out of memory.
+/// How a refusal is reported: that of the last token, of one after it, of a tree that is too deep, or out of memory.
 pub fn shown_fault(out: &mut Answer, word: &str, tokens: &[Token]) {
     let error = match word {
         "last" => ReadError::Refused(Refusal::Unexpected(1)),

@@ -1,18 +1,18 @@
 //! Runs in threads, and the lives after them.
 
+use crate::answer_counts::{write_answer_counts, write_counts, write_log, write_run_fault};
 use crate::cores::started;
+use crate::details::{write_acked, write_globals};
 use crate::disks::disk_with;
 use crate::living::{Setting, plan_of};
 use crate::row_error::RowError;
 use crate::row_words::{number, split};
-use crate::telling::{write_acked, write_globals};
 use crate::terms::Terms;
-use crate::told_runs::{write_counts, write_log, write_run_fault, write_told};
 use crate::watch::Watch;
 use config::Plan;
 use disk::SimDisk;
 use durable_core::{Core, StartMode};
-use plc_threads::{Report, RunError, Told, run_plant};
+use plc_threads::{AnswerCounts, Report, RunError, run_plant};
 use run_lock::RunFault;
 use st_types::Row;
 use std::alloc::{AllocError, Global};
@@ -21,7 +21,7 @@ use std::rt::Clock;
 use std::sync::{Arc, Wait};
 use std::thread::Threads;
 
-/// So many rows, 10 ms apart.
+/// This number of rows, 10 ms apart.
 fn rows_of(alloc: Global, count: u64) -> Result<Vec<Row>, AllocError> {
     let mut rows = Vec::new(alloc);
     for k in 0..count {
@@ -30,7 +30,7 @@ fn rows_of(alloc: Global, count: u64) -> Result<Vec<Row>, AllocError> {
     Ok(rows)
 }
 
-/// Runs so many rows over an empty disk.
+/// Runs this number of rows over an empty disk.
 pub fn run<R: Threads + Wait + Clock + Sync>(
     rt: &R,
     alloc: Global,
@@ -61,20 +61,20 @@ pub fn restarted(
     )
 }
 
-/// Tells of a run that came to its end what the word asks.
-fn tell_end<R: Clock>(
+/// Writes the answer about a run that came to its end.
+fn write_end_of<R: Clock>(
     text: &mut String,
     alloc: Global,
     globals: &str,
     word: &str,
     core: &Core<SimDisk>,
-    told: &[Told],
+    told: &[AnswerCounts],
     watch: &Watch<'_, R>,
 ) -> Result<(), RowError> {
     match word {
         "run" => {
             write_log(text, core)?;
-            write_told(text, told, watch)?;
+            write_answer_counts(text, told, watch)?;
         }
         "count" => write_counts(text, core, told)?,
         _ => return Err(RowError::Form),
@@ -84,8 +84,8 @@ fn tell_end<R: Clock>(
     Ok(())
 }
 
-/// Tells why a run was stopped, and how far it came.
-fn tell_stopped(
+/// Writes why a run was stopped, and how far it came.
+fn write_stopped(
     text: &mut String,
     word: &str,
     fault: RunFault,
@@ -99,8 +99,8 @@ fn tell_stopped(
     }
 }
 
-/// Tells the globals after a warm restart over the file.
-fn tell_restarted(
+/// Writes the globals after a warm restart over the file.
+fn write_restarted(
     text: &mut String,
     alloc: Global,
     setting: Setting<'_>,
@@ -112,8 +112,8 @@ fn tell_restarted(
     Ok(written?)
 }
 
-/// Tells of a run that was stopped what the word asks.
-fn tell_error(
+/// Writes the answer about a run that was stopped.
+fn write_error_of(
     text: &mut String,
     alloc: Global,
     setting: Setting<'_>,
@@ -121,17 +121,17 @@ fn tell_error(
     error: RunError<SimDisk>,
 ) -> Result<(), RowError> {
     let RunError { core, fault } = error;
-    let written = tell_stopped(text, word, fault, &core);
+    let written = write_stopped(text, word, fault, &core);
     let file = core.stop().left();
     written?;
     match word {
-        "acked" => tell_restarted(text, alloc, setting, file),
+        "acked" => write_restarted(text, alloc, setting, file),
         _ => Ok(()),
     }
 }
 
-/// Tells of a run what the word asks.
-fn tell_run<R: Clock>(
+/// Writes the answer about a run.
+fn write_run_of<R: Clock>(
     text: &mut String,
     alloc: Global,
     setting: Setting<'_>,
@@ -141,15 +141,15 @@ fn tell_run<R: Clock>(
 ) -> Result<(), RowError> {
     match ended {
         Ok(Report { core, told }) => {
-            let written = tell_end(text, alloc, setting.globals, word, &core, &told, watch);
+            let written = write_end_of(text, alloc, setting.globals, word, &core, &told, watch);
             let _ = core.stop();
             written
         }
-        Err(error) => tell_error(text, alloc, setting, word, error),
+        Err(error) => write_error_of(text, alloc, setting, word, error),
     }
 }
 
-/// Runs in threads as is written `WORD ROWS`, and tells of the run what the word asks.
+/// Runs in threads as is written `WORD ROWS`, and writes the answer about the run.
 pub fn write_run<R: Threads + Wait + Clock + Sync>(
     text: &mut String,
     rt: &R,
@@ -163,7 +163,7 @@ pub fn write_run<R: Threads + Wait + Clock + Sync>(
     let plan = plan_of(alloc, setting.text)?;
     let watch = Watch::new(rt, alloc, plan.resources(), terms.turns)?;
     let ended = run(rt, alloc, plan, terms, rows, &watch)?;
-    tell_run(text, alloc, setting, word, ended, &watch)?;
+    write_run_of(text, alloc, setting, word, ended, &watch)?;
     if watch.is_late() {
         text.push_str("; late")?;
     }

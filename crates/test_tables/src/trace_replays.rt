@@ -37,7 +37,7 @@ fn write_found(text: &mut String, found: &Replayed) -> Result<(), RowError> {
     Ok(())
 }
 
-/// Runs a trace again, which is written `MOMENTS: TEXT`, and writes what was found, or why it is refused.
+/// Runs a trace again, which is written `MOMENTS: TEXT`, and writes the result, or why it is refused.
 pub fn write_replay(
     text: &mut String,
     alloc: Global,
@@ -54,7 +54,7 @@ pub fn write_replay(
     }
 }
 
-/// Writes the budget that a trace tells, or why it is refused.
+/// Writes the budget in a trace, or why it is refused.
 pub fn write_budget(text: &mut String, alloc: Global, trace: &str) -> Result<(), RowError> {
     let trace = unescaped(alloc, trace)?;
     match trace_budget(&trace) {

@@ -34,7 +34,7 @@ pub fn write_trace_of(
     }
 }
 
-/// Writes what a writer gets of the trace of a core that takes 40 bytes.
+/// Writes the part of a core's trace that reaches a writer that takes 40 bytes.
 pub fn write_short_trace(text: &mut String, core: &Core<SimDisk>) -> Result<(), AllocError> {
     let mut trace: ArrayVec<u8, SHORT> = ArrayVec::new();
     match write_trace(core, &mut trace) {

@@ -1,4 +1,4 @@
-//! How deep the tree of a text is, and whether two texts have one tree.
+//! How deep the tree of a text is, and whether two texts have the same tree.
 
 use crate::answer::Answer;
 use crate::depths::depth_of;
@@ -11,7 +11,7 @@ use st_lex::Token;
 use st_types::{LibraryElement, Source};
 use std::alloc::Global;
 
-/// How deep a tree is of the form that stands before the text.
+/// How deep a tree is of the form that is written before the text.
 pub fn depth(out: &mut Answer, alloc: Global, asked: &str) -> Option<()> {
     let (form, written) = asked.split_once(' ')?;
     let tokens = tokens_of(alloc, written)?;
@@ -33,7 +33,7 @@ fn show_source(out: &mut Answer, shown: &Source) {
     show_bodies(out, shown)
 }
 
-/// What the tree of these tokens shows as, where they are one of this form.
+/// The text that shows the tree of these tokens, if they are one of this form.
 fn show(out: &mut Answer, alloc: Global, form: &str, tokens: &[Token]) -> Option<()> {
     match form {
         "expression" => show_expression(out, &expression(alloc, tokens)?),
@@ -45,7 +45,7 @@ fn show(out: &mut Answer, alloc: Global, form: &str, tokens: &[Token]) -> Option
     Some(())
 }
 
-/// What the tree of a text of this form shows as, with all its places.
+/// The text that shows the tree of a text of this form, with all its places.
 fn shown(alloc: Global, form: &str, written: &str) -> Option<String> {
     let tokens = tokens_of(alloc, written)?;
     let mut out = Answer::new(alloc);
@@ -53,7 +53,7 @@ fn shown(alloc: Global, form: &str, written: &str) -> Option<String> {
     out.finished().ok()
 }
 
-/// Whether both are there and are one.
+/// Whether both are there and are equal.
 fn are_same(this: Option<String>, that: Option<String>) -> Option<bool> {
     match (this, that) {
         (Some(this), Some(that)) => Some(this.as_str() == that.as_str()),
@@ -61,7 +61,7 @@ fn are_same(this: Option<String>, that: Option<String>) -> Option<bool> {
     }
 }
 
-/// Whether two texts have one tree of this form. Its places count.
+/// Whether two texts have the same tree of this form. Its places count.
 pub fn sameness(out: &mut Answer, alloc: Global, form: &str, written: &str) -> Option<()> {
     let (this, that) = written.split_once(" // ")?;
     let is_same = are_same(shown(alloc, form, this), shown(alloc, form, that))?;

@@ -26,7 +26,7 @@ pub fn show_value(out: &mut Answer, value: Value) {
     }
 }
 
-/// Writes the value that is written `INT 5`, or the fault that it is.
+/// Writes the value that is written `INT 5`, or the fault that comes in its place.
 pub fn write_value(out: &mut Answer, written: &str) -> Option<()> {
     let (kind, number) = typed(written)?;
     match Value::new(kind, number) {

@@ -1,4 +1,4 @@
-//! A gate that counts what it is told, and may hold two resources in turn.
+//! A gate that counts the answers to resources, and may hold two of them in turn.
 
 use durable_core::Answer;
 use plc_threads::{Gate, Machine};
@@ -12,14 +12,14 @@ use std::time::Duration;
 /// For how many milliseconds a worker is held at most, all in all.
 const TURNS: u64 = 10_000;
 
-/// What was seen of a resource.
+/// The counts of a resource.
 #[derive(Drop)]
 pub struct Seen {
     /// How often it was between a run and its commit.
     between: AtomicU64,
-    /// How often it was told Committed.
+    /// How often it got Committed.
     committed: AtomicU64,
-    /// The length that it was told last with it.
+    /// The length that it got last with it.
     pub last: AtomicU64,
 }
 
@@ -33,8 +33,8 @@ impl Seen {
     }
 }
 
-/// Counts what each resource does. It may hold resource 0 until resource 1 was told Committed, and resource 1 until
-/// resource 0 is between a run and its commit, so many times.
+/// Counts the steps of each resource. It may hold resource 0 until resource 1 got Committed, and resource 1 until resource 0
+/// is between a run and its commit, `turns` times.
 #[derive(Drop)]
 pub struct Watch<'a, R: Clock> {
     rt: &'a R,
@@ -63,12 +63,12 @@ impl<'a, R: Clock> Watch<'a, R> {
         })
     }
 
-    /// Whether a resource was held to no end.
+    /// Whether a resource was held in vain.
     pub fn is_late(&self) -> bool {
         self.late.load(Ordering::SeqCst)
     }
 
-    /// Holds the worker until the number is so great.
+    /// Holds the worker until the number reaches the least.
     fn hold(&self, number: &AtomicU64, least: u64) {
         for _ in 0..TURNS {
             if number.load(Ordering::SeqCst) >= least || self.is_late() {

@@ -1,4 +1,4 @@
--- What the first line of the rest of a trace tells.
+-- The meaning of the first line of the rest of a trace.
 use Rattle.std.proofs.Common.{◌≡◌, ◌∙◌, ap, sym, refl, subst, ℕ, ◌+◌, ◌<◌, ◌≤◌, ◌^◌, Bool, true, false, List, [], ◌∷◌, ◌++◌, length}
 use Rattle.std.proofs.Common.{Option, Some, None, option_map, arith, slice_get, get_or, length-append}
 use Rattle.std.specs.Prelude.{codes, nat_lt, option_and_then, ◌-◌, Ok, Err}
@@ -7,7 +7,7 @@ use Rattle.std.specs.Fmt.{decimal}
 use Rattle.std.proofs.lemmas.Bool.{and_parts}
 use Rattle.std.proofs.lemmas.Bool.Decides.{nat_tests}
 use Rattle.std.proofs.lemmas.List.{append_cancel_left}
-use Rattle.std.proofs.lemmas.Option.{slice_get-get_or, slice_get-map}
+use Rattle.std.proofs.lemmas.Option.{slice_get-get_or, slice_get-map, some_pair_parts}
 use Rattle.st_types.specs.declared.limits.TheConstants.{MAX_LOG_ROOM, MOMENT_LIMIT}
 use Rattle.st_meaning.specs.declared.outcome.Outcome.{Outcome}
 use Rattle.st_types.specs.SourceViews.{source_view}
@@ -23,15 +23,15 @@ use Rattle.st_meaning.specs.Logs.{outcomes_of, past_of, row_at, row_follows, wit
 use Rattle.st_meaning.specs.Stores.{Store}
 use Rattle.plan.specs.declared.task.ProgramInstance.{ProgramInstance}
 use Rattle.plan.specs.PlanViews.{plan_view, program_view}
-use Rattle.serial_core.specs.Steps.{CommitsWaiting, Latches, State, comes_later, grown, made, waits_in}
+use Rattle.serial_core.specs.Steps.{CommitsWaiting, Latches, State, comes_later, grown, past_in, waits_in}
 use Rattle.serial_core.specs.declared.refusal.Refusal.{Refusal}
 use Rattle.serial_core.specs.declared.refusal.Refusal.TheVariants as refusals
 use Rattle.serial_core.proofs.OutcomeLemmas.{outcomes_of-add}
 use Rattle.trace.specs.Rests.{Grows, IsRest, outcome_in, rows_in}
-use Rattle.trace.specs.Texts.{told_text}
+use Rattle.trace.specs.Texts.{row_outcome_text}
 use Rattle.trace.specs.Texts.{done_line, instance_text, line, outcome_text}
-use Rattle.trace.specs.Reads.{Follows}
-use Rattle.trace.proofs.ReadLemmas.{both_are, none_some}
+use Rattle.trace.specs.Reads.{IsRestAfter}
+use Rattle.trace.proofs.ReadLemmas.{none_some}
 use Rattle.trace.proofs.TraceLemmas.{outcomes_long}
 use Rattle.trace.proofs.RestLemmas.{done_parts, first_line, head_is, program_there, rest_text}
 use Rattle.trace.proofs.RestLemmas.{same_program, waited}
@@ -48,7 +48,7 @@ pub record FirstRow (life : State) (rows : List Latch) (text : List ℕ) : Type 
   pub rest : List ℕ
   pub told : text ≡ (decimal row.moment ++ 10 ∷ []) ++ rest
   pub behind : List Latch
-  pub rows_are : rows ≡ (made life).rows ++ row ∷ behind
+  pub rows_are : rows ≡ (past_in life).rows ++ row ∷ behind
 
 early_of : (plan : plans.Plan) (row : Latch) → fits plan row ≡ true → row.moment < MOMENT_LIMIT
 early_of plan row h =
@@ -64,7 +64,7 @@ pub first_row : (life : State) (rows : List Latch) (text : List ℕ) (more : Log
 first_row life rows text [] left = let bad = head_is 114 101 _ _ left.spelled in absurd (omega arith)
 first_row life rows text (Done a ∷ more) left = let bad = head_is 114 100 _ _ left.spelled in absurd (omega arith)
 first_row life rows text (Row row ∷ more) left =
-    let may = follows (plan_view life.plan) life.before (made life) row left.legal.0 in record {
+    let may = follows (plan_view life.plan) life.before (past_in life) row left.legal.0 in record {
       row = row;
       fits_plan = may.0;
       early = early_of (plan_view life.plan) row may.0;
@@ -77,7 +77,7 @@ first_row life rows text (Row row ∷ more) left =
       rows_are = left.rows_are;
     }
 
--- the element behind a list
+-- the element after a list
 pub got_behind : {X : Type 0} (xs : List X) (y : X) (zs : List X) → slice_get (xs ++ y ∷ zs) (length xs) ≡ Some y
 got_behind [] y zs = refl
 got_behind (x ∷ xs) y zs = got_behind xs y zs
@@ -105,9 +105,9 @@ pub record FirstDone (life : State) (field : List ℕ) (program : ℕ) : Type 0 
   pub ends : outcome_in life (Done record { program = program; row = row }) ≡ Some outcome
   pub room : length life.log < MAX_LOG_ROOM
   pub rest : List ℕ
-  pub told : field ≡ told_text (row, outcome) ++ rest
+  pub told : field ≡ row_outcome_text (row, outcome) ++ rest
 
--- the line of an execution tells its program, its row and how it ended
+-- the line of an execution gives its program, its row and how it ended
 pub record IsDone (life : State) (text : List ℕ) : Type 0 where
   pub activation : Activation
   pub program : ProgramInstance
@@ -118,22 +118,22 @@ pub record IsDone (life : State) (text : List ℕ) : Type 0 where
   pub ends : outcome_in life (Done activation) ≡ Some outcome
   pub room : length life.log < MAX_LOG_ROOM
   pub rest : List ℕ
-  pub told : text ≡ (instance_text (Some program) ++ codes " ") ++ (told_text (activation.row, outcome) ++ rest)
+  pub told : text ≡ (instance_text (Some program) ++ codes " ") ++ (row_outcome_text (activation.row, outcome) ++ rest)
 
 pub is_done : (life : State) (rows : List Latch) (text : List ℕ) (more : Log)
     → IsRest life rows (codes "done " ++ text) more → IsDone life text
 is_done life rows text [] left = let bad = head_is 100 101 _ _ left.spelled in absurd (omega arith)
 is_done life rows text (Row row ∷ more) left = let bad = head_is 100 114 _ _ left.spelled in absurd (omega arith)
 is_done life rows text (Done a ∷ more) left =
-    let waits = waited (plan_view life.plan) life.before (made life) a left.legal.0 in
-    let (q, at) = program_there life.plan (made life) a waits in
-    let there = (Waits-there (schedules_of (plan_view life.plan)) (made life).history a waits).1 in
+    let waits = waited (plan_view life.plan) life.before (past_in life) a left.legal.0 in
+    let (q, at) = program_there life.plan (past_in life) a waits in
+    let there = (Waits-there (schedules_of (plan_view life.plan)) (past_in life).history a waits).1 in
     let few = sampled_few (plan_view life.plan) (beginning life.start) life.log in
-    let row = row_at (made life).rows a.row in
+    let row = row_at (past_in life).rows a.row in
     let view = program_view (source_view life.plan.text.value) in
-    let o = ended_by (plan_view life.plan) (made life) row (view q) in
+    let o = ended_by (plan_view life.plan) (past_in life) row (view q) in
     let ends : outcome_in life (Done a) ≡ Some o =
-    ap (option_map (ended_by (plan_view life.plan) (made life) row))
+    ap (option_map (ended_by (plan_view life.plan) (past_in life) row))
     (slice_get-map view life.plan.programs.items a.program ∙ ap (option_map view) at) in record {
       activation = a;
       program = q;
@@ -145,7 +145,7 @@ is_done life rows text (Done a ∷ more) left =
       room = omega (arith, left.few);
       rest = rest_text life (Done a) more;
       told = append_cancel_left (codes "done ") text
-          ((instance_text (Some q) ++ codes " ") ++ (told_text (a.row, o) ++ rest_text life (Done a) more))
+          ((instance_text (Some q) ++ codes " ") ++ (row_outcome_text (a.row, o) ++ rest_text life (Done a) more))
           (first_line life rows (codes "done " ++ text) (Done a) more left
           ∙ ap (λ p. done_line p a.row (outcome_in life (Done a)) ++ rest_text life (Done a) more) at
           ∙ ap (λ u. done_line (Some q) a.row u ++ rest_text life (Done a) more) ends
@@ -160,14 +160,14 @@ first_done life rows field program q more at left =
     let d = is_done life rows ((instance_text (Some q) ++ codes " ") ++ field) more left in
     let a = d.activation in
     let same : program ≡ a.program = same_program life.plan program a.program q d.program field
-    (told_text (a.row, d.outcome) ++ d.rest) at d.at d.told in
+    (row_outcome_text (a.row, d.outcome) ++ d.rest) at d.at d.told in
     let one : Some q ≡ Some d.program = sym at ∙ ap (slice_get life.plan.programs.items) same ∙ d.at in
     let is : q ≡ d.program = cc in
     let act : ◌≡◌ {A = Activation} a record { program = program; row = a.row } =
     ap (λ n. record { program = n; row = a.row }) (sym same) in
     let told : (instance_text (Some q) ++ codes " ") ++ field
-    ≡ (instance_text (Some q) ++ codes " ") ++ (told_text (a.row, d.outcome) ++ d.rest) =
-    d.told ∙ ap (λ x. (instance_text (Some x) ++ codes " ") ++ (told_text (a.row, d.outcome) ++ d.rest)) (sym is) in
+    ≡ (instance_text (Some q) ++ codes " ") ++ (row_outcome_text (a.row, d.outcome) ++ d.rest) =
+    d.told ∙ ap (λ x. (instance_text (Some x) ++ codes " ") ++ (row_outcome_text (a.row, d.outcome) ++ d.rest)) (sym is) in
     record {
       row = a.row;
       outcome = d.outcome;
@@ -176,7 +176,7 @@ first_done life rows field program q more at left =
       ends = subst (λ (x : Activation). outcome_in life (Done x) ≡ Some d.outcome) act d.ends;
       room = d.room;
       rest = d.rest;
-      told = append_cancel_left (instance_text (Some q) ++ codes " ") field (told_text (a.row, d.outcome) ++ d.rest) told;
+      told = append_cancel_left (instance_text (Some q) ++ codes " ") field (row_outcome_text (a.row, d.outcome) ++ d.rest) told;
     }
 
 -- ---- how a life grows
@@ -191,18 +191,18 @@ next_is [] (z ∷ left) y at = (left, ap (λ x. x ∷ left) (some_in z y at))
 next_is (x ∷ xs) left y at = next_is xs left y at
 
 pub row_grows : (old new : State) (rows left : List Latch) (text rest : List ℕ) (row : Latch) (moment : ℕ)
-    → rows ≡ (made old).rows ++ left → slice_get rows (length (made old).rows) ≡ Some row
+    → rows ≡ (past_in old).rows ++ left → slice_get rows (length (past_in old).rows) ≡ Some row
     → fits (plan_view old.plan) row ≡ true → comes_later old row ≡ true → row.moment ≡ moment
     → text ≡ (decimal moment ++ 10 ∷ []) ++ rest → new ≡ grown old (Row row)
     → Grows old rows (codes "row " ++ text) rest new
 row_grows old new rows left text rest row moment rows_are at fit later same told is =
-    let next = next_is (made old).rows left row (ap (λ xs. slice_get xs (length (made old).rows)) (sym rows_are) ∙ at) in
+    let next = next_is (past_in old).rows left row (ap (λ xs. slice_get xs (length (past_in old).rows)) (sym rows_are) ∙ at) in
     record {
       entry = Row row;
       grown_by = is;
       legal = (row_follows row fit later, tt);
       behind = next.0;
-      rows_are = rows_are ∙ ap (λ xs. (made old).rows ++ xs) next.1;
+      rows_are = rows_are ∙ ap (λ xs. (past_in old).rows ++ xs) next.1;
       spelled = ap (λ t. codes "row " ++ t) (told ∙ ap (λ n. (decimal n ++ 10 ∷ []) ++ rest) (sym same));
     }
 
@@ -224,7 +224,7 @@ pub done_ended : (old new : State) (program row n : ℕ) → waits_in old record
     ≡ outcome_in old (Done record { program = program; row = row }))
 done_ended old new program row n waits commits =
     let (r, w, room, is, len) = commits in
-    let same : r ≡ row = Waits-same (schedules_of (plan_view old.plan)) (made old).history program r row w waits in
+    let same : r ≡ row = Waits-same (schedules_of (plan_view old.plan)) (past_in old).history program r row w waits in
     let a : Activation = record { program = program; row = row } in
     let now : new ≡ grown old (Done a) = is ∙ ap (λ k. grown old (Done record { program = program; row = k })) same in (
       now,
@@ -236,9 +236,9 @@ done_ended old new program row n waits commits =
     )
 
 pub done_grows : (old new : State) (rows left : List Latch) (text field rest : List ℕ) (program row n : ℕ)
-    (outcome : Outcome) (q : ProgramInstance) → rows ≡ (made old).rows ++ left
+    (outcome : Outcome) (q : ProgramInstance) → rows ≡ (past_in old).rows ++ left
     → slice_get old.plan.programs.items program ≡ Some q → text ≡ (instance_text (Some q) ++ codes " ") ++ field
-    → field ≡ told_text (row, outcome) ++ rest → waits_in old record { program = program; row = row }
+    → field ≡ row_outcome_text (row, outcome) ++ rest → waits_in old record { program = program; row = row }
     → CommitsWaiting old program (Ok (Some n)) new
     → outcome_text (option_and_then (λ o. o) (slice_get (outcomes_of (plan_view new.plan) new.start new.log) (n - 1)))
     ≡ outcome_text (Some outcome) → Grows old rows (codes "done " ++ text) rest new
@@ -278,22 +278,22 @@ latch_refused old new rows text row refusals.NoMemory room latches f is = latche
 
 -- the plant's next row is the one that follows
 pub same_row : (old : State) (rows : List Latch) (text : List ℕ) (i : ℕ) (row : Latch) → (f : FirstRow old rows text)
-    → i ≡ length (made old).rows → i < length rows → row ≡ get_or rows i row → row ≡ f.row
+    → i ≡ length (past_in old).rows → i < length rows → row ≡ get_or rows i row → row ≡ f.row
 same_row old rows text i row f at small is =
     let here : slice_get rows i ≡ Some row = slice_get-get_or rows i row small ∙ ap Some (sym is) in
     let told : slice_get rows i ≡ Some f.row =
-    ap (slice_get rows) at ∙ ap (λ xs. slice_get xs (length (made old).rows)) f.rows_are
-    ∙ got_behind (made old).rows f.row f.behind in
+    ap (slice_get rows) at ∙ ap (λ xs. slice_get xs (length (past_in old).rows)) f.rows_are
+    ∙ got_behind (past_in old).rows f.row f.behind in
     some_latch row f.row (sym here ∙ told)
   where
     some_latch : (a b : Latch) → ◌≡◌ {A = Option Latch} (Some a) (Some b) → a ≡ b
     some_latch a b e = cc
 
-pub first_told : (life : State) (rows : List Latch) (text field : List ℕ) (program : ℕ) (q : ProgramInstance) (more : Log)
+pub first_resolved_kind : (life : State) (rows : List Latch) (text field : List ℕ) (program : ℕ) (q : ProgramInstance) (more : Log)
     → slice_get life.plan.programs.items program ≡ Some q
     → text ≡ (instance_text (Some q) ++ codes " ") ++ field → IsRest life rows (codes "done " ++ text) more
     → FirstDone life field program
-first_told life rows text field program q more at told left =
+first_resolved_kind life rows text field program q more at told left =
     first_done life rows field program q more at
     (subst (λ t. IsRest life rows (codes "done " ++ t) more) told left)
 
@@ -310,16 +310,16 @@ pub is_told : (life : State) (field rest : List ℕ) (program row : ℕ) (outcom
     → ◌≡◌ {A = Option ((ℕ × Outcome) × List ℕ)} (Some ((row, outcome), rest)) (Some ((f.row, f.outcome), f.rest))
     → IsTold life program row outcome
 is_told life field rest program row outcome f e =
-    let one = told_parts row f.row outcome f.outcome (both_are (row, outcome) (f.row, f.outcome) rest f.rest e).0 in
+    let one = told_parts row f.row outcome f.outcome (some_pair_parts (row, outcome) (f.row, f.outcome) rest f.rest e).0 in
     let (row_is, outcome_is) = one in record {
       waits = subst (λ n. waits_in life record { program = program; row = n }) (sym row_is) f.waits;
       ends = subst (λ n. outcome_in life (Done record { program = program; row = n }) ≡ Some outcome) (sym row_is)
           (f.ends ∙ ap Some (sym outcome_is));
     }
 
--- where no line of an entry stands, no entry is left
-pub no_entry : (life : State) (rows : List Latch) (text : List ℕ) → Follows text (codes "row ") None
-    → Follows text (codes "done ") None → (more : Log) → IsRest life rows text more → more ≡ []
+-- if there is no line of an entry, no entry is left
+pub no_entry : (life : State) (rows : List Latch) (text : List ℕ) → IsRestAfter text (codes "row ") None
+    → IsRestAfter text (codes "done ") None → (more : Log) → IsRest life rows text more → more ≡ []
 no_entry life rows text row done [] left = refl
 no_entry life rows text row done (Row r ∷ more) left =
     none_some ((decimal r.moment ++ 10 ∷ []) ++ rest_text life (Row r) more)

@@ -11,10 +11,11 @@ use Rattle.serial_core.specs.Retained.{paired, retained_kinds, retained_paths}
 use Rattle.std.specs.Prelude.{codes}
 use Rattle.st_meaning.specs.Layouts.{Enumerations, path_text}
 use Rattle.st_print.specs.Spelling.{value_text}
-use Rattle.trace.specs.Reads.{Begins, Follows}
-use Rattle.trace.proofs.ReadLemmas.{begins_as, begins_behind, begins_not, both_are}
+use Rattle.trace.specs.Reads.{BeginsWith, IsRestAfter}
+use Rattle.trace.proofs.ReadLemmas.{begins_as, begins_behind, begins_not}
 use Rattle.trace.specs.Heads.{AreKept, kept_lines}
 use Rattle.trace.specs.Texts.{keep_line, keep_text}
+use Rattle.std.proofs.lemmas.Option.{some_pair_parts}
 
 -- with the names of these enumerated types
 module _ (types : Enumerations) where
@@ -23,7 +24,7 @@ module _ (types : Enumerations) where
   MayHold v d = (d.kind ≡ v.initial.kind) × IsHeld d
 
   -- there is no variable
-  pub kept_none : (text : List ℕ) → Begins (AreKept []) (kept_lines types []) text (Some ([], text))
+  pub kept_none : (text : List ℕ) → BeginsWith (AreKept []) (kept_lines types []) text (Some ([], text))
   kept_none text = (((refl, tt), refl), only)
     where
       only : (ws : List Datum) (rest : List ℕ) → AreKept [] ws → text ≡ kept_lines types [] ws ++ rest
@@ -39,12 +40,12 @@ module _ (types : Enumerations) where
   lines_if v vs r ws = keep_text types (paired (if r then v.path ∷ retained_paths vs else retained_paths vs) ws)
 
   abbrev ReadIf : PlanVariable → List PlanVariable → List ℕ → Option (List Datum × List ℕ) → Bool → Type 0
-  ReadIf v vs text o r = Begins (KeptIf v vs r) (lines_if v vs r) text o
+  ReadIf v vs text o r = BeginsWith (KeptIf v vs r) (lines_if v vs r) text o
 
   -- a variable that is not retained has no line
   pub kept_skip : (v : PlanVariable) (vs : List PlanVariable) (text : List ℕ) (o : Option (List Datum × List ℕ))
-      → v.retained ≡ false → Begins (AreKept vs) (kept_lines types vs) text o
-      → Begins (AreKept (v ∷ vs)) (kept_lines types (v ∷ vs)) text o
+      → v.retained ≡ false → BeginsWith (AreKept vs) (kept_lines types vs) text o
+      → BeginsWith (AreKept (v ∷ vs)) (kept_lines types (v ∷ vs)) text o
   kept_skip v vs text o is rest = subst (ReadIf v vs text o) (sym is) rest
 
   kinds_are : (a b : Kind) (xs ys : List Kind) → a ∷ xs ≡ b ∷ ys → (a ≡ b) × (xs ≡ ys)
@@ -57,8 +58,8 @@ module _ (types : Enumerations) where
   -- a retained variable has its line, and then the others have theirs
   pub kept_more : (v : PlanVariable) (vs : List PlanVariable) (text mid : List ℕ) (w : Datum)
       (o : Option (List Datum × List ℕ)) → v.retained ≡ true
-      → Begins (MayHold v) (keep_line types v.path) text (Some (w, mid)) → Begins (AreKept vs) (kept_lines types vs) mid o
-      → Begins (AreKept (v ∷ vs)) (kept_lines types (v ∷ vs)) text (with_first w o)
+      → BeginsWith (MayHold v) (keep_line types v.path) text (Some (w, mid)) → BeginsWith (AreKept vs) (kept_lines types vs) mid o
+      → BeginsWith (AreKept (v ∷ vs)) (kept_lines types (v ∷ vs)) text (with_first w o)
   kept_more v vs text mid w o is first next = subst (ReadIf v vs text (with_first w o)) (sym is) (there o next.0, only)
     where
       there : (u : Option (List Datum × List ℕ)) → IfSome u (λ p. AreKept vs p.0 × (mid ≡ kept_lines types vs p.0 ++ p.1))
@@ -75,14 +76,14 @@ module _ (types : Enumerations) where
       only [] rest may e = let bad = may.0 in absurd (cc)
       only (x ∷ xs) rest may e =
           let kinds = kinds_are _ _ _ _ may.0 in
-          let one = both_are w x mid (kept_lines types vs xs ++ rest) (first.1 x (kept_lines types vs xs ++ rest) (kinds.0, may.1.0)
+          let one = some_pair_parts w x mid (kept_lines types vs xs ++ rest) (first.1 x (kept_lines types vs xs ++ rest) (kinds.0, may.1.0)
           (e ∙ append_assoc (keep_line types v.path x) (kept_lines types vs xs) rest)) in
           let more = next.1 xs rest (kinds.1, may.1.1) one.1 in
           ap (with_first w) more ∙ ap (λ d. Some (d ∷ xs, rest)) one.0
 
   -- it has none
   pub kept_not : (v : PlanVariable) (vs : List PlanVariable) (text : List ℕ) → v.retained ≡ true
-      → Begins (MayHold v) (keep_line types v.path) text None → Begins (AreKept (v ∷ vs)) (kept_lines types (v ∷ vs)) text None
+      → BeginsWith (MayHold v) (keep_line types v.path) text None → BeginsWith (AreKept (v ∷ vs)) (kept_lines types (v ∷ vs)) text None
   kept_not v vs text is first = subst (ReadIf v vs text None) (sym is) (tt, only)
     where
       only : (ws : List Datum) (rest : List ℕ) → KeptIf v vs true ws → text ≡ lines_if v vs true ws ++ rest
@@ -93,7 +94,7 @@ module _ (types : Enumerations) where
           let bad = first.1 x (kept_lines types vs xs ++ rest) (kinds.0, may.1.0)
           (e ∙ append_assoc (keep_line types v.path x) (kept_lines types vs xs) rest) in absurd (cc)
 
-  -- behind these values
+  -- after these values
   abbrev pub with_all : List Datum → Option (List Datum × List ℕ) → Option (List Datum × List ℕ)
   with_all ws o = option_map {T = List Datum × List ℕ} {U = List Datum × List ℕ} (λ p. (ws ++ p.0, p.1)) o
 
@@ -106,22 +107,22 @@ module _ (types : Enumerations) where
   all_more ws w None = refl
   all_more ws w (Some p) = ap (λ ds. Some (ds, p.1)) (sym (append_assoc ws (w ∷ []) p.0))
 
-  -- a variable's line, by its words and what stands behind them
+  -- a variable's line, by its words and the text after them
   line_is : (v : PlanVariable) (words : List ℕ) → words ≡ (codes "keep " ++ path_text v.path) ++ codes " " → (d : Datum)
       → words ++ (value_text types d ++ 10 ∷ []) ≡ keep_line types v.path d
   line_is v words is d = ap (λ w. w ++ (value_text types d ++ 10 ∷ [])) is
       ∙ sym (append_assoc ((codes "keep " ++ path_text v.path) ++ codes " ") (value_text types d) (10 ∷ []))
 
   pub keep_begins : (v : PlanVariable) (text field words : List ℕ) (o : Option (Datum × List ℕ))
-      → words ≡ (codes "keep " ++ path_text v.path) ++ codes " " → Follows text words (Some field)
-      → Begins (MayHold v) (λ d. value_text types d ++ 10 ∷ []) field o → Begins (MayHold v) (keep_line types v.path) text o
+      → words ≡ (codes "keep " ++ path_text v.path) ++ codes " " → IsRestAfter text words (Some field)
+      → BeginsWith (MayHold v) (λ d. value_text types d ++ 10 ∷ []) field o → BeginsWith (MayHold v) (keep_line types v.path) text o
   keep_begins v text field words o is follows next =
       begins_as (MayHold v) (MayHold v) (λ d. words ++ (value_text types d ++ 10 ∷ [])) (keep_line types v.path) text o
       (λ d may. may) (λ d may. may) (line_is v words is)
       (begins_behind (MayHold v) (λ d. value_text types d ++ 10 ∷ []) text field words o follows next)
 
   pub keep_not : (v : PlanVariable) (text words : List ℕ) → words ≡ (codes "keep " ++ path_text v.path) ++ codes " "
-      → Follows text words None → Begins (MayHold v) (keep_line types v.path) text None
+      → IsRestAfter text words None → BeginsWith (MayHold v) (keep_line types v.path) text None
   keep_not v text words is follows =
       begins_as (MayHold v) (MayHold v) (λ d. words ++ (value_text types d ++ 10 ∷ [])) (keep_line types v.path) text None
       (λ d may. may) (λ d may. may) (line_is v words is)
@@ -129,20 +130,20 @@ module _ (types : Enumerations) where
 
   -- ---- one variable after another
 
-  -- the lines of these variables are read, where those from this one on are
+  -- the lines of these variables are read, if those from this one on are
   abbrev pub IsReadTo : List PlanVariable → ℕ → List ℕ → List ℕ → List Datum → Type 0
   IsReadTo vs i whole text values = (o : Option (List Datum × List ℕ))
-      → Begins (AreKept (drop i vs)) (kept_lines types (drop i vs)) text o
-      → Begins (AreKept vs) (kept_lines types vs) whole (with_all values o)
+      → BeginsWith (AreKept (drop i vs)) (kept_lines types (drop i vs)) text o
+      → BeginsWith (AreKept vs) (kept_lines types vs) whole (with_all values o)
 
   pub kept_next : (vs : List PlanVariable) (i : ℕ) (v : PlanVariable) (whole text mid : List ℕ) (values : List Datum)
       (w : Datum) → i < length vs → v ≡ get_or vs i v → v.retained ≡ true
-      → Begins (MayHold v) (keep_line types v.path) text (Some (w, mid)) → IsReadTo vs i whole text values
+      → BeginsWith (MayHold v) (keep_line types v.path) text (Some (w, mid)) → IsReadTo vs i whole text values
       → IsReadTo vs (i + 1) whole mid (values ++ w ∷ [])
   kept_next vs i v whole text mid values w small is retained first so_far o next =
       let here : drop i vs ≡ v ∷ drop (i + 1) vs = drop_more vs i v small ∙ ap (λ x. x ∷ drop (i + 1) vs) (sym is) in
-      subst (λ (u : Option (List Datum × List ℕ)). Begins (AreKept vs) (kept_lines types vs) whole u) (all_more values w o)
-      (so_far (with_first w o) (subst (λ l. Begins (AreKept l) (kept_lines types l) text (with_first w o)) (sym here)
+      subst (λ (u : Option (List Datum × List ℕ)). BeginsWith (AreKept vs) (kept_lines types vs) whole u) (all_more values w o)
+      (so_far (with_first w o) (subst (λ l. BeginsWith (AreKept l) (kept_lines types l) text (with_first w o)) (sym here)
       (kept_more v (drop (i + 1) vs) text mid w o retained first next)))
 
   pub kept_past : (vs : List PlanVariable) (i : ℕ) (v : PlanVariable) (whole text : List ℕ) (values : List Datum)
@@ -150,21 +151,21 @@ module _ (types : Enumerations) where
       → IsReadTo vs (i + 1) whole text values
   kept_past vs i v whole text values small is retained so_far o next =
       let here : drop i vs ≡ v ∷ drop (i + 1) vs = drop_more vs i v small ∙ ap (λ x. x ∷ drop (i + 1) vs) (sym is) in
-      so_far o (subst (λ l. Begins (AreKept l) (kept_lines types l) text o) (sym here)
+      so_far o (subst (λ l. BeginsWith (AreKept l) (kept_lines types l) text o) (sym here)
       (kept_skip v (drop (i + 1) vs) text o retained next))
 
   pub kept_stop : (vs : List PlanVariable) (i : ℕ) (v : PlanVariable) (whole text : List ℕ) (values : List Datum)
-      → i < length vs → v ≡ get_or vs i v → v.retained ≡ true → Begins (MayHold v) (keep_line types v.path) text None
-      → IsReadTo vs i whole text values → Begins (AreKept vs) (kept_lines types vs) whole None
+      → i < length vs → v ≡ get_or vs i v → v.retained ≡ true → BeginsWith (MayHold v) (keep_line types v.path) text None
+      → IsReadTo vs i whole text values → BeginsWith (AreKept vs) (kept_lines types vs) whole None
   kept_stop vs i v whole text values small is retained none so_far =
       let here : drop i vs ≡ v ∷ drop (i + 1) vs = drop_more vs i v small ∙ ap (λ x. x ∷ drop (i + 1) vs) (sym is) in
-      so_far None (subst (λ l. Begins (AreKept l) (kept_lines types l) text None) (sym here)
+      so_far None (subst (λ l. BeginsWith (AreKept l) (kept_lines types l) text None) (sym here)
       (kept_not v (drop (i + 1) vs) text retained none))
 
   pub kept_end : (vs : List PlanVariable) (i : ℕ) (whole text : List ℕ) (values : List Datum) → i ≡ length vs
-      → IsReadTo vs i whole text values → Begins (AreKept vs) (kept_lines types vs) whole (Some (values, text))
+      → IsReadTo vs i whole text values → BeginsWith (AreKept vs) (kept_lines types vs) whole (Some (values, text))
   kept_end vs i whole text values at so_far =
       let end : drop i vs ≡ [] = ap (λ n. drop n vs) at ∙ drop-length vs in
-      subst (λ ds. Begins (AreKept vs) (kept_lines types vs) whole (Some (ds, text))) (append-nil values)
-      (so_far (Some ([], text)) (subst (λ l. Begins (AreKept l) (kept_lines types l) text (Some ([], text))) (sym end)
+      subst (λ ds. BeginsWith (AreKept vs) (kept_lines types vs) whole (Some (ds, text))) (append-nil values)
+      (so_far (Some ([], text)) (subst (λ l. BeginsWith (AreKept l) (kept_lines types l) text (Some ([], text))) (sym end)
       (kept_none text)))

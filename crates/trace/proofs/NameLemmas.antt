@@ -19,14 +19,16 @@ use Rattle.st_meaning.specs.declared.plan.PlanVariable.{PlanVariable}
 use Rattle.st_meaning.specs.Layouts.{Enumerations, path_text}
 use Rattle.st_meaning.specs.Scopes.{Name, contains_name}
 use Rattle.st_print.specs.Spelling.{name_at, name_of, named_or, value_text}
-use Rattle.plan.specs.Sound.{are_different, has_line, has_names, has_spelling, is_spelled}
-use Rattle.retain_records.specs.CutLaws.{has_no}
+use Rattle.plan.specs.Sound.{has_line, has_names, has_spelling, is_spelled}
+use Rattle.retain_records.specs.SplitLaws.{has_no}
 use Rattle.retain_records.specs.LineLaws.{spelling_in_line}
 use Rattle.retain_records.specs.Records.{by_names}
 use Rattle.trace.specs.NamedValues.{is_place, value_at_place, value_named}
-use Rattle.trace.specs.Reads.{Spells}
+use Rattle.trace.specs.Reads.{FieldSpells}
 use Rattle.trace.specs.NamedValues.{are_names_apart}
 use Rattle.trace.proofs.ValueLemmas.{MayBe, few_of, plain_value, spelled, text_is}
+use Rattle.durable_core.proofs.RecordLemmas.{HasNames, names_there}
+use Rattle.layout.specs.Names.{are_different}
 
 -- ---- a value of another type has no name
 
@@ -53,8 +55,8 @@ text_plain types v e = ap (λ n. named_or n (spelled v)) (no_name types v.kind v
 
 -- so it is spelled alike with any names
 pub plain_spells : (types : Enumerations) (kind : Kind) (field : List ℕ) (o : Option Datum)
-    → is_place (row_of kind).sort ≡ false → Spells (MayBe kind) (value_text []) field o
-    → Spells (MayBe kind) (value_text types) field o
+    → is_place (row_of kind).sort ≡ false → FieldSpells (MayBe kind) (value_text []) field o
+    → FieldSpells (MayBe kind) (value_text types) field o
 plain_spells types kind field o e told = (there o told.0, only)
   where
     same : (v : Datum) → v.kind ≡ kind → value_text types v ≡ value_text [] v
@@ -126,7 +128,7 @@ at_from field (x ∷ xs) i p e = elim (cases_Bool (bytes_eq field x)) [
       record { place = suc more.place; sum = omega (arith, more.sum); at = more.at }
 ]
 
--- what is found stands there
+-- a name that is found is at its place
 found_at : (field : Name) (names : List Name) (p : ℕ) → position (bytes_eq field) names ≡ Some p
     → slice_get names p ≡ Some field
 found_at field names p e =
@@ -135,19 +137,6 @@ found_at field names p e =
     ap (slice_get names) same ∙ is.at
 
 -- ---- values with their names
-
--- what is asked of the names of a type
-record HasNames (names : List Name) (n : ℕ) : Type 0 where
-  pub count : length names ≡ n
-  pub some : 1 ≤ n
-  pub each : list_all is_upper_name names ≡ true
-
-names_there : (names : List Name) (n : ℕ) → has_names (Some names) n ≡ true → HasNames names n
-names_there names n e =
-    let a = and_parts ((length names == n) && nat_le 1 n && nat_le n MAX_NAMES) (list_all is_upper_name names) e in
-    let b = and_parts ((length names == n) && nat_le 1 n) (nat_le n MAX_NAMES) a.0 in
-    let c = and_parts (length names == n) (nat_le 1 n) b.0 in
-    record { count = eqb-true (length names) n c.0; some = leb-true 1 n c.1; each = a.1 }
 
 there_at : (names : List Name) (m : ℕ) → m < length names → (y : Name) × (slice_get names m ≡ Some y)
 there_at [] m less = absurd (omega (arith, less))
@@ -202,9 +191,9 @@ text_named types n number names v m y kind is there at = ap (λ o. named_or o (s
 
 spells_named : (types : Enumerations) (n number : ℕ) (names : List Name) (field : List ℕ)
     → slice_get types number ≡ Some names → HasNames names n → are_different names ≡ true
-    → Spells (MayBe (Enumerated n number)) (value_text types) field (value_named types (Enumerated n number) field)
+    → FieldSpells (MayBe (Enumerated n number)) (value_text types) field (value_named types (Enumerated n number) field)
 spells_named types n number names field there h apart =
-    subst (λ (o : Option Datum). Spells (MayBe (Enumerated n number)) (value_text types) field o) (sym named)
+    subst (λ (o : Option Datum). FieldSpells (MayBe (Enumerated n number)) (value_text types) field o) (sym named)
     (given (position (bytes_eq field) names) refl, only)
   where
     named : value_named types (Enumerated n number) field ≡ option_and_then (value_at_place (Enumerated n number)) (position (bytes_eq field) names)
@@ -235,12 +224,12 @@ spells_named types n number names field there h apart =
 -- the value with a name is the one that it spells
 pub named_spells : (types : Enumerations) (kind : Kind) (field : List ℕ) → is_place (row_of kind).sort ≡ true
     → has_spelling types kind ≡ true → are_names_apart types ≡ true
-    → Spells (MayBe kind) (value_text types) field (value_named types kind field)
+    → FieldSpells (MayBe kind) (value_text types) field (value_named types kind field)
 named_spells types (Enumerated n number) field place spelled_so apart =
     by_names (slice_get types number) refl spelled_so
   where
     by_names : (o : Option (List Name)) → slice_get types number ≡ o → has_names o n ≡ true
-        → Spells (MayBe (Enumerated n number)) (value_text types) field (value_named types (Enumerated n number) field)
+        → FieldSpells (MayBe (Enumerated n number)) (value_text types) field (value_named types (Enumerated n number) field)
     by_names None there e = absurd cc
     by_names (Some names) there e =
         spells_named types n number names field there (names_there names n e) (apart_at types number names apart there)

@@ -7,7 +7,7 @@ use Rattle.std.specs.Io.KnownBytes.{Appends, Keeps}
 use Rattle.st_print.proofs.AppendLemmas.{appends_none, appends_both}
 use Rattle.trace.specs.Puts.{IsPut, Puts}
 
--- what no longer works stays so
+-- a writer that no longer works stays so
 pub put_nothing : (old : Option (List ℕ)) (bytes : List ℕ) → Puts old false old false bytes
 put_nothing old bytes first text was =
     (was.0, was.1 ++ bytes, ap (λ x. x ++ bytes) was.2 ∙ append_assoc was.0 was.1 bytes, was.3)
@@ -46,7 +46,7 @@ pub put_until : (old new : Option (List ℕ)) (works : Bool) (bytes front rest :
 put_until old new works bytes front rest is parts wrote first text was =
     put_part old new bytes front rest parts wrote first text (subst (λ b. IsPut first old b text) is was)
 
--- what was taken of the rest is written after the front
+-- the bytes taken of the rest are written after the front
 taken_parts : (bytes front rest : List ℕ) (n : ℕ) → bytes ≡ front ++ rest → bytes ≡ (front ++ take n rest) ++ drop n rest
 taken_parts bytes front rest n parts =
     parts ∙ ap (λ x. front ++ x) (sym (take-append-drop n rest)) ∙ sym (append_assoc front (take n rest) (drop n rest))
@@ -104,12 +104,12 @@ both_more whole item step xs ys i x y before all small few is at so_far =
     ∙ ap (λ l. whole (drop i xs) l) (sym (drop_more ys i y few)))
     ∙ so_far
 
--- what was put since nothing was, all of it or a beginning
+-- the bytes that were put since nothing was, all of the text or a beginning
 pub put_all_of : (old new : Option (List ℕ)) (works : Bool) (bytes : List ℕ) → Puts old true new works bytes
     → IsPut old new works bytes
 put_all_of old new works bytes puts = puts old [] (appends_none old)
 
--- a list that held nothing holds what was put
+-- a list that held nothing holds the bytes that were put
 pub put_vec : (items bytes before : List ℕ) (works : Bool) → before ≡ [] → works ≡ true
     → Puts (Some before) true (Some items) works bytes → items ≡ bytes
 put_vec items bytes before works empty is puts =

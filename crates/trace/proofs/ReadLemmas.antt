@@ -9,28 +9,30 @@ use Rattle.std.proofs.lemmas.Bool.{and_from, and_parts}
 use Rattle.std.proofs.lemmas.Bool.Decides.{nat_tests, Decides-eqb}
 use Rattle.std.proofs.lemmas.Slice.Eq.{strip_prefix_is}
 use Rattle.std.specs.Cmp.Lexicographic.{pointwise}
-use Rattle.retain_records.specs.Cuts.{cut}
-use Rattle.retain_records.specs.CutLaws.{has_no, cut_takes, cut_again}
-use Rattle.trace.specs.Reads.{Begins, Follows, Spells}
+use Rattle.retain_records.specs.Splits.{split_at}
+use Rattle.retain_records.specs.SplitLaws.{has_no, split_takes, split_again}
+use Rattle.trace.specs.Reads.{BeginsWith, IsRestAfter, FieldSpells}
+use Rattle.std.proofs.lemmas.Option.{same_Some, some_pair_parts}
+use Rattle.retain_records.specs.LineLaws.{has_no_in_both}
 
 -- ---- words
 
 told : (text words : List ℕ) (r : Option (Bor (List ℕ)))
     → MatchOption r ((rest : List ℕ) → text ≢ words ++ rest) (λ x. text ≡ words ++ x.now)
-    → Follows text words (option_map (λ x. x.now) r)
+    → IsRestAfter text words (option_map (λ x. x.now) r)
 told text words None none = (tt, λ rest is. absurd (none rest is))
 told text words (Some x) is = (is, λ rest e. ap Some (append_cancel_left words x.now rest (sym is ∙ e)))
 
--- what `strip_prefix` tells
+-- the result of `strip_prefix`
 pub follows : (text words : List ℕ) (r : Option (Bor (List ℕ)))
     → MatchOption r (pointwise nat_eq (take (length words) text) words ≡ false)
     (λ x. (pointwise nat_eq (take (length words) text) words ≡ true) × (x.now ≡ drop (length words) text)
-    × (length x.now + length words ≡ length text)) → Follows text words (option_map (λ x. x.now) r)
+    × (length x.now + length words ≡ length text)) → IsRestAfter text words (option_map (λ x. x.now) r)
 follows text words r h = told text words r (strip_prefix_is Decides-eqb text words r h)
 
 -- words, and then others
-pub follows_both : (text mid v w : List ℕ) (o : Option (List ℕ)) → Follows text v (Some mid) → Follows mid w o
-    → Follows text (v ++ w) o
+pub follows_both : (text mid v w : List ℕ) (o : Option (List ℕ)) → IsRestAfter text v (Some mid) → IsRestAfter mid w o
+    → IsRestAfter text (v ++ w) o
 follows_both text mid v w None first next = (
   tt,
   λ rest is. next.1 rest (append_cancel_left v mid (w ++ rest) (sym first.0 ∙ is ∙ append_assoc v w rest)),
@@ -43,7 +45,7 @@ follows_both text mid v w (Some more) first next = (
 pub none_some : {A X : Type 0} (a : A) → ◌≡◌ {A = Option A} None (Some a) → X
 none_some a e = absurd (cc)
 
-pub follows_not : (text v w : List ℕ) → Follows text v None → Follows text (v ++ w) None
+pub follows_not : (text v w : List ℕ) → IsRestAfter text v None → IsRestAfter text (v ++ w) None
 follows_not text v w first = (
   tt,
   λ rest is. none_some (w ++ rest) (first.1 (w ++ rest) (is ∙ append_assoc v w rest)),
@@ -51,8 +53,8 @@ follows_not text v w first = (
 
 -- words, and then a spelling
 pub begins_behind : {A : Type 0} (May : A → Type 0) (spelling : A → List ℕ) (text mid words : List ℕ)
-    (o : Option (A × List ℕ)) → Follows text words (Some mid) → Begins May spelling mid o
-    → Begins May (λ a. words ++ spelling a) text o
+    (o : Option (A × List ℕ)) → IsRestAfter text words (Some mid) → BeginsWith May spelling mid o
+    → BeginsWith May (λ a. words ++ spelling a) text o
 begins_behind May spelling text mid words None first next = (
   tt,
   λ a rest may is. next.1 a rest may
@@ -65,7 +67,7 @@ begins_behind May spelling text mid words (Some p) first next = (
 )
 
 pub begins_not : {A : Type 0} (May : A → Type 0) (spelling : A → List ℕ) (text words : List ℕ)
-    → Follows text words None → Begins May (λ a. words ++ spelling a) text None
+    → IsRestAfter text words None → BeginsWith May (λ a. words ++ spelling a) text None
 begins_not May spelling text words first = (
   tt,
   λ a rest may is. none_some (spelling a ++ rest) (first.1 (spelling a ++ rest) (is ∙ append_assoc words (spelling a) rest)),
@@ -73,27 +75,18 @@ begins_not May spelling text words first = (
 
 -- ---- fields
 
-some_is : {A : Type 0} (a b : A) → ◌≡◌ {A = Option A} (Some a) (Some b) → a ≡ b
-some_is a b e = cc
-
-pub both_are : {A B : Type 0} (a x : A) (b y : B) → ◌≡◌ {A = Option (A × B)} (Some (a, b)) (Some (x, y))
-    → (a ≡ x) × (b ≡ y)
-both_are {A} {B} a x b y e =
-    let same : ◌≡◌ {A = A × B} (a, b) (x, y) = some_is (a, b) (x, y) e in
-    (ap (λ (p : A × B). p.0) same, ap (λ (p : A × B). p.1) same)
-
 abbrev pub with_rest : {A : Type 0} → List ℕ → Option A → Option (A × List ℕ)
 with_rest {A} rest o = option_map {T = A} {U = A × List ℕ} (λ a. (a, rest)) o
 
--- the first field is what it spells
+-- the first field is the value that it spells
 pub begins_field : {A : Type 0} (May : A → Type 0) (spelling : A → List ℕ) (mark : ℕ) (text field rest : List ℕ)
-    (o : Option A) → ((a : A) → May a → has_no mark (spelling a) ≡ true) → cut mark text ≡ Some (field, rest)
-    → Spells May spelling field o
-    → Begins May (λ a. spelling a ++ mark ∷ []) text (with_rest rest o)
+    (o : Option A) → ((a : A) → May a → has_no mark (spelling a) ≡ true) → split_at mark text ≡ Some (field, rest)
+    → FieldSpells May spelling field o
+    → BeginsWith May (λ a. spelling a ++ mark ∷ []) text (with_rest rest o)
 begins_field {A} May spelling mark text field rest o plain is spells = (there o spells.0, only)
   where
     whole : text ≡ field ++ mark ∷ rest
-    whole = cut_takes mark text (field, rest) is
+    whole = split_takes mark text (field, rest) is
 
     there : (u : Option A) → IfSome u (λ a. May a × (field ≡ spelling a))
         → IfSome {T = A × List ℕ} (with_rest rest u) (λ p. May p.0 × (text ≡ (spelling p.0 ++ mark ∷ []) ++ p.1))
@@ -106,30 +99,23 @@ begins_field {A} May spelling mark text field rest o plain is spells = (there o 
     only : (a : A) (more : List ℕ) → May a → text ≡ (spelling a ++ mark ∷ []) ++ more
         → with_rest rest o ≡ Some (a, more)
     only a more may e =
-        let again : cut mark text ≡ Some (spelling a, more) =
-        ap (cut mark) (e ∙ append_assoc (spelling a) (mark ∷ []) more) ∙ cut_again mark (spelling a) more (plain a may) in
+        let again : split_at mark text ≡ Some (spelling a, more) =
+        ap (split_at mark) (e ∙ append_assoc (spelling a) (mark ∷ []) more) ∙ split_again mark (spelling a) more (plain a may) in
         let same : ◌≡◌ {A = Option (List ℕ × List ℕ)} (Some (field, rest)) (Some (spelling a, more)) = sym is ∙ again in
-        let parts = both_are field (spelling a) rest more same in
+        let parts = some_pair_parts field (spelling a) rest more same in
         ap (with_rest rest) (spells.1 a may parts.0) ∙ ap (λ x. Some (a, x)) parts.1
 
 -- there is no such byte
 pub begins_no_field : {A : Type 0} (May : A → Type 0) (spelling : A → List ℕ) (mark : ℕ) (text : List ℕ)
-    → ((a : A) → May a → has_no mark (spelling a) ≡ true) → cut mark text ≡ None
-    → Begins May (λ a. spelling a ++ mark ∷ []) text None
+    → ((a : A) → May a → has_no mark (spelling a) ≡ true) → split_at mark text ≡ None
+    → BeginsWith May (λ a. spelling a ++ mark ∷ []) text None
 begins_no_field May spelling mark text plain is = (
   tt,
-  λ a more may e. none_some (spelling a, more) (sym is ∙ ap (cut mark) (e ∙ append_assoc (spelling a) (mark ∷ []) more)
-      ∙ cut_again mark (spelling a) more (plain a may)),
+  λ a more may e. none_some (spelling a, more) (sym is ∙ ap (split_at mark) (e ∙ append_assoc (spelling a) (mark ∷ []) more)
+      ∙ split_again mark (spelling a) more (plain a may)),
 )
 
 -- ---- spellings without a mark
-
-pub no_both : (mark : ℕ) (xs ys : List ℕ) → has_no mark xs ≡ true → has_no mark ys ≡ true
-    → has_no mark (xs ++ ys) ≡ true
-no_both mark [] ys h k = k
-no_both mark (x ∷ xs) ys h k =
-    let p = and_parts (not (x == mark)) (has_no mark xs) h in
-    and_from (not (x == mark)) (has_no mark (xs ++ ys)) p.0 (no_both mark xs ys p.1 k)
 
 -- no digit is the mark
 abbrev pub IsNoDigit : ℕ → Type 0
@@ -146,27 +132,27 @@ one_digit mark d none small = rw (none d small) refl
 
 pub plain_decimal : (mark n : ℕ) → IsNoDigit mark → n < 2 ^ 64 → has_no mark (decimal n) ≡ true
 plain_decimal mark n none = decimal_by_steps (λ n ds. has_no mark ds ≡ true) (λ n small. one_digit mark n none small)
-    (λ n ds big so_far. no_both mark ds ((48 + n % 10) ∷ []) so_far (one_digit mark (n % 10) none (omega arith))) n
+    (λ n ds big so_far. has_no_in_both mark ds ((48 + n % 10) ∷ []) so_far (one_digit mark (n % 10) none (omega arith))) n
 
--- what parses as a number and what is spelled as one
+-- a field that parses as a number, and one that is spelled as one
 pub spells_number : (field : List ℕ) (o : Option ℕ) → IfSome o (λ n. field ≡ decimal n)
     → IfNone o ((n : ℕ) → n < 2 ^ 64 → field ≢ decimal n) → IfSome o (λ n. n < 2 ^ 64)
-    → Spells (λ (n : ℕ). n < 2 ^ 64) decimal field o
+    → FieldSpells (λ (n : ℕ). n < 2 ^ 64) decimal field o
 spells_number field None is none small = (tt, λ n within e. absurd (none n within e))
 spells_number field (Some m) is none small = (
   (small, is),
   λ n within e. ap Some (decimal_injective m n small within (sym is ∙ e)),
 )
 
--- ---- one spelling behind another
+-- ---- one spelling after another
 
 abbrev pub with_before : {A B : Type 0} → A → Option (B × List ℕ) → Option ((A × B) × List ℕ)
 with_before {A} {B} a o = option_map {T = B × List ℕ} {U = (A × B) × List ℕ} (λ p. ((a, p.0), p.1)) o
 
 pub begins_both : {A B : Type 0} (May : A → Type 0) (spelling : A → List ℕ) (MayNext : B → Type 0)
     (next : B → List ℕ) (text mid : List ℕ) (a : A) (o : Option (B × List ℕ))
-    → Begins May spelling text (Some (a, mid)) → Begins MayNext next mid o
-    → Begins (λ (p : A × B). May p.0 × MayNext p.1) (λ p. spelling p.0 ++ next p.1) text (with_before a o)
+    → BeginsWith May spelling text (Some (a, mid)) → BeginsWith MayNext next mid o
+    → BeginsWith (λ (p : A × B). May p.0 × MayNext p.1) (λ p. spelling p.0 ++ next p.1) text (with_before a o)
 begins_both {A} {B} May spelling MayNext next text mid a o first second = (there o second.0, only)
   where
     there : (u : Option (B × List ℕ)) → IfSome u (λ p. MayNext p.0 × (mid ≡ next p.0 ++ p.1))
@@ -180,13 +166,13 @@ begins_both {A} {B} May spelling MayNext next text mid a o first second = (there
     only : (p : A × B) (rest : List ℕ) → May p.0 × MayNext p.1 → text ≡ (spelling p.0 ++ next p.1) ++ rest
         → with_before a o ≡ Some (p, rest)
     only (x, y) rest may e =
-        let one = both_are a x mid (next y ++ rest) (first.1 x (next y ++ rest) may.0
+        let one = some_pair_parts a x mid (next y ++ rest) (first.1 x (next y ++ rest) may.0
         (e ∙ append_assoc (spelling x) (next y) rest)) in
         ap (with_before a) (second.1 y rest may.1 one.1) ∙ ap (λ (z : A). Some ((z, y), rest)) one.0
 
 pub begins_not_both : {A B : Type 0} (May : A → Type 0) (spelling : A → List ℕ) (MayNext : B → Type 0)
-    (next : B → List ℕ) (text : List ℕ) → Begins May spelling text None
-    → Begins (λ (p : A × B). May p.0 × MayNext p.1) (λ p. spelling p.0 ++ next p.1) text None
+    (next : B → List ℕ) (text : List ℕ) → BeginsWith May spelling text None
+    → BeginsWith (λ (p : A × B). May p.0 × MayNext p.1) (λ p. spelling p.0 ++ next p.1) text None
 begins_not_both {A} {B} May spelling MayNext next text first = (tt, only)
   where
     only : (p : A × B) (rest : List ℕ) → May p.0 × MayNext p.1 → text ≡ (spelling p.0 ++ next p.1) ++ rest
@@ -194,10 +180,10 @@ begins_not_both {A} {B} May spelling MayNext next text first = (tt, only)
     only (x, y) rest may e = none_some (x, next y ++ rest) (first.1 x (next y ++ rest) may.0
         (e ∙ append_assoc (spelling x) (next y) rest))
 
--- the same, of what else may stand there and is spelled alike
+-- the same, for other values that may be there and are spelled alike
 pub begins_as : {A : Type 0} (May Also : A → Type 0) (spelling other : A → List ℕ) (text : List ℕ)
     (o : Option (A × List ℕ)) → ((a : A) → May a → Also a) → ((a : A) → Also a → May a)
-    → ((a : A) → spelling a ≡ other a) → Begins May spelling text o → Begins Also other text o
+    → ((a : A) → spelling a ≡ other a) → BeginsWith May spelling text o → BeginsWith Also other text o
 begins_as {A} May Also spelling other text o to from same begins = (
   there o begins.0,
   λ a rest may e. begins.1 a rest (from a may) (e ∙ ap (λ t. t ++ rest) (sym (same a))),

@@ -1,4 +1,4 @@
--- What is left of a trace.
+-- The rest of a trace.
 use Rattle.std.proofs.Common.{◌≡◌, ◌∙◌, ap, sym, refl, subst, ℕ, suc, ◌+◌, ◌<◌, ◌≤◌, List, [], ◌∷◌, ◌++◌, length, Option, Some}
 use Rattle.std.proofs.Common.{inl, inr, append_assoc, arith, slice_get, length-append, append-nil, map, option_map}
 use Rattle.std.specs.Prelude.{codes}
@@ -23,7 +23,7 @@ use Rattle.st_meaning.specs.Logs.{IsLegal, outcomes_from, outcomes_of, outcome_a
 use Rattle.plan.specs.declared.task.ProgramInstance.{ProgramInstance}
 use Rattle.plan.specs.declared.plan.Plan.{Plan}
 use Rattle.plan.specs.PlanViews.{plan_view}
-use Rattle.serial_core.specs.Steps.{State, grown, made}
+use Rattle.serial_core.specs.Steps.{State, grown, past_in}
 use Rattle.serial_core.proofs.OutcomeLemmas.{outcomes_of-add}
 use Rattle.trace.proofs.TraceLemmas.{outcomes_long}
 use Rattle.trace.specs.Rests.{Grows, IsNoRest, IsRest, outcome_in, rows_in, with_log}
@@ -60,21 +60,21 @@ log_text-add plan (x ∷ log) (p ∷ os) e o len =
     ap (λ t. entry_line plan x p ++ t) (log_text-add plan log os e o (omega (arith, len)))
     ∙ sym (append_assoc (entry_line plan x p) (log_text plan log os) (entry_line plan e o))
 
--- ---- what comes next
+-- ---- the next entry
 
 -- the program of an activation that waits
 abbrev pub ProgramAt : Plan → ℕ → Type 0
 ProgramAt plan p = (q : ProgramInstance) × (slice_get plan.programs.items p ≡ Some q)
 
--- what remains of a trace after this entry
+-- the rest of a trace after this entry
 after_entry : (old : State) (rows : List Latch) (rest : List ℕ) (e : Entry) (more : Log) (behind : List Latch)
-    → IsLegalFrom (plan_view old.plan) old.before (with_entry (plan_view old.plan) (made old) e) more
+    → IsLegalFrom (plan_view old.plan) old.before (with_entry (plan_view old.plan) (past_in old) e) more
     → length old.log + suc (length more) ≤ MAX_LOG_ROOM
-    → rows ≡ (with_entry (plan_view old.plan) (made old) e).rows ++ (rows_in more ++ behind)
-    → rest ≡ log_text old.plan more (outcomes_from (plan_view old.plan) (with_entry (plan_view old.plan) (made old) e) more)
+    → rows ≡ (with_entry (plan_view old.plan) (past_in old) e).rows ++ (rows_in more ++ behind)
+    → rest ≡ log_text old.plan more (outcomes_from (plan_view old.plan) (with_entry (plan_view old.plan) (past_in old) e) more)
     ++ end_line (length old.log + suc (length more)) → IsRest (grown old e) rows rest more
 after_entry old rows rest e more behind legal few rows_are spelled =
-    let now : with_entry (plan_view old.plan) (made old) e ≡ made (grown old e) =
+    let now : with_entry (plan_view old.plan) (past_in old) e ≡ past_in (grown old e) =
     sym (past_of-add (plan_view old.plan) old.start old.log e) in
     let len : length old.log + suc (length more) ≡ length (old.log ++ e ∷ []) + length more =
     omega (arith, length-append old.log (e ∷ [])) in record {
@@ -85,27 +85,27 @@ after_entry old rows rest e more behind legal few rows_are spelled =
       spelled = spelled
           ∙ ap (λ (p : Past). log_text old.plan more (outcomes_from (plan_view old.plan) p more)
           ++ end_line (length old.log + suc (length more))) now
-          ∙ ap (λ (n : ℕ). log_text old.plan more (outcomes_from (plan_view old.plan) (made (grown old e)) more)
+          ∙ ap (λ (n : ℕ). log_text old.plan more (outcomes_from (plan_view old.plan) (past_in (grown old e)) more)
           ++ end_line n) len;
     }
 
--- the entry that a trace goes on with is the one that its text tells
+-- the entry that a trace goes on with is the one in its text
 same_entry : (old : State) (rows : List Latch) (rest : List ℕ) (e f : Entry) (more : Log) → e ≡ f
     → IsRest old rows (entry_line old.plan f (outcome_in old f) ++ rest) (e ∷ more) → IsRest (grown old f) rows rest more
 same_entry old rows rest e f more is left =
     let o = outcome_in old f in
-    let past = with_entry (plan_view old.plan) (made old) f in
+    let past = with_entry (plan_view old.plan) (past_in old) f in
     let legal : IsLegalFrom (plan_view old.plan) old.before past more =
-    subst (λ (x : Entry). IsLegalFrom (plan_view old.plan) old.before (with_entry (plan_view old.plan) (made old) x) more)
+    subst (λ (x : Entry). IsLegalFrom (plan_view old.plan) old.before (with_entry (plan_view old.plan) (past_in old) x) more)
     is left.legal.1 in
     let spelled : entry_line old.plan f o ++ rest ≡ (entry_line old.plan f o
     ++ log_text old.plan more (outcomes_from (plan_view old.plan) past more))
     ++ end_line (length old.log + suc (length more)) =
     left.spelled ∙ ap (λ (x : Entry). (entry_line old.plan x (outcome_in old x)
-    ++ log_text old.plan more (outcomes_from (plan_view old.plan) (with_entry (plan_view old.plan) (made old) x) more))
+    ++ log_text old.plan more (outcomes_from (plan_view old.plan) (with_entry (plan_view old.plan) (past_in old) x) more))
     ++ end_line (length old.log + suc (length more))) is in
     let rows_are : rows ≡ past.rows ++ (rows_in more ++ left.behind) =
-    left.rows_are ∙ ap (λ (x : Entry). (made old).rows ++ (rows_in (x ∷ more) ++ left.behind)) is
+    left.rows_are ∙ ap (λ (x : Entry). (past_in old).rows ++ (rows_in (x ∷ more) ++ left.behind)) is
     ∙ split f in
     after_entry old rows rest f more left.behind legal left.few rows_are
     (append_cancel_left (entry_line old.plan f o) rest
@@ -114,9 +114,9 @@ same_entry old rows rest e f more is left =
     (log_text old.plan more (outcomes_from (plan_view old.plan) past more))
     (end_line (length old.log + suc (length more)))))
   where
-    split : (x : Entry) → (made old).rows ++ (rows_in (x ∷ more) ++ left.behind)
-        ≡ (with_entry (plan_view old.plan) (made old) x).rows ++ (rows_in more ++ left.behind)
-    split (Row row) = sym (append_assoc (made old).rows (row ∷ []) (rows_in more ++ left.behind))
+    split : (x : Entry) → (past_in old).rows ++ (rows_in (x ∷ more) ++ left.behind)
+        ≡ (with_entry (plan_view old.plan) (past_in old) x).rows ++ (rows_in more ++ left.behind)
+    split (Row row) = sym (append_assoc (past_in old).rows (row ∷ []) (rows_in more ++ left.behind))
     split (Done a) = refl
 
 -- no line of an entry is the last line
@@ -159,14 +159,14 @@ owner_at plan k p at =
     slice_get-map (λ (x : ProgramInstance). x.owner) plan.programs.items k
     ∙ ap (option_map (λ (x : ProgramInstance). x.owner)) at
 
--- a line `done RES/INST ..` tells its program
+-- a line `done RES/INST ..` gives its program
 pub same_program : (plan : Plan) (i j : ℕ) (p q : ProgramInstance) (more rest : List ℕ)
     → slice_get plan.programs.items i ≡ Some p → slice_get plan.programs.items j ≡ Some q
     → (instance_text (Some p) ++ codes " ") ++ more ≡ (instance_text (Some q) ++ codes " ") ++ rest → i ≡ j
 same_program plan i j p q more rest a b e =
     plan.sound.instances i j p.owner q.owner more rest (owner_at plan i p a) (owner_at plan j q b) e
 
--- two executions that are told alike
+-- two executions with the same line
 same_activation : (plan : Plan) (past : Past) (a b : Activation) (o u : Option Outcome) (rest more : List ℕ)
     → Waits (schedules_of (plan_view plan)) past.history a
     → Waits (schedules_of (plan_view plan)) past.history b
@@ -188,27 +188,27 @@ same_activation plan past a b o u rest more wa wb h =
     both x y programs rows =
         ap (λ n. record { program = n; row = x.row }) programs ∙ ap (λ k. record { program = y.program; row = k }) rows
 
--- what stands behind the line of an entry
+-- the text after the line of an entry
 abbrev pub rest_text : State → Entry → Log → List ℕ
 rest_text old e more =
-    log_text old.plan more (outcomes_from (plan_view old.plan) (with_entry (plan_view old.plan) (made old) e) more)
+    log_text old.plan more (outcomes_from (plan_view old.plan) (with_entry (plan_view old.plan) (past_in old) e) more)
     ++ end_line (length old.log + suc (length more))
 
 pub first_line : (old : State) (rows : List Latch) (text : List ℕ) (e : Entry) (more : Log)
     → IsRest old rows text (e ∷ more) → text ≡ entry_line old.plan e (outcome_in old e) ++ rest_text old e more
 first_line old rows text e more left = left.spelled ∙ append_assoc (entry_line old.plan e (outcome_in old e))
-    (log_text old.plan more (outcomes_from (plan_view old.plan) (with_entry (plan_view old.plan) (made old) e) more))
+    (log_text old.plan more (outcomes_from (plan_view old.plan) (with_entry (plan_view old.plan) (past_in old) e) more))
     (end_line (length old.log + suc (length more)))
 
 next_of : (old : State) (rows : List Latch) (text rest : List ℕ) (e : Entry) (behind : List Latch)
-    → MayFollow (plan_view old.plan) old.before (made old) e
-    → rows ≡ (made old).rows ++ (rows_in (e ∷ []) ++ behind)
+    → MayFollow (plan_view old.plan) old.before (past_in old) e
+    → rows ≡ (past_in old).rows ++ (rows_in (e ∷ []) ++ behind)
     → text ≡ entry_line old.plan e (outcome_in old e) ++ rest → (more : Log) → IsRest old rows text more
     → (left : Log) × (more ≡ e ∷ left) × IsRest (grown old e) rows rest left
 next_of old rows text rest e behind may rows_are spelled [] left =
     absurd (no_end old.plan e (outcome_in old e) rest (length old.log + 0) (sym spelled ∙ left.spelled))
 next_of old rows text rest (Row row) behind may rows_are spelled (Row r ∷ more) left =
-    let next = latch_is r row _ _ (append_cancel_left (made old).rows _ _ (sym left.rows_are ∙ rows_are)) in (
+    let next = latch_is r row _ _ (append_cancel_left (past_in old).rows _ _ (sym left.rows_are ∙ rows_are)) in (
       more,
       ap (λ (x : Latch). Row x ∷ more) next.0,
       same_entry old rows rest (Row r) (Row row) more (ap Row next.0)
@@ -221,10 +221,10 @@ next_of old rows text rest (Done a) behind may rows_are spelled (Row r ∷ more)
     absurd (no_row old.plan a r (outcome_in old (Done a)) (outcome_in old (Row r)) rest
     (rest_text old (Row r) more) (sym spelled ∙ first_line old rows text (Row r) more left))
 next_of old rows text rest (Done a) behind may rows_are spelled (Done b ∷ more) left =
-    let same = same_activation old.plan (made old) b a (outcome_in old (Done b)) (outcome_in old (Done a))
+    let same = same_activation old.plan (past_in old) b a (outcome_in old (Done b)) (outcome_in old (Done a))
     (rest_text old (Done b) more) rest
-    (waited (plan_view old.plan) old.before (made old) b left.legal.0)
-    (waited (plan_view old.plan) old.before (made old) a may)
+    (waited (plan_view old.plan) old.before (past_in old) b left.legal.0)
+    (waited (plan_view old.plan) old.before (past_in old) a may)
     (sym (first_line old rows text (Done b) more left) ∙ spelled) in (
       more,
       ap (λ (x : Activation). Done x ∷ more) same,
@@ -232,7 +232,7 @@ next_of old rows text rest (Done a) behind may rows_are spelled (Done b ∷ more
           (subst (λ (t : List ℕ). IsRest old rows t (Done b ∷ more)) spelled left),
     )
 
--- what a trace goes on with behind an entry that was read
+-- the rest of a trace after an entry that was read
 pub next_rest : (old new : State) (rows : List Latch) (text rest : List ℕ)
     → Grows old rows text rest new → (more : Log) → IsRest old rows text more → (left : Log) × IsRest new rows rest left
 next_rest old new rows text rest g more left =
@@ -258,8 +258,8 @@ one_rest life rows text [] (e ∷ ys) one other =
 one_rest life rows text (e ∷ xs) ys one other =
     let rest = rest_text life e xs in
     let behind = rows_in xs ++ one.behind in
-    let rows_are : rows ≡ (made life).rows ++ (rows_in (e ∷ []) ++ behind) =
-    one.rows_are ∙ ap (λ rs. (made life).rows ++ rs) (first_rows e xs one.behind) in
+    let rows_are : rows ≡ (past_in life).rows ++ (rows_in (e ∷ []) ++ behind) =
+    one.rows_are ∙ ap (λ rs. (past_in life).rows ++ rs) (first_rows e xs one.behind) in
     let spelled = first_line life rows text e xs one in
     let (here, same, left) = next_of life rows text rest e behind one.legal.0 rows_are spelled (e ∷ xs) one in
     let (there, is, right) = next_of life rows text rest e behind one.legal.0 rows_are spelled ys other in
@@ -273,7 +273,7 @@ one_rest life rows text (e ∷ xs) ys one other =
 pub record IsFar (old now : State) (rows : List Latch) (text rest : List ℕ) : Type 0 where
   pub same : now ≡ with_log old now.log
   pub left : List Latch
-  pub rows_are : rows ≡ (made now).rows ++ left
+  pub rows_are : rows ≡ (past_in now).rows ++ left
   pub spelled : text ≡ log_text old.plan now.log (outcomes_of (plan_view old.plan) old.start now.log) ++ rest
   pub only : (more : Log) → IsRest old rows text more
       → (after : Log) × IsRest now rows rest after
@@ -314,11 +314,11 @@ far_more old now new rows text mid rest far g =
     (outcomes_long (plan_view old.plan) (beginning old.start) now.log)))
     ∙ ap (λ os. log_text old.plan (now.log ++ e ∷ []) os ++ rest) more
     ∙ ap (λ (l : Log). log_text old.plan l (outcomes_of (plan_view old.plan) old.start l) ++ rest) (sym log) in
-    let rows_new : (made now).rows ++ (rows_in (e ∷ []) ++ g.behind) ≡ (made new).rows ++ g.behind =
-    sym (append_assoc (made now).rows (rows_in (e ∷ [])) g.behind)
-    ∙ ap (λ xs. xs ++ g.behind) (sym (rows_after (plan_view now.plan) (made now) (e ∷ []))
+    let rows_new : (past_in now).rows ++ (rows_in (e ∷ []) ++ g.behind) ≡ (past_in new).rows ++ g.behind =
+    sym (append_assoc (past_in now).rows (rows_in (e ∷ [])) g.behind)
+    ∙ ap (λ xs. xs ++ g.behind) (sym (rows_after (plan_view now.plan) (past_in now) (e ∷ []))
     ∙ ap (λ (p : Past). p.rows) (sym (past_of-add (plan_view now.plan) now.start now.log e)))
-    ∙ ap (λ (s : State). (made s).rows ++ g.behind) (sym g.grown_by) in record {
+    ∙ ap (λ (s : State). (past_in s).rows ++ g.behind) (sym g.grown_by) in record {
       same = g.grown_by ∙ ap (λ (s : State). grown s e) far.same
           ∙ ap (λ (l : Log). with_log old l) (sym log);
       left = g.behind;
@@ -335,9 +335,9 @@ pub far_end : (old now : State) (rows : List Latch) (text rest : List ℕ) → o
     → IsFar old now rows text rest → rest ≡ end_line (length now.log)
     → (now ≡ with_log old now.log) × IsRest old rows text now.log
 far_end old now rows text rest empty room few legal far is =
-    let begun : made old ≡ beginning old.start =
+    let begun : past_in old ≡ beginning old.start =
     ap (λ (l : Log). past_of (plan_view old.plan) old.start l) empty in
-    let rows_now : (made now).rows ≡ rows_in now.log = rows_made (plan_view now.plan) now.start now.log in
+    let rows_now : (past_in now).rows ≡ rows_in now.log = rows_made (plan_view now.plan) now.start now.log in
     let legal_old : IsLegalFrom (plan_view old.plan) old.before (beginning old.start) now.log =
     subst (λ (s : State). IsLegalFrom (plan_view s.plan) s.before (beginning s.start) now.log) far.same legal in
     let none : length old.log ≡ 0 = ap (λ (l : Log). length l) empty in
@@ -358,7 +358,7 @@ far_end old now rows text rest empty room few legal far is =
       },
     )
 
--- what is left is no last line
+-- the rest isn't a last line
 pub far_no_end : (old now : State) (rows : List Latch) (text rest : List ℕ)
     → IsFar old now rows text rest → ((more : Log) → IsRest now rows rest more → more ≡ [])
     → (rest ≡ end_line (length now.log) → ⊥) → IsNoRest old rows text

@@ -56,7 +56,7 @@ log_more plan log os i entry outcome before all l e is how so_far =
     ∙ sym (log_at plan log os i l e))
     ∙ so_far
 
--- ---- what the retained variables started with
+-- ---- the initial values of the retained variables
 
 none_kept : (types : Enumerations) (ps : List Path) → keep_text types (paired ps []) ≡ []
 none_kept types [] = refl

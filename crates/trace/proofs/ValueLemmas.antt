@@ -20,12 +20,14 @@ use Rattle.st_types.specs.declared.kind.Sort.TheVariants.{Signed, Unsigned, Bits
 use Rattle.st_types.specs.Kinds.{holds, names_in, row_of, same_kind}
 use Rattle.st_types.proofs.KindLemmas.{same_kind_is, same_kind-refl}
 use Rattle.st_types.specs.Values.{Datum, IsHeld, in_range}
-use Rattle.retain_records.specs.CutLaws.{has_no}
+use Rattle.retain_records.specs.SplitLaws.{has_no}
 use Rattle.st_print.specs.Spelling.{hexadecimal, name_of, named_or, number_text, value_text}
 use Rattle.st_print.specs.Numbers.{SpellsValue}
 use Rattle.st_print.proofs.NumberLemmas.{held_short, one_number}
-use Rattle.trace.specs.Reads.{Spells}
-use Rattle.trace.proofs.ReadLemmas.{low_mark, no_both, plain_decimal}
+use Rattle.trace.specs.Reads.{FieldSpells}
+use Rattle.trace.proofs.ReadLemmas.{low_mark, plain_decimal}
+use Rattle.retain_records.specs.LineLaws.{has_no_in_both}
+use Rattle.trace.proofs.RestLemmas.{head_is}
 
 -- ---- a value has no name
 
@@ -66,7 +68,7 @@ plain_glyph d small = rw (glyph_is d small) refl
 
 plain_hexadecimal : (count n : ℕ) → has_no 10 (hexadecimal count n) ≡ true
 plain_hexadecimal zero n = refl
-plain_hexadecimal (suc count) n = no_both 10 (hexadecimal count (n / 16)) (digit_glyph true (n % 16) ∷ [])
+plain_hexadecimal (suc count) n = has_no_in_both 10 (hexadecimal count (n / 16)) (digit_glyph true (n % 16) ∷ [])
     (plain_hexadecimal count (n / 16)) (plain_glyph (n % 16) (omega arith))
 
 plain_signed : (z : ℤ) → unsigned_abs z < 2 ^ 64 → has_no 10 (signed_decimal z) ≡ true
@@ -81,8 +83,8 @@ plain_number : (s : Sort) (bits : ℕ) (z : ℤ) → unsigned_abs z < 2 ^ 64 →
 plain_number Signed bits z short = plain_signed z short
 plain_number Unsigned bits z short = plain_signed z short
 plain_number Bits bits z short =
-    no_both 10 (codes "16#") (hexadecimal (bits / 4) (unsigned_abs z)) refl (plain_hexadecimal (bits / 4) (unsigned_abs z))
-plain_number Duration bits z short = no_both 10 (signed_decimal z) (codes "ms") (plain_signed z short) refl
+    has_no_in_both 10 (codes "16#") (hexadecimal (bits / 4) (unsigned_abs z)) refl (plain_hexadecimal (bits / 4) (unsigned_abs z))
+plain_number Duration bits z short = has_no_in_both 10 (signed_decimal z) (codes "ms") (plain_signed z short) refl
 plain_number Truth bits z short = plain_truth (unsigned_abs z == 0)
 plain_number Place bits z short = plain_signed z short
 
@@ -93,7 +95,7 @@ plain_value v few held = ap (has_no 10) (text_is v)
 pub few_of : (kind k : Kind) → k ≡ kind → names_in kind < 2 ^ 16 → names_in k < 2 ^ 16
 few_of kind k same few = subst (λ x. names_in x < 2 ^ 16) (sym same) few
 
--- ---- decimal numbers, and what stands behind them
+-- ---- decimal numbers, and the text after them
 
 abbrev pub MayBe : Kind → Datum → Type 0
 MayBe kind v = (v.kind ≡ kind) × IsHeld v
@@ -101,7 +103,7 @@ MayBe kind v = (v.kind ≡ kind) × IsHeld v
 pub spells_tail : (kind : Kind) (field digits tail : List ℕ) (o : Option Datum) → names_in kind < 2 ^ 16
     → ((z : ℤ) → number_text (row_of kind).sort (row_of kind).bits z ≡ signed_decimal z ++ tail)
     → field ≡ digits ++ tail → IfSome o (SpellsValue kind digits)
-    → IfNone o ((v : Datum) → SpellsValue kind digits v → ⊥) → Spells (MayBe kind) (value_text []) field o
+    → IfNone o ((v : Datum) → SpellsValue kind digits v → ⊥) → FieldSpells (MayBe kind) (value_text []) field o
 spells_tail kind field digits tail o few is whole some none = (there o some, λ w may e. only o some none w may e)
   where
     text_of : (v : Datum) → v.kind ≡ kind → value_text [] v ≡ signed_decimal v.number ++ tail
@@ -160,9 +162,9 @@ front_is (a ∷ xs) (b ∷ ys) x y e =
     (ap (λ h. h ∷ xs) first.0 ∙ ap (λ t. b ∷ t) rest.0, rest.1)
 
 pub hexadecimal_more : (k number digit last : ℕ) (field front : List ℕ) → field ≡ front ++ last ∷ []
-    → Spells (λ (n : ℕ). n < 16 ^ k) (hexadecimal k) front (Some number)
-    → Spells (λ (d : ℕ). d < 16) (λ d. digit_glyph true d ∷ []) (last ∷ []) (Some digit)
-    → Spells (λ (n : ℕ). n < 16 ^ suc k) (hexadecimal (suc k)) field (Some (number * 16 + digit))
+    → FieldSpells (λ (n : ℕ). n < 16 ^ k) (hexadecimal k) front (Some number)
+    → FieldSpells (λ (d : ℕ). d < 16) (λ d. digit_glyph true d ∷ []) (last ∷ []) (Some digit)
+    → FieldSpells (λ (n : ℕ). n < 16 ^ suc k) (hexadecimal (suc k)) field (Some (number * 16 + digit))
 hexadecimal_more k number digit last field front whole low high =
     let n = number * 16 + digit in
     let small : digit < 16 = high.0.0 in
@@ -216,15 +218,12 @@ truth_kind Lword e = absurd (cc)
 truth_kind Time e = absurd (cc)
 truth_kind (Enumerated names number) e = absurd (cc)
 
-first_is : (a b : ℕ) (xs ys : List ℕ) → a ∷ xs ≡ b ∷ ys → a ≡ b
-first_is a b xs ys e = cc
-
 abbrev truth_of : ℤ → Datum
 truth_of z = record { kind = Boolean; number = z }
 
 only_truth : (z : ℤ) → holds Boolean z ≡ true → codes "TRUE" ≡ value_text [] (truth_of z)
     → ◌≡◌ {A = Option Datum} (Some (truth_of (pos 1))) (Some (truth_of z))
-only_truth (pos zero) h e = let bad = first_is 84 70 _ _ e in absurd (omega arith)
+only_truth (pos zero) h e = let bad = head_is 84 70 _ _ e in absurd (omega arith)
 only_truth (pos (suc zero)) h e = refl
 only_truth (pos (suc (suc n))) h e =
     let high = (and_parts (int_le (pos 0) (pos (suc (suc n)))) (int_le (pos (suc (suc n))) (pos 1)) h).1 in
@@ -243,7 +242,7 @@ only_of field is w may e =
     only_truth w.number held (sym is ∙ e ∙ ap (value_text []) (sym whole)) ∙ ap Some whole
 
 pub truth_told : (kind : Kind) (field : List ℕ) → (row_of kind).sort ≡ Truth → field ≡ codes "TRUE"
-    → Spells (MayBe kind) (value_text []) field (result_ok (in_range kind (pos 1)))
+    → FieldSpells (MayBe kind) (value_text []) field (result_ok (in_range kind (pos 1)))
 truth_told kind field sort is =
-    subst (λ k. Spells (MayBe k) (value_text []) field (result_ok (in_range k (pos 1)))) (sym (truth_kind kind sort))
+    subst (λ k. FieldSpells (MayBe k) (value_text []) field (result_ok (in_range k (pos 1)))) (sym (truth_kind kind sort))
     (((refl, refl), is), only_of field is)

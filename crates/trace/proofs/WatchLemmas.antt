@@ -40,7 +40,7 @@ life_more life now next entry before is so_far =
     subst (λ (s : State). (before ++ now ∷ []) ++ s ∷ [] ≡ stages grown life s.log) (sym is)
     (stages_more grown life now now.log entry before so_far)
 
--- what a result tells that is no error
+-- a fact about a result that isn't an error
 pub told : {A E : Type 0} (P : Type 0) (r : Result A E) → is_err r ≡ false → OnOk r P → P
 told P (Ok a) is p = p
 told P (Err e) is p = let bad : true ≡ false = is in absurd (cc)

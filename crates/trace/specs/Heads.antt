@@ -8,6 +8,7 @@ use Rattle.st_meaning.specs.Layouts.{Enumerations}
 use Rattle.serial_core.specs.Retained.{paired, retained_kinds, retained_paths}
 use Rattle.durable_core.specs.declared.starting.StartMode.{StartMode}
 use Rattle.trace.specs.Texts.{begin_text, keep_text}
+use Rattle.retain_records.specs.RecordLaws.{IsMoment}
 
 -- a value of its type for each retained variable, in order
 abbrev pub AreKept : List PlanVariable → List Datum → Type 0
@@ -18,12 +19,8 @@ AreKept variables values =
 abbrev pub kept_lines : Enumerations → List PlanVariable → List Datum → List ℕ
 kept_lines types variables values = keep_text types (paired (retained_paths variables) values)
 
--- a moment within its limit, if there is one
-abbrev pub IsEarly : Option ℕ → Type 0
-IsEarly moment = IfSome moment (λ t. t < MOMENT_LIMIT)
-
 abbrev pub MayBegin : StartMode × Option ℕ → Type 0
-MayBegin begin = IsEarly begin.1
+MayBegin begin = IsMoment begin.1
 
 -- the lines before those of the retained variables
 abbrev pub begin_of : ℕ → StartMode × Option ℕ → List ℕ

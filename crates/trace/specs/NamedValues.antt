@@ -8,7 +8,7 @@ use Rattle.st_types.specs.declared.kind.Sort.TheVariants.{Signed, Unsigned, Bits
 use Rattle.st_types.specs.Kinds.{number_of_type}
 use Rattle.st_types.specs.Values.{Datum, in_range}
 use Rattle.st_meaning.specs.Layouts.{Enumerations}
-use Rattle.plan.specs.Sound.{are_different}
+use Rattle.layout.specs.Names.{are_different}
 
 -- the values are places of names
 abbrev pub is_place : Sort → Bool

@@ -53,7 +53,7 @@ begin_text budget mode moment =
 abbrev pub budget_text : ℕ → List ℕ
 budget_text budget = line (codes "trace 1") ++ line (codes "budget " ++ decimal budget)
 
--- this, and what the retained variables started with
+-- these lines, and the initial values of the retained variables
 abbrev pub head_text : Plan → StartMode → Start → List ℕ
 head_text plan mode start =
     begin_text plan.budget mode start.moment
@@ -83,8 +83,8 @@ abbrev pub ending_text : ℕ → Option Outcome → List ℕ
 ending_text row outcome = line (codes " " ++ decimal row ++ codes " " ++ outcome_text outcome)
 
 -- the same of a row and an outcome, without the space before them
-abbrev pub told_text : ℕ × Outcome → List ℕ
-told_text told = (decimal told.0 ++ 32 ∷ []) ++ line (outcome_text (Some told.1))
+abbrev pub row_outcome_text : ℕ × Outcome → List ℕ
+row_outcome_text told = (decimal told.0 ++ 32 ∷ []) ++ line (outcome_text (Some told.1))
 
 -- `done RES/INST ROW` and how the execution ended
 abbrev pub done_line : Option ProgramInstance → ℕ → Option Outcome → List ℕ
@@ -120,7 +120,7 @@ abbrev pub entry_text : Plan → Option Entry → Option Outcome → List ℕ
 entry_text plan None outcome = []
 entry_text plan (Some entry) outcome = entry_line plan entry outcome
 
--- the line of a variable with this value at the start, where it is retained
+-- the line of a variable with this value at the start, if it is retained
 abbrev pub kept_line : Enumerations → PlanVariable → Datum → List ℕ
 kept_line types v d = if v.retained then keep_line types v.path d else []
 

@@ -1,4 +1,4 @@
--- What somebody sees who watches a life.
+-- The stages that an observer of a life sees.
 use Rattle.std.specs.Prelude.{◌≡◌, List, [], ◌∷◌}
 
 -- something as it is, and after each entry by which it grows

@@ -1,20 +1,20 @@
-//! The budget that a trace tells.
+//! The budget in a trace.
 
 ghost use Rattle.std.specs.Prelude.{◌≡◌, ◌≤◌, ◌++◌, List, ℕ, IfOk, IfErr, option_map};
 ghost use Rattle.st_types.specs.declared.limits.TheConstants.{MAX_BUDGET};
-ghost use Rattle.trace.specs.Reads.{Begins};
+ghost use Rattle.trace.specs.Reads.{BeginsWith};
 ghost use Rattle.trace.specs.Texts.{budget_text};
 
-use crate::parts::{behind, first_number};
+use crate::parts::{after_words, first_number};
 use crate::trace_error::ReplayError;
 use st_types::limits::MAX_BUDGET;
 
 /// The budget in the first two lines, if they are of the format and it is 1 to 1,000,000.
 fn budget(text: &[u8]) -> Option<(u32, &[u8])>
-    ensures { Begins (λ (n : ℕ). (1 ≤ n) × (n ≤ MAX_BUDGET)) budget_text text.now
+    ensures { BeginsWith (λ (n : ℕ). (1 ≤ n) × (n ≤ MAX_BUDGET)) budget_text text.now
         (option_map (λ p. (p.0, p.1.now)) result) }
 {
-    let field = behind(text, b"trace 1\nbudget ")?;
+    let field = after_words(text, b"trace 1\nbudget ")?;
     let (budget, rest) = first_number(b'\n', field)?;
     if budget < 1 || budget > MAX_BUDGET as u64 {
         return None;
@@ -22,9 +22,9 @@ fn budget(text: &[u8]) -> Option<(u32, &[u8])>
     Some((budget as u32, rest))
 }
 
-/// The budget of ticks that a trace tells in its first two lines: 1 to 1,000,000.
+/// The budget of ticks in the first two lines of a trace: 1 to 1,000,000.
 ///
-/// V1 where these lines are not of the format, or the number is another.
+/// V1 if these lines are not of the format, or the number is another.
 pub fn trace_budget(text: &[u8]) -> Result<u32, ReplayError>
     ensures told { IfOk result
         (λ n. (1 ≤ n) × (n ≤ MAX_BUDGET) × (rest : List ℕ) × (text.now ≡ budget_text n ++ rest)) }

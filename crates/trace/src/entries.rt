@@ -5,14 +5,14 @@ ghost use Rattle.st_types.specs.declared.limits.TheConstants.{MAX_LOG_ROOM};
 ghost use Rattle.st_types.specs.Rows.{Latch};
 ghost use Rattle.st_meaning.specs.Logs.{IsLegal, outcomes_of};
 ghost use Rattle.plan.specs.PlanViews.{plan_view};
-ghost use Rattle.serial_core.specs.Steps.{grown, made, waits_in};
+ghost use Rattle.serial_core.specs.Steps.{grown, past_in, waits_in};
 ghost use Rattle.trace.specs.Texts.{end_line, outcome_text};
-ghost use Rattle.trace.specs.Rests.{Goes, Grows, IsNoRest, IsRest, with_log};
+ghost use Rattle.trace.specs.Rests.{GrowsByLine, Grows, IsNoRest, IsRest, with_log};
 ghost use Rattle.trace.specs.Watching.{HasSeen, stages};
 
+use crate::done_lines::{ending, program_of};
 use crate::lines::outcome_word;
-use crate::parts::{behind, behind_count, first_number};
-use crate::told::{ending, program_of};
+use crate::parts::{after_count, after_words, first_number};
 use crate::trace_error::ReplayError;
 use crate::watcher::Watcher;
 use serial_core::{Refusal, SerialCore};
@@ -29,7 +29,7 @@ fn copied(alloc: Global, row: &Row) -> Result<Row, AllocError>
     Ok(Row::new(row.moment(), image))
 }
 
-/// Latches the plant's next row, where the text behind `row ` tells it, and gives what stands behind this line.
+/// Latches the plant's next row, if the text after `row ` gives it, and returns the text after this line.
 fn replay_row<'a>(
     alloc: Global,
     core: &mut SerialCore,
@@ -37,7 +37,7 @@ fn replay_row<'a>(
     text: &'a [u8],
 ) -> Result<&'a [u8], ReplayError>
     requires room { core.old.room ≡ MAX_LOG_ROOM }
-    requires rows { (left : List Latch) × (rows.now ≡ (made core.old).rows ++ left) }
+    requires rows { (left : List Latch) × (rows.now ≡ (past_in core.old).rows ++ left) }
     ensures grows { IfOk result (λ rest. Grows core.old rows.now (codes "row " ++ text.now) rest.now core.new) }
     ensures refused { IfErr result (λ e. e ≢ ReplayError.NoMemory
         → IsNoRest core.old rows.now (codes "row " ++ text.now)) }
@@ -84,15 +84,14 @@ fn ended_so(core: &SerialCore, number: usize, outcome: Outcome) -> bool
     outcome_word(core.outcome(number)) == outcome_word(Some(outcome))
 }
 
-/// Runs the program that the text behind `done ` tells, where it waits with this row and ends so, and gives what stands
-/// behind this line.
+/// Runs the program in the text after `done `, if it waits with this row and ends so, and returns the text after this line.
 fn replay_done<'a>(
     alloc: Global,
     core: &mut SerialCore,
     text: &'a [u8],
 ) -> Result<&'a [u8], ReplayError>
     requires room { core.old.room ≡ MAX_LOG_ROOM }
-    ensures grows { (rows left : List Latch) → rows ≡ (made core.old).rows ++ left
+    ensures grows { (rows left : List Latch) → rows ≡ (past_in core.old).rows ++ left
         → IfOk result (λ rest. Grows core.old rows (codes "done " ++ text.now) rest.now core.new) }
     ensures refused { IfErr result (λ e. e ≢ ReplayError.NoMemory
         → (rows : List Latch) → IsNoRest core.old rows (codes "done " ++ text.now)) }
@@ -122,7 +121,7 @@ fn replay_done<'a>(
     }
 }
 
-/// Does what the first line tells, and gives what stands behind it; none where the line is that of no entry.
+/// Runs the entry in the first line, and returns the text after it; none if the line isn't that of an entry.
 fn replay_entry<'a>(
     alloc: Global,
     core: &mut SerialCore,
@@ -130,18 +129,18 @@ fn replay_entry<'a>(
     text: &'a [u8],
 ) -> Result<Option<&'a [u8]>, ReplayError>
     requires room { core.old.room ≡ MAX_LOG_ROOM }
-    requires rows { (left : List Latch) × (rows.now ≡ (made core.old).rows ++ left) }
+    requires rows { (left : List Latch) × (rows.now ≡ (past_in core.old).rows ++ left) }
     ensures goes { IfOk result
-        (λ told. Goes core.old rows.now text.now (option_map (λ rest. rest.now) told) core.new) }
+        (λ told. GrowsByLine core.old rows.now text.now (option_map (λ rest. rest.now) told) core.new) }
     ensures refused { IfErr result (λ e. e ≢ ReplayError.NoMemory
         → IsNoRest core.old rows.now text.now) }
 {
-    match behind(text, b"row ") {
+    match after_words(text, b"row ") {
         Some(line) => match replay_row(alloc, core, rows, line) {
             Ok(rest) => Ok(Some(rest)),
             Err(error) => Err(error),
         },
-        None => match behind(text, b"done ") {
+        None => match after_words(text, b"done ") {
             Some(line) => match replay_done(alloc, core, line) {
                 Ok(rest) => Ok(Some(rest)),
                 Err(error) => Err(error),
@@ -157,13 +156,13 @@ fn is_end(core: &SerialCore, text: &[u8]) -> bool
     ensures room { length core.now.log ≤ core.now.room }
     ensures legal { IsLegal (plan_view core.now.plan) core.now.start core.now.before core.now.log }
 {
-    match behind_count(text, b"end ", core.len() as u64) {
+    match after_count(text, b"end ", core.len() as u64) {
         Some(rest) => rest.is_empty(),
         None => false,
     }
 }
 
-/// Runs the log again that the text tells to its end. The watcher sees the core as it was begun, and after each entry.
+/// Runs the log in the text again to its end. The watcher sees the core as it was begun, and after each entry.
 pub fn replay_log<W: Watcher>(
     alloc: Global,
     core: &mut SerialCore,

@@ -1,4 +1,4 @@
-//! The lines of a trace with what the retained variables started with.
+//! The lines of a trace with the initial values of the retained variables.
 
 ghost use Rattle.std.specs.Prelude.{◌≡◌, ◌++◌, ◌∷◌, [], codes, IfOk, map, option_map, true};
 ghost use Rattle.std.specs.List.{list_all};
@@ -7,13 +7,13 @@ ghost use Rattle.st_types.specs.Values.{Datum, IsHeld};
 ghost use Rattle.st_meaning.specs.Layouts.{path_text};
 ghost use Rattle.st_print.specs.Spelling.{value_text};
 ghost use Rattle.plan.specs.Sound.{has_line, has_spelling};
-ghost use Rattle.trace.specs.Reads.{Begins};
+ghost use Rattle.trace.specs.Reads.{BeginsWith};
 ghost use Rattle.trace.specs.NamedValues.{are_names_apart};
 ghost use Rattle.trace.specs.Heads.{AreKept, kept_lines};
 ghost use Rattle.trace.specs.Texts.{keep_line};
 
 use crate::lines::put_path;
-use crate::parts::{behind, first_field};
+use crate::parts::{after_words, first_field};
 use crate::putting::put;
 use crate::values::{names, value_of};
 use st_meaning::PlanVariable;
@@ -33,11 +33,11 @@ fn words_of(alloc: Global, path: &Path) -> Result<Vec<u8>, AllocError>
     }
 }
 
-/// The value of the type in the first line, and what stands behind it.
+/// The value of the type in the first line, and the text after it.
 fn first_value<'a>(types: &[Vec<Name>], kind: Kind, text: &'a [u8]) -> Option<(Value, &'a [u8])>
     requires spelled { has_spelling (map vec_items types.now) kind ≡ true }
     requires apart { are_names_apart (map vec_items types.now) ≡ true }
-    ensures { Begins (λ (v : Datum). (v.kind ≡ kind) × IsHeld v)
+    ensures { BeginsWith (λ (v : Datum). (v.kind ≡ kind) × IsHeld v)
         (λ v. value_text (map vec_items types.now) v ++ 10 ∷ []) text.now (option_map (λ p. (p.0, p.1.now)) result) }
 {
     let _few = names(kind);
@@ -46,7 +46,7 @@ fn first_value<'a>(types: &[Vec<Name>], kind: Kind, text: &'a [u8]) -> Option<(V
     Some((value, rest))
 }
 
-/// What a variable started with, by its line, and what stands behind this.
+/// The initial value of a variable, by its line, and the text after this.
 fn kept_value<'a>(
     alloc: Global,
     types: &[Vec<Name>],
@@ -55,17 +55,17 @@ fn kept_value<'a>(
 ) -> Result<Option<(Value, &'a [u8])>, AllocError>
     requires spelled { has_spelling (map vec_items types.now) variable.now.initial.kind ≡ true }
     requires apart { are_names_apart (map vec_items types.now) ≡ true }
-    ensures { IfOk result (λ told. Begins (λ (v : Datum). (v.kind ≡ variable.now.initial.kind) × IsHeld v)
+    ensures { IfOk result (λ told. BeginsWith (λ (v : Datum). (v.kind ≡ variable.now.initial.kind) × IsHeld v)
         (keep_line (map vec_items types.now) variable.now.path) text.now (option_map (λ p. (p.0, p.1.now)) told)) }
 {
     let words = words_of(alloc, &variable.path)?;
-    match behind(text, &words) {
+    match after_words(text, &words) {
         Some(field) => Ok(first_value(types, variable.initial.kind(), field)),
         None => Ok(None),
     }
 }
 
-/// What the retained variables started with, by their lines, and what stands behind these.
+/// The initial values of the retained variables, by their lines, and the text after these.
 pub fn kept_values<'a>(
     alloc: Global,
     types: &[Vec<Name>],
@@ -74,7 +74,7 @@ pub fn kept_values<'a>(
 ) -> Result<Option<(Vec<Value>, &'a [u8])>, AllocError>
     requires spelled { list_all (has_line (map vec_items types.now)) variables.now ≡ true }
     requires apart { are_names_apart (map vec_items types.now) ≡ true }
-    ensures { IfOk result (λ told. Begins (AreKept variables.now) (kept_lines (map vec_items types.now) variables.now)
+    ensures { IfOk result (λ told. BeginsWith (AreKept variables.now) (kept_lines (map vec_items types.now) variables.now)
         text.now (option_map (λ p. (p.0.items, p.1.now)) told)) }
 {
     let mut values = Vec::new(alloc);

@@ -1,29 +1,29 @@
-//! Traces: what the threads of a run did, as a text that a person can read and one thread can run again.
+//! Traces: the actions of the threads of a run, as a text that a person can read and one thread can run again.
 //!
-//! It owns how the life of a core is written, what the lines of such a text tell, and the replay of its log, line by
+//! It owns how the life of a core is written, the meaning of the lines of such a text, and the replay of its log, line by
 //! line, on a core without a disk.
 #![tactic(auto)]
 
 mod budget;
+mod done_lines;
 mod entries;
 mod head;
 mod keeping;
 mod lines;
 mod parts;
 mod putting;
-mod told;
 mod trace_error;
 mod values;
 mod watcher;
 mod writing;
 
 pub use budget::trace_budget;
+pub use done_lines::{ending, program_of};
 pub use entries::replay_log;
 pub use head::begin;
 pub use keeping::kept_values;
 pub use lines::outcome_word;
-pub use parts::{behind, behind_count, first_number};
-pub use told::{ending, program_of};
+pub use parts::{after_count, after_words, first_number};
 pub use trace_error::ReplayError;
 pub use watcher::Watcher;
 pub use writing::{put_kept, write_trace};

@@ -1,4 +1,4 @@
-//! What is wrong with a trace.
+//! The faults of a trace.
 
 use thiserror::Error;
 
@@ -11,7 +11,7 @@ pub enum ReplayError {
     /// A row that is not the plant's next one, or that a core refuses.
     #[error("V2")]
     Row,
-    /// An execution of what was not waiting.
+    /// An execution of an activation that was not waiting.
     #[error("V3")]
     NotWaiting,
     /// An execution that ends in another way.

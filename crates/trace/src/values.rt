@@ -9,7 +9,7 @@ ghost use Rattle.st_types.specs.declared.kind.Sort.TheVariants.{Bits, Duration, 
 ghost use Rattle.st_print.specs.Spelling.{hexadecimal, value_text};
 ghost use Rattle.plan.specs.Sound.{has_spelling};
 ghost use Rattle.trace.specs.NamedValues.{is_place, value_named};
-ghost use Rattle.trace.specs.Reads.{Spells};
+ghost use Rattle.trace.specs.Reads.{FieldSpells};
 ghost use Rattle.trace.specs.NamedValues.{are_names_apart};
 
 use st_print::number::value;
@@ -17,7 +17,7 @@ use st_types::{Kind, Name, Sort, Value};
 
 /// The number of a hexadecimal digit in upper case.
 fn digit(byte: u8) -> Option<u8>
-    ensures { Spells (λ (d : ℕ). d < 16) (λ d. digit_glyph true d ∷ []) (byte ∷ []) result }
+    ensures { FieldSpells (λ (d : ℕ). d < 16) (λ d. digit_glyph true d ∷ []) (byte ∷ []) result }
 {
     if b'0' <= byte && byte <= b'9' {
         Some(byte - b'0')
@@ -28,10 +28,10 @@ fn digit(byte: u8) -> Option<u8>
     }
 }
 
-/// The number that so many hexadecimal digits spell.
+/// The number that a field of `count` hexadecimal digits spells.
 fn hexadecimal(count: usize, field: &[u8]) -> Option<u64>
     requires { count ≤ 16 }
-    ensures { Spells (λ (n : ℕ). n < 16 ^ count) (hexadecimal count) field.now result }
+    ensures { FieldSpells (λ (n : ℕ). n < 16 ^ count) (hexadecimal count) field.now result }
 {
     if count == 0 {
         return if field.is_empty() { Some(0) } else { None };
@@ -45,7 +45,7 @@ fn hexadecimal(count: usize, field: &[u8]) -> Option<u64>
 /// The bit string that the field spells.
 fn bits(kind: Kind, field: &[u8]) -> Option<Value>
     requires { (row_of kind).sort ≡ Bits }
-    ensures { Spells (λ (v : Datum). (v.kind ≡ kind) × IsHeld v) (value_text []) field.now result }
+    ensures { FieldSpells (λ (v : Datum). (v.kind ≡ kind) × IsHeld v) (value_text []) field.now result }
 {
     let digits = field.strip_prefix(b"16#")?;
     let number = hexadecimal(usize::from(kind.row().bits / 4), digits)?;
@@ -65,7 +65,7 @@ pub(crate) fn names(kind: Kind) -> u16
 /// The duration that the field spells in milliseconds.
 fn duration(kind: Kind, field: &[u8]) -> Option<Value>
     requires { (row_of kind).sort ≡ Duration }
-    ensures { Spells (λ (v : Datum). (v.kind ≡ kind) × IsHeld v) (value_text []) field.now result }
+    ensures { FieldSpells (λ (v : Datum). (v.kind ≡ kind) × IsHeld v) (value_text []) field.now result }
 {
     let _few = names(kind);
     let number = field.strip_suffix(b"ms")?;
@@ -73,9 +73,9 @@ fn duration(kind: Kind, field: &[u8]) -> Option<Value>
 }
 
 /// The BOOL that the field spells.
-fn truth(kind: Kind, field: &[u8]) -> Option<Value>
+fn bool_value(kind: Kind, field: &[u8]) -> Option<Value>
     requires { (row_of kind).sort ≡ Truth }
-    ensures { Spells (λ (v : Datum). (v.kind ≡ kind) × IsHeld v) (value_text []) field.now result }
+    ensures { FieldSpells (λ (v : Datum). (v.kind ≡ kind) × IsHeld v) (value_text []) field.now result }
 {
     if field == b"TRUE".as_slice() {
         Value::new(kind, 1).ok()
@@ -86,16 +86,16 @@ fn truth(kind: Kind, field: &[u8]) -> Option<Value>
     }
 }
 
-/// The value of the type that the field spells, where an enumerated one is spelled by its place.
+/// The value of the type that the field spells, if an enumerated one is spelled by its place.
 fn by_number(kind: Kind, field: &[u8]) -> Option<Value>
-    ensures { Spells (λ (v : Datum). (v.kind ≡ kind) × IsHeld v) (value_text []) field.now result }
+    ensures { FieldSpells (λ (v : Datum). (v.kind ≡ kind) × IsHeld v) (value_text []) field.now result }
 {
     let _few = names(kind);
     match kind.row().sort {
         Sort::Signed | Sort::Unsigned | Sort::Place => value(kind, field),
         Sort::Bits => bits(kind, field),
         Sort::Duration => duration(kind, field),
-        Sort::Truth => truth(kind, field),
+        Sort::Truth => bool_value(kind, field),
     }
 }
 
@@ -113,7 +113,7 @@ fn place_of(names: &[Name], field: &[u8]) -> Option<usize>
     names.iter().position(|name| is_name(name, field))
 }
 
-/// The place of an enumerated type among those of its text; 0 of any other type.
+/// The place of an enumerated type among those of its text; 0 for any other type.
 fn number_of(kind: Kind) -> u32
     ensures { result ≡ number_of_type kind }
 {
@@ -138,11 +138,11 @@ fn is_place(kind: Kind) -> bool
     matches!(kind.row().sort, Sort::Place)
 }
 
-/// The value of the type that the field spells, of an enumerated one by its name.
+/// The value of the type that the field spells, an enumerated one by its name.
 pub(crate) fn value_of(types: &[Vec<Name>], kind: Kind, field: &[u8]) -> Option<Value>
     requires spelled { has_spelling (map vec_items types.now) kind ≡ true }
     requires apart { are_names_apart (map vec_items types.now) ≡ true }
-    ensures { Spells (λ (v : Datum). (v.kind ≡ kind) × IsHeld v) (value_text (map vec_items types.now)) field.now
+    ensures { FieldSpells (λ (v : Datum). (v.kind ≡ kind) × IsHeld v) (value_text (map vec_items types.now)) field.now
         result }
 {
     if is_place(kind) {

@@ -1,4 +1,4 @@
-//! Who watches a life that is run again.
+//! An observer of a life that is run again.
 
 ghost use Rattle.std.specs.Prelude.{OnOk};
 ghost use Rattle.serial_core.specs.Steps.{State};
@@ -6,9 +6,9 @@ ghost use Rattle.serial_core.specs.Steps.{State};
 use serial_core::SerialCore;
 use std::alloc::AllocError;
 
-/// Somebody who watches a life that is run again.
+/// An observer of a life that is run again.
 pub trait Watcher {
-    // what seeing a life makes of a watcher
+    // how a watcher changes when it sees a life
     ghost sees: { Self → State → Self → Type 0 };
 
     /// Sees the core as the life was begun, and then after each entry of its log; an error ends the replay.

@@ -69,7 +69,7 @@ fn put_log<W: Write, D: Disk>(out: &mut W, works: bool, core: &Core<D>) -> bool
 
 /// Writes the trace of a core: its life so far. It runs no code and takes no memory.
 ///
-/// V6 where the writer fails; it has got a beginning of the trace then.
+/// V6 if the writer fails; it has got a beginning of the trace then.
 pub fn write_trace<D: Disk, W: Write>(core: &Core<D>, out: &mut W) -> Result<(), ReplayError>
     ensures whole { OnOk result (Appends (W.contents out.old) (W.contents out.new) (trace_of core.now)) }
     ensures part { IfErr result (λ error. (error ≡ ReplayError.Device) × (front : List ℕ) × (rest : List ℕ)

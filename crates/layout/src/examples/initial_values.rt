@@ -13,7 +13,7 @@ ghost use Rattle.layout.specs.LayoutExamples.{default_times, listing, with_field
 ghost use Rattle.layout.specs.LayoutExamples.{structure_of, variables_text, values_in, int, datum};
 ghost use Rattle.layout.specs.InitialExamples.{nested_types, modes, mode};
 
-/// A variable starts as it is declared to, else as 0, FALSE or T#0s; a value goes for all names of its declaration.
+/// A variable starts with its declared value, or else with 0, FALSE or T#0s; a value goes for all names of its declaration.
 #[tactic(auto, unfolding(crate::specs::Types::shape_within, st_meaning::specs::StandardBlocks::block_of))]
 pub fn values_of_variables()
     ensures defaults { values_in (variables_text [] (without_initial (codes "N") (plain Int)
@@ -28,7 +28,7 @@ pub fn values_of_variables()
 {}
 
 /// A list gives the elements from the lower bound on; `3(0)` stands for three of them, `3()` for three of the default
-/// value, and what is left of the array has the default value.
+/// value, and the rest of the array has the default value.
 #[tactic(auto, unfolding(crate::specs::Types::shape_within, st_meaning::specs::StandardBlocks::block_of))]
 pub fn lists_of_elements()
     // a : ARRAY [-1..3] OF INT := [2(4), 2(), 5];
@@ -53,7 +53,7 @@ pub fn lists_of_elements()
         ∷ [])) ≡ (codes "R/P.A[1]", int 0) ∷ (codes "R/P.A[2]", int 0) ∷ [] }
 {}
 
-/// A field that is left out has the value of its own declaration; what is given replaces it whole.
+/// A field that is left out has the value of its own declaration; a given value replaces it whole.
 #[tactic(auto, unfolding(crate::specs::Types::shape_within, st_meaning::specs::StandardBlocks::block_of))]
 pub fn fields_of_structures()
     // s : Pair; where Pair has u : INT := 1; v : ARRAY [0..1] OF INT := [7, 8]; w : BOOL;
@@ -80,7 +80,7 @@ pub fn fields_of_structures()
         ≡ (codes "R/P.O.P.X", int 1) ∷ (codes "R/P.O.P.Y", int 3) ∷ [] }
 {}
 
-/// An element that a list leaves out has the default of its type: of a structure the values of its fields.
+/// An element that a list leaves out has the default of its type: for a structure, the values of its fields.
 #[tactic(auto, unfolding(crate::specs::Types::shape_within, st_meaning::specs::StandardBlocks::block_of))]
 pub fn arrays_of_structures()
     // a : ARRAY [1..4] OF Point := [(x := 6), 1(), (y := 7)];
@@ -114,7 +114,7 @@ pub fn values_of_enumerated_types()
         ∷ [] }
 {}
 
-/// What is no value of the variable's type is no initial value: no well-typed text has one.
+/// A value that isn't one of the variable's type isn't an initial value: no well-typed text has one.
 #[tactic(auto, unfolding(crate::specs::Types::shape_within, st_meaning::specs::StandardBlocks::block_of))]
 pub fn values_that_do_not_fit()
     // n : INT := TRUE; m : INT := 40000; k : INT := [1]; a : ARRAY [0..0] OF INT := INT#1;

@@ -71,15 +71,15 @@ pub fn words_on_the_way()
     ensures instances { instances_of_text words_of_retention ≡ 2 }
 {}
 
-/// A program, a function and an unknown name are no types of variables.
+/// A program, a function and an unknown name aren't types of variables.
 #[tactic(auto, unfolding(crate::specs::Types::shape_within, st_meaning::specs::StandardBlocks::block_of))]
 pub fn variables_without_a_type()
     ensures paths { slots_in types_that_are_none ≡ (codes "R/P.N", Int, false) ∷ [] }
     ensures instances { instances_of_text types_that_are_none ≡ 0 }
 {}
 
-/// An input stands where it stands among the globals; a global at the address of an output is one as others. Then come
-/// the instances of each resource.
+/// An input keeps its place among the globals; a global at the address of an output is one like others. Then come the
+/// instances of each resource.
 #[tactic(auto, unfolding(crate::specs::Types::shape_within, st_meaning::specs::StandardBlocks::block_of))]
 pub fn an_input_between_globals()
     ensures slots { slots_in input_between_globals
@@ -99,8 +99,8 @@ pub fn an_input_between_globals()
     ensures instances { instances_of_text input_between_globals ≡ 0 }
 {}
 
-/// The names of one declaration stand in their order, and so do resources and instances, whatever the order of their
-/// programs; subscripts below 0 ascend. An instance of a block without variables has no path, and is one.
+/// The names of one declaration keep their order, and so do resources and instances, whatever the order of their
+/// programs; subscripts below 0 ascend. An instance of a block without variables has no path, but counts as one.
 #[tactic(auto, unfolding(crate::specs::Types::shape_within, st_meaning::specs::StandardBlocks::block_of))]
 pub fn a_text_in_order()
     ensures values { values_in order_of_a_text ≡ (codes "A", int 3) ∷ (codes "B", int 3)
@@ -109,7 +109,7 @@ pub fn a_text_in_order()
     ensures instances { instances_of_text order_of_a_text ≡ 7 }
 {}
 
-/// A text without exactly one configuration has no path, and an instance of what is no program has none.
+/// A text without exactly one configuration has no path, and an instance of a unit that isn't a program has none.
 #[tactic(auto, unfolding(crate::specs::Types::shape_within, st_meaning::specs::StandardBlocks::block_of))]
 pub fn texts_without_a_layout()
     ensures no_configuration { slots_of_text unconfigured ≡ [] }
@@ -118,8 +118,8 @@ pub fn texts_without_a_layout()
     ensures no_program { slots_in instances_of_no_program ≡ (codes "R/P.K", Int, false) ∷ [] }
 {}
 
-/// Names that differ in their scopes, and names that stand twice: of variables, of a function's result, of fields, of
-/// instances and of resources. Scopes of their own may have one name.
+/// Names that differ in their scopes, and names that occur twice: of variables, of a function's result, of fields, of
+/// instances and of resources. Separate scopes may have the same name.
 #[tactic(auto, unfolding(crate::specs::Types::shape_within, st_meaning::specs::StandardBlocks::block_of))]
 pub fn names_in_their_scopes()
     ensures differ { has_different_names instances_of_blocks ≡ true }
@@ -139,7 +139,7 @@ pub fn names_in_their_scopes()
         ∷ []) [])) ≡ false }
 {}
 
-/// A type that is 64 deep has its part. What is deeper has none: no well-typed text has it.
+/// A type that is 64 deep has its part. A deeper one has none: no well-typed text has it.
 #[tactic(auto, unfolding(crate::specs::Types::shape_within, st_meaning::specs::StandardBlocks::block_of))]
 pub fn depth_of_types()
     ensures greatest { map (λ l. length l.path.steps) (slots_of_text (one_deep_variable 62)) ≡ 63 ∷ [] }

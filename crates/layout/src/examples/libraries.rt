@@ -1,4 +1,4 @@
-//! Worked examples of texts in the words of the meaning, each proved by computation.
+//! Worked examples of texts in the terms of the meaning, each proved by computation.
 
 ghost use Rattle.std.specs.Prelude.{◌≡◌, ◌∷◌, [], Some, pos, map, option_map, replicate, codes};
 ghost use Rattle.st_types.specs.declared.kind.Kind.TheVariants.{Int, Dint, Time, Bool as Boolean};
@@ -47,12 +47,12 @@ pub fn a_library()
         } }
 {}
 
-/// Each instance has its program: whose it is, and its unit's body.
+/// Each instance has its program: its owner, and its unit's body.
 #[tactic(auto, unfolding(crate::specs::Types::shape_within, st_meaning::specs::StandardBlocks::block_of, st_meaning::specs::StandardFunctions::standard_of, st_meaning::specs::StandardFunctions::standard_functions))]
 pub fn programs_of_instances()
     ensures owners { owners_in text_of_calls
         ≡ (codes "R", codes "P") ∷ (codes "R", codes "Q") ∷ [] }
-    // an instance of a block, and one of what is not there, have none
+    // an instance of a block, and one of an unknown name, have none
     ensures no_programs { owners_in instances_of_no_program ≡ (codes "R", codes "P") ∷ [] }
     // by resources in order, each with its own program
     ensures in_order { owners_in order_of_a_text

@@ -5,10 +5,10 @@ use Rattle.slot_trees.specs.SlotTrees.{binary, compute, load}
 use Rattle.slot_trees.specs.Chains.{exprs_of}
 use Rattle.slot_trees.specs.ExpressionViews.{place_view, slot_expr_view}
 use Rattle.st_compile.proofs.Sizes.{expr_size, exprs_size}
-use Rattle.quick_trees.specs.Pieces.{IsTemporary, Stands}
+use Rattle.quick_trees.specs.Pieces.{IsTemporary, IsInstr}
 use Rattle.quick_checks.specs.Checking.{frame_of, point_of, site_of}
 use Rattle.quick_trees.specs.Calls.{quick_units}
-use Rattle.quick_trees.specs.Standing.{IsRead}
+use Rattle.quick_trees.specs.TreeCode.{IsRead}
 use Rattle.st_types.specs.declared.kind.Kind.TheVariants.{Bool as Boolean}
 use Rattle.slot_trees.specs.declared.expression.Operands as code_operands
 use Rattle.slot_trees.specs.declared.expression.Place as code_place
@@ -25,7 +25,7 @@ use Rattle.slot_trees.proofs.Bridge.{choose_view}
 use Rattle.slot_trees.specs.SlotTrees.{call, constant, empty, FOR, IF, REPEAT, WHILE}
 use Rattle.st_compile.proofs.Elements.{body_smaller, condition_smaller, expr_smaller, stmt_smaller}
 use Rattle.st_compile.proofs.Sizes.{stmt_size, stmts_size}
-use Rattle.quick_trees.specs.Points.{Meets, Point, next}
+use Rattle.quick_trees.specs.Points.{Refines, Point, next}
 use Rattle.quick_checks.specs.Checking.{exits_of, kinds_read, landing_of, seat_of, words_read}
 use Rattle.quick_checks.proofs.Arguments.{arguments_all, arguments_more, function_stands, long_seats, long_words}
 use Rattle.std.proofs.Common.{suc}
@@ -33,12 +33,12 @@ use Rattle.slot_trees.specs.LibraryViews.{slot_function_view, slot_library_view}
 use Rattle.st_compile.specs.Emitting.{filled}
 use Rattle.st_compile.proofs.Depths.{function_lighter}
 use Rattle.st_compile.proofs.Filled.{filled_function}
-use Rattle.quick_checks.proofs.Standings.{passes_same}
-use Rattle.quick_checks.proofs.Standings.{arms_next, arms_over, meets_same, stmts_next, stmts_on, stmts_over, ticked}
+use Rattle.quick_checks.proofs.TreeCodeLemmas.{passes_same}
+use Rattle.quick_checks.proofs.TreeCodeLemmas.{arms_next, arms_over, meets_same, stmts_next, stmts_on, stmts_over, ticked}
 use Rattle.std.specs.Prelude.{Some, slice_get}
 use Rattle.std.proofs.Common.{ℕ}
-use Rattle.quick_trees.specs.Points.{AreNoted, GoesBack, Joins, along, past_branch}
-use Rattle.quick_trees.specs.Standing.{StmtsStand}
+use Rattle.quick_trees.specs.Points.{AreNoted, LoopsBack, Joins, along, past_branch}
+use Rattle.quick_trees.specs.TreeCode.{AreStmtsCode}
 use Rattle.slot_trees.specs.declared.statement.SlotCaseArm as code_case_arm
 use Rattle.slot_trees.specs.Chains.{case_arms_of}
 use Rattle.slot_trees.specs.StatementViews.{slot_case_arm_view}
@@ -46,7 +46,7 @@ use Rattle.slot_trees.proofs.Bridge.{select_view}
 use Rattle.slot_trees.specs.SlotTrees.{CASE}
 use Rattle.st_compile.proofs.Elements.{case_smaller}
 use Rattle.quick_code.specs.declared.quick_code.Way.{Way}
-use Rattle.quick_trees.specs.Pieces.{AreBoth}
+use Rattle.quick_trees.specs.Pieces.{InSequence}
 use Rattle.quick_checks.specs.Choices.{body_at}
 use Rattle.quick_checks.proofs.Below.{one_more}
 use Rattle.quick_trees.specs.Functions.{IsMovedWithin}
@@ -61,7 +61,7 @@ use Rattle.st_compile.proofs.Elements.{argument_smaller}
 use Rattle.st_compile.proofs.Filled.{filled_body}
 use Rattle.st_compile.proofs.Sizes.{argument_size, arguments_size, stmt_size}
 use Rattle.quick_trees.specs.Pieces.{Input}
-use Rattle.quick_trees.specs.Standing.{InputsRead}
+use Rattle.quick_trees.specs.TreeCode.{InputsRead}
 use Rattle.quick_checks.specs.declared.members.Taken.{Taken}
 use Rattle.quick_checks.specs.Checking.{inputs_taken}
 use Rattle.quick_checks.proofs.Instances.{all_inputs, argument_next, arguments_over, block_stands}
@@ -88,8 +88,8 @@ reading::check_binary-returns-in-Some t c = λ now whole kept. inr (inr (inl (re
   next = c.in_ok-step.ensures;
 })))
 
-pub reading::check_binary-returns-then-stands : goal.reading::check_binary-returns-then-stands
-reading::check_binary-returns-then-stands t c =
+pub reading::check_binary-returns-then-is_instr : goal.reading::check_binary-returns-then-is_instr
+reading::check_binary-returns-then-is_instr t c =
     let kinds : c.in_ok-right.right.kind ≡ c.in_ok-left.left.kind = c.if-not-is_kind.ensures (search rules) in
     λ now whole kept. inl (record {
       left = c.in_ok-left.left.word;
@@ -100,8 +100,8 @@ reading::check_binary-returns-then-stands t c =
         first = c.in_ok-left.ensures now whole kept;
         second = rw (← kinds, ← c.in_ok-below.ensures) (c.in_ok-right.ensures now whole kept);
       };
-      stands = subst (λ o. Stands (frame_of c.args.draft.now now) o c.check_read-2.new.at.place) c.instr_for.ensures
-          (c.if-stands.ensures (search rules) now);
+      stands = subst (λ o. IsInstr (frame_of c.args.draft.now now) o c.check_read-2.new.at.place) c.instr_for.ensures
+          (c.if-is_instr.ensures (search rules) now);
       next = c.in_ok-step-3.ensures;
     })
 
@@ -119,8 +119,8 @@ reading::check_binary-returns-in-Some-constant_as_lint t c = λ now whole kept. 
   is = c.in_ok-expect_within.ensures.next ∙ ap next c.in_ok-step-2.ensures;
 }))))
 
-pub reading::check_binary-returns-then-stands-2 : goal.reading::check_binary-returns-then-stands-2
-reading::check_binary-returns-then-stands-2 t c =
+pub reading::check_binary-returns-then-is_instr-2 : goal.reading::check_binary-returns-then-is_instr-2
+reading::check_binary-returns-then-is_instr-2 t c =
     let kinds : c.in_ok-right.right.kind ≡ c.in_ok-left.left.kind = c.if-not-is_kind.ensures (search rules) in
     λ now whole kept. inr (inl (record {
       truth = refl;
@@ -133,8 +133,8 @@ reading::check_binary-returns-then-stands-2 t c =
         first = c.in_ok-left.ensures now whole kept;
         second = rw (← kinds, ← c.in_ok-below.ensures) (c.in_ok-right.ensures now whole kept);
       };
-      stands = subst (λ o. Stands (frame_of c.args.draft.now now) o c.check_read-2.new.at.place) c.truth_for.ensures
-          (c.if-stands-2.ensures (search rules) now);
+      stands = subst (λ o. IsInstr (frame_of c.args.draft.now now) o c.check_read-2.new.at.place) c.comparison_instr.ensures
+          (c.if-is_instr-2.ensures (search rules) now);
       next = c.in_ok-step-4.ensures;
     }))
 
@@ -151,7 +151,7 @@ reading::check_binary-returns t c =
         second = rw (← kinds, ← c.in_ok-below.ensures) (c.in_ok-right.ensures now whole kept);
       };
       there = c.in_ok-expect_kept.ensures.there;
-      stands = subst (λ o. Stands (frame_of c.args.draft.now now) o c.check_read-2.new.at.place) c.instr_for-sum.ensures
+      stands = subst (λ o. IsInstr (frame_of c.args.draft.now now) o c.check_read-2.new.at.place) c.instr_for-sum.ensures
           (c.in_ok-expect_kept.ensures.stands now);
       moves = c.in_ok-expect_kept.ensures.moves now;
       is = c.in_ok-expect_kept.ensures.next;
@@ -315,7 +315,7 @@ within::check_led_on-returns t c =
     c.in_ok-index.index.word c.in_ok-index.index.shift
     (access_instr c.args.access c.args.depth c.args.word) _ _ _ _ c.in-Some.ensures.cases.0 some
     c.in_ok-below.ensures (c.in_ok-index.ensures now whole kept)
-    c.in_ok-expect_located_behind.ensures.stands c.in_ok-expect_located_behind.ensures.next
+    c.in_ok-expect_located_nested.ensures.stands c.in_ok-expect_located_nested.ensures.next
     (c.in_ok-check_led_on.ensures now whole kept)
 
 pub within::check_read_within-returns : goal.within::check_read_within-returns
@@ -463,8 +463,8 @@ reading::check_made-returns-in-Binary t c =
     (slot_expr_view b.right)) (sym c.deref.ensures) in
     rw is c.check_binary.ensures
 
-pub conditions::check_truth-returns : goal.conditions::check_truth-returns
-conditions::check_truth-returns t c =
+pub conditions::check_bool-returns : goal.conditions::check_bool-returns
+conditions::check_bool-returns t c =
     let kind : c.in_ok-read.read.kind ≡ Boolean = c.if-not-is_kind.ensures (search rules) in
     λ now whole kept. record {
       from = c.in_ok-read.read.word;
@@ -672,7 +672,7 @@ statements::check_repeat-returns t c =
       back = c.in_ok-again.again.way;
       after = c.in_ok-again.again.past;
       asked = c.in_ok-again.ensures now whole kept;
-      again = rw c.in_ok-head.ensures at (c.if-not-goes_back.ensures (search rules));
+      again = rw c.in_ok-head.ensures at (c.if-not-loops_back.ensures (search rules));
       behind = rw q (c.if-not-passes.ensures (search rules));
     }
 
@@ -705,7 +705,7 @@ counting::check_for-returns t c =
       past = c.in_ok-first.first.past;
       asked = c.expect_begun.new.at.place;
       tested = rw c.in_ok-within.ensures at (c.in_ok-first.ensures.begins now);
-      over = rw q (subst (λ (x : Point). Meets (along x c.in_ok-first.first.way)
+      over = rw q (subst (λ (x : Point). Refines (along x c.in_ok-first.first.way)
           (landing_of c.in_ok-behind.behind)) begun
           (c.if-not-leads.ensures (search rules)));
       noted = point_of c.read_notes.new.at;
@@ -722,8 +722,8 @@ counting::check_for-returns t c =
       after = c.in_ok-again.again.past;
       foot = c.expect_turned.new.at.place;
       counts = rw c.in_ok-within.ensures at (c.in_ok-again.ensures.counts now);
-      again = subst (λ (x : Point). GoesBack (along x c.in_ok-again.again.way) (point_of c.read_notes.new.at))
-          c.in_ok-again.ensures.same (rw c.in_ok-head.ensures at (c.if-not-goes_back.ensures (search rules)));
+      again = subst (λ (x : Point). LoopsBack (along x c.in_ok-again.again.way) (point_of c.read_notes.new.at))
+          c.in_ok-again.ensures.same (rw c.in_ok-head.ensures at (c.if-not-loops_back.ensures (search rules)));
       behind = rw q (passes_same _ _ _ c.in_ok-again.again.past c.in_ok-again.ensures.same
           (c.if-not-passes_back.ensures (search rules)));
     }
@@ -763,7 +763,7 @@ counting::check_step-returns t c =
 pub statements::check_stmt-returns-in-Empty : goal.statements::check_stmt-returns-in-Empty
 statements::check_stmt-returns-in-Empty t c =
     let seen : slot_stmt_view c.args.statement.now ≡ empty = rw c.in-Empty.is (search (rules, code_stmt.the_lemmas)) in
-    λ now whole kept. rw seen (ticked Meets (point_of c.args.at.now) (point_of c.tick.new.at) (point_of c.tick.new.at)
+    λ now whole kept. rw seen (ticked Refines (point_of c.args.at.now) (point_of c.tick.new.at) (point_of c.tick.new.at)
     c.in_ok-tick.ensures.ticks c.in_ok-tick.ensures.rest (meets_same _))
 
 pub statements::check_stmt-returns-in_ok-check_if-in-If : goal.statements::check_stmt-returns-in_ok-check_if-in-If
@@ -1119,7 +1119,7 @@ cases::check_case_arms-loop-index-preserved t c =
     c.index-arms-index.result c.loop-index-test.true c.index-arms-index.is in
     λ now whole kept. one_more (λ k. (j : ℕ) (w : Way) → slice_get c.args.choices.now j ≡ Some k
     → slice_get c.args.draft.now.code.ways.items (c.args.table.now.first + j) ≡ Some w
-    → AreBoth (StmtsStand (frame_of c.args.draft.now now) (site_of c.args.scope.now.values)
+    → InSequence (AreStmtsCode (frame_of c.args.draft.now now) (site_of c.args.scope.now.values)
     (quick_units (frame_of c.args.draft.now now) whole c.args.scope.now.calls)
     (body_at k (map slot_case_arm_view c.args.arms.now)) c.args.depth (exits_of c.args.exits.now))
     (Joins (frame_of c.args.draft.now now)) (along (landing_of c.args.start.now) w) (landing_of c.args.behind.now))
@@ -1130,7 +1130,7 @@ pub cases::check_arm-returns : goal.cases::check_arm-returns
 cases::check_arm-returns t c =
     let all = rw c.in-Some.is at c.in_ok-way.ensures.all in
     let entry = c.go.ensures ∙ c.in_ok-entry.ensures in
-    λ now whole kept j w choice there. subst (λ v. AreBoth (StmtsStand (frame_of c.args.draft.now now)
+    λ now whole kept j w choice there. subst (λ v. InSequence (AreStmtsCode (frame_of c.args.draft.now now)
     (site_of c.args.scope.now.values) (quick_units (frame_of c.args.draft.now now) whole c.args.scope.now.calls)
     (slot_stmts_view c.args.body.now) c.args.depth (exits_of c.args.exits.now)) (Joins (frame_of c.args.draft.now now))
     (along (landing_of c.args.start.now) v) (landing_of c.args.behind.now)) (sym (all j w choice there)) (record {
@@ -1212,6 +1212,6 @@ choosing::check_choice-returns t c =
     c.go.ensures (c.if-not-is_kind.ensures (search rules)) (c.in_ok-first.ensures now whole kept)
     (c.if-not-is_straight.ensures (search rules) now) (c.if-not-is_kind-2.ensures (search rules))
     (c.in_ok-second.ensures now whole kept) (c.if-not-is_straight-2.ensures (search rules) now) many
-    (rw (c.deref.ensures.value, c.deref-else-middle-at.ensures.value) at (c.if-not-tell.ensures (search rules)))
+    (rw (c.deref.ensures.value, c.deref-else-middle-at.ensures.value) at (c.if-not-notes_imply.ensures (search rules)))
     c.in_ok-expect.ensures.stands c.in_ok-expect.ensures.next c.in_ok-assign.ensures.same
     c.in_ok-assign.ensures.touches

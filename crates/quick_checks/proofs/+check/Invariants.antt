@@ -7,7 +7,7 @@ use Rattle.st_compile.specs.Emitting.{filled}
 use Rattle.st_compile.proofs.Sizes.{weight, arms_size, expr_size, exprs_size, step_size, stmt_size, stmts_size}
 use Rattle.st_types.specs.declared.kind.Kind.{Kind}
 use Rattle.quick_trees.specs.Points.{Point}
-use Rattle.quick_trees.specs.Standing.{AreArguments, ArmsStand, StmtsStand}
+use Rattle.quick_trees.specs.TreeCode.{AreArguments, AreArmsCode, AreStmtsCode}
 use Rattle.quick_checks.specs.Checking.{Always, exits_of, kinds_read, landing_of, point_of, words_read}
 use Rattle.std.proofs.Common.{◌<◌}
 use Rattle.std.specs.Prelude.{Some, option_map, slice_get}
@@ -15,13 +15,13 @@ use Rattle.slot_trees.specs.Chains.{case_arms_of}
 use Rattle.slot_trees.specs.StatementViews.{slot_case_arm_view}
 use Rattle.st_compile.proofs.Sizes.{case_size}
 use Rattle.quick_code.specs.declared.quick_code.Way.{Way}
-use Rattle.quick_trees.specs.Pieces.{AreBoth}
+use Rattle.quick_trees.specs.Pieces.{InSequence}
 use Rattle.quick_trees.specs.Points.{Joins, along}
 use Rattle.quick_checks.specs.Choices.{body_at}
 use Rattle.slot_trees.specs.StatementViews.{slot_argument_view}
 use Rattle.st_compile.proofs.Sizes.{argument_size, arguments_size}
 use Rattle.quick_trees.specs.Pieces.{Input}
-use Rattle.quick_trees.specs.Standing.{InputsRead}
+use Rattle.quick_trees.specs.TreeCode.{InputsRead}
 use Rattle.quick_checks.specs.Checking.{inputs_taken}
 use Rattle.slot_trees.specs.declared.expression.Place as code_place
 use Rattle.slot_trees.specs.Chains.{subscripts_of}
@@ -87,8 +87,8 @@ abbrev pub decreases-conditions::check_test : goal.decreases-conditions::check_t
 decreases-conditions::check_test l = 4 * (weight (filled (slot_library_view l.library.now)) l.scope.now.calls
     + (expr_size (slot_expr_view l.condition.now))) + 2
 
-abbrev pub decreases-conditions::check_truth : goal.decreases-conditions::check_truth
-decreases-conditions::check_truth l = 4 * (weight (filled (slot_library_view l.library.now)) l.scope.now.calls
+abbrev pub decreases-conditions::check_bool : goal.decreases-conditions::check_bool
+decreases-conditions::check_bool l = 4 * (weight (filled (slot_library_view l.library.now)) l.scope.now.calls
     + (expr_size (slot_expr_view l.condition.now))) + 1
 
 abbrev pub decreases-conditions::check_compared : goal.decreases-conditions::check_compared
@@ -155,12 +155,12 @@ decreases-counting::check_step l = 4 * (weight (filled (slot_library_view l.libr
 abbrev pub decreases-calls::check_function : goal.decreases-calls::check_function
 decreases-calls::check_function l = 4 * weight (filled (slot_library_view l.library.now)) l.scope.now.calls + 1
 
--- What stands for what is left, and so for all.
+-- A fact that holds of the rest holds of all.
 abbrev pub invariant-statements::check_stmts-loop-index : goal.invariant-statements::check_stmts-loop-index
 invariant-statements::check_stmts-loop-index l = Always l.draft l.library l.scope (λ f s units. (q : Point)
-    → StmtsStand f s units (stmts_of (map slot_stmt_view (drop l.index l.statements))) l.depth (exits_of l.exits)
+    → AreStmtsCode f s units (stmts_of (map slot_stmt_view (drop l.index l.statements))) l.depth (exits_of l.exits)
     (point_of l.at) q
-    → StmtsStand f s units (stmts_of (map slot_stmt_view l.statements)) l.depth (exits_of l.exits)
+    → AreStmtsCode f s units (stmts_of (map slot_stmt_view l.statements)) l.depth (exits_of l.exits)
     (point_of l.fn.at) q)
 
 abbrev pub decreases-statements::check_stmts-loop-index : goal.decreases-statements::check_stmts-loop-index
@@ -168,11 +168,11 @@ decreases-statements::check_stmts-loop-index l = length l.statements - l.index
 
 abbrev pub invariant-statements::check_if-loop-index : goal.invariant-statements::check_if-loop-index
 invariant-statements::check_if-loop-index l = Always l.draft l.library l.scope (λ f s units.
-    ArmsStand f s units (arms_of (map slot_arm_view (drop l.index l.arms)))
-    (StmtsStand f s units (slot_stmts_view l.otherwise) l.depth (exits_of l.exits)) l.depth (exits_of l.exits)
+    AreArmsCode f s units (arms_of (map slot_arm_view (drop l.index l.arms)))
+    (AreStmtsCode f s units (slot_stmts_view l.otherwise) l.depth (exits_of l.exits)) l.depth (exits_of l.exits)
     (point_of l.at) (landing_of l.behind)
-    → ArmsStand f s units (arms_of (map slot_arm_view l.arms))
-    (StmtsStand f s units (slot_stmts_view l.otherwise) l.depth (exits_of l.exits)) l.depth (exits_of l.exits)
+    → AreArmsCode f s units (arms_of (map slot_arm_view l.arms))
+    (AreStmtsCode f s units (slot_stmts_view l.otherwise) l.depth (exits_of l.exits)) l.depth (exits_of l.exits)
     (point_of l.fn.at) (landing_of l.behind))
 
 abbrev pub decreases-statements::check_if-loop-index : goal.decreases-statements::check_if-loop-index
@@ -235,7 +235,7 @@ decreases-cases::check_arm l = 4 * (weight (filled (slot_library_view l.library.
 abbrev pub invariant-cases::check_case_arms-loop-index : goal.invariant-cases::check_case_arms-loop-index
 invariant-cases::check_case_arms-loop-index l = Always l.draft l.library l.scope (λ f s units. (k : ℕ) → k < l.index
     → (j : ℕ) (w : Way) → slice_get l.choices j ≡ Some k → slice_get f.ways (l.table.first + j) ≡ Some w
-    → AreBoth (StmtsStand f s units (body_at k (map slot_case_arm_view l.arms)) l.depth (exits_of l.exits)) (Joins f)
+    → InSequence (AreStmtsCode f s units (body_at k (map slot_case_arm_view l.arms)) l.depth (exits_of l.exits)) (Joins f)
     (along (landing_of l.start) w) (landing_of l.behind))
 
 abbrev pub decreases-cases::check_case_arms-loop-index : goal.decreases-cases::check_case_arms-loop-index

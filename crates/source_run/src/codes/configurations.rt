@@ -1,16 +1,16 @@
 //! Codes of the configuration, and the plan.
 
 ghost use Rattle.std.specs.Prelude.{◌≡◌, map};
-ghost use Rattle.source_run.specs.ToldCodes.{code_of, told_configurations};
+ghost use Rattle.source_run.specs.ListedCodes.{code_bytes, listed_configurations};
 
 use crate::entry::{Example, Explanation, Frame, Status};
 
 static EXPLANATIONS: [Explanation; 8] = [
     Explanation {
         code: "G2",
-        title: "there is no CONFIGURATION, or a second one",
+        title: "there is no CONFIGURATION, or more than one",
         meaning: &[
-            "A text is its types, functions, blocks and programs, and one CONFIGURATION that runs them.",
+            "A source has types, functions, blocks and programs, and one CONFIGURATION that runs them.",
         ],
         example: Some(Example {
             frame: Frame::Text,
@@ -29,9 +29,9 @@ static EXPLANATIONS: [Explanation; 8] = [
     },
     Explanation {
         code: "G3",
-        title: "a task, a program or a global is unknown, or is another than it is used as",
+        title: "a task, program or global is unknown, or doesn't fit its use",
         meaning: &[
-            "A VAR_EXTERNAL has the type of its global, and is CONSTANT just where that is CONSTANT or an input.",
+            "A VAR_EXTERNAL has its global's type, and is CONSTANT exactly when that is CONSTANT or an input.",
             "A SINGLE is a BOOL global.",
         ],
         example: Some(Example {
@@ -43,11 +43,11 @@ static EXPLANATIONS: [Explanation; 8] = [
     },
     Explanation {
         code: "G4",
-        title: "an address is doubled, out of its range, of another width, or may not stand there",
+        title: "an address is used twice, out of range, of the wrong width, or not allowed here",
         meaning: &[
-            "A BOOL stands at %IX0 to %IX1023 or %QX0 to %QX1023.",
-            "An INT, a UINT or a WORD stands at %IW0 to %IW255 or %QW0 to %QW255.",
-            "An input has no initial value, and no address stands under CONSTANT.",
+            "A BOOL takes %IX0 to %IX1023 or %QX0 to %QX1023.",
+            "An INT, UINT or WORD takes %IW0 to %IW255 or %QW0 to %QW255.",
+            "An input has no initial value, and a CONSTANT has no address.",
         ],
         example: Some(Example {
             frame: Frame::Globals,
@@ -58,7 +58,7 @@ static EXPLANATIONS: [Explanation; 8] = [
     },
     Explanation {
         code: "G5",
-        title: "more than 8 resources, 32 tasks on one of them, or 64 programs",
+        title: "more than 8 resources, 32 tasks in a resource, or 64 programs",
         meaning: &[
             "Each resource runs in a thread of its own; several programs may share one task.",
         ],
@@ -93,7 +93,7 @@ static EXPLANATIONS: [Explanation; 8] = [
         title: "the record of the RETAIN variables would be longer than 131,059 bytes",
         meaning: &[
             "The record takes 12 bytes, and for each elementary part of the RETAIN variables:",
-            "its path, its type's name, 2 bytes more and the bytes of its value.",
+            "its path, its type's name, 2 more bytes and the bytes of its value.",
         ],
         example: Some(Example {
             frame: Frame::Globals,
@@ -104,11 +104,11 @@ static EXPLANATIONS: [Explanation; 8] = [
     },
     Explanation {
         code: "G7",
-        title: "the budget is not 1 to 1,000,000",
+        title: "the budget isn't 1 to 1,000,000",
         meaning: &[
-            "It is how many ticks an execution may take.",
-            "A tick is a statement that begins, or a turn of a loop.",
-            "The budget is judged before the text is.",
+            "The budget limits the ticks of an execution.",
+            "Each statement and each loop iteration takes a tick.",
+            "The budget is checked before the source.",
         ],
         example: Some(Example {
             frame: Frame::Command,
@@ -122,7 +122,7 @@ static EXPLANATIONS: [Explanation; 8] = [
     Explanation {
         code: "G8",
         title: "a program has no task",
-        meaning: &["Each PROGRAM of a resource says by WITH which task runs it."],
+        meaning: &["Each PROGRAM of a resource names its task after WITH."],
         example: Some(Example {
             frame: Frame::Resource,
             wrong: &["PROGRAM P : Main;"],
@@ -132,10 +132,10 @@ static EXPLANATIONS: [Explanation; 8] = [
     },
     Explanation {
         code: "G9",
-        title: "memory ran out while the text was made a plan",
+        title: "memory ran out while the plan was built",
         meaning: &[
-            "So it did while the file was read, or a configuration judged.",
-            "Nothing was opened but the text.",
+            "G9 also covers reading the source and checking a configuration.",
+            "Only the source was opened.",
         ],
         example: Some(Example {
             frame: Frame::ShortMemory,
@@ -146,9 +146,9 @@ static EXPLANATIONS: [Explanation; 8] = [
     },
 ];
 
-/// What is told of the codes with G.
+/// The explanations of the codes with G.
 pub(crate) fn configuration_codes() -> &'static [Explanation]
-    ensures { map code_of result.now ≡ told_configurations }
+    ensures { map code_bytes result.now ≡ listed_configurations }
 {
     &EXPLANATIONS
 }

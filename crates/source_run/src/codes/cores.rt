@@ -1,7 +1,7 @@
 //! Codes of the run.
 
 ghost use Rattle.std.specs.Prelude.{◌≡◌, map};
-ghost use Rattle.source_run.specs.ToldCodes.{code_of, told_cores};
+ghost use Rattle.source_run.specs.ListedCodes.{code_bytes, listed_cores};
 
 use crate::entry::{Example, Explanation, Frame, Status};
 
@@ -10,8 +10,8 @@ static EXPLANATIONS: [Explanation; 6] = [
         code: "K1",
         title: "the log is full",
         meaning: &[
-            "A log has room for 65,536 rows and executions together; the example is over rows at 0, 1, .., 9,999.",
-            "Divide the plant, and go on with a warm start.",
+            "A log holds 65,536 rows and executions together; the example runs over rows at 0, 1, .., 9,999.",
+            "Split the plant and continue with a warm start.",
         ],
         example: Some(Example {
             frame: Frame::Resource,
@@ -34,30 +34,30 @@ static EXPLANATIONS: [Explanation; 6] = [
     },
     Explanation {
         code: "K2",
-        title: "an activation that doesn't wait",
+        title: "an activation isn't waiting",
         meaning: &[
-            "The core answers so to a commit of what was committed before.",
-            "A run commits what it has taken, once each, so no command gives K2.",
+            "The core reports this if an execution is committed again.",
+            "A run commits each execution once, so no command gives K2.",
         ],
         example: None,
         status: Status::Run,
     },
     Explanation {
         code: "K3",
-        title: "an execution or a row of another plan",
+        title: "an execution or a row belongs to another plan",
         meaning: &[
-            "The core answers so to a commit of what it has not given out.",
-            "A run commits what it has taken, once each, so no command gives K3.",
+            "The core reports this if it didn't issue the execution, or the row has other inputs.",
+            "A run uses only its own plan, so no command gives K3.",
         ],
         example: None,
         status: Status::Run,
     },
     Explanation {
         code: "K4",
-        title: "the first row is not later than the last row that was kept",
+        title: "the first row isn't later than the last saved row",
         meaning: &[
-            "The rows of a warm run come later than those of the run before it.",
-            "A RETAIN variable that counts rows tells where to go on.",
+            "The rows of a warm run come after those of the run before.",
+            "A RETAIN variable that counts rows shows where to continue.",
         ],
         example: Some(Example {
             frame: Frame::Command,
@@ -74,10 +74,10 @@ static EXPLANATIONS: [Explanation; 6] = [
     },
     Explanation {
         code: "K5",
-        title: "the device failed in a save, or the generations are used up",
+        title: "the device failed in a save, or no generation is left",
         meaning: &[
-            "What was acknowledged before is kept.",
-            "The example makes a record of the last generation by hand, for a text that retains n : INT alone.",
+            "Everything acknowledged is kept.",
+            "The example makes a record of the last generation by hand, for a source that retains only n : INT.",
         ],
         example: Some(Example {
             frame: Frame::Command,
@@ -93,8 +93,8 @@ static EXPLANATIONS: [Explanation; 6] = [
     },
     Explanation {
         code: "K6",
-        title: "memory ran out in the run, for the command line, or for what is printed",
-        meaning: &["What was acknowledged is kept."],
+        title: "memory ran out in the run, for the command line, or for the output",
+        meaning: &["Everything acknowledged is kept."],
         example: Some(Example {
             frame: Frame::ShortMemory,
             wrong: &[
@@ -106,9 +106,9 @@ static EXPLANATIONS: [Explanation; 6] = [
     },
 ];
 
-/// What is told of the codes with K.
+/// The explanations of the codes with K.
 pub(crate) fn core_codes() -> &'static [Explanation]
-    ensures { map code_of result.now ≡ told_cores }
+    ensures { map code_bytes result.now ≡ listed_cores }
 {
     &EXPLANATIONS
 }

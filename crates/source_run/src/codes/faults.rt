@@ -1,16 +1,16 @@
 //! Codes of faults of executions.
 
 ghost use Rattle.std.specs.Prelude.{◌≡◌, map};
-ghost use Rattle.source_run.specs.ToldCodes.{code_of, told_faults};
+ghost use Rattle.source_run.specs.ListedCodes.{code_bytes, listed_faults};
 
 use crate::entry::{Example, Explanation, Frame, Status};
 
 static EXPLANATIONS: [Explanation; 6] = [
     Explanation {
         code: "F1",
-        title: "a number leaves its type",
+        title: "a result doesn't fit in its type",
         meaning: &[
-            "A sum, a product or the like is outside the type of its operands; a wider type holds it.",
+            "A sum, product or other result is outside the type of its operands; use a wider type.",
         ],
         example: Some(Example {
             frame: Frame::Statements,
@@ -21,8 +21,8 @@ static EXPLANATIONS: [Explanation; 6] = [
     },
     Explanation {
         code: "F2",
-        title: "a division by zero, by MOD too",
-        meaning: &["Ask for the divisor first, by an IF."],
+        title: "a division or MOD by zero",
+        meaning: &["Check the divisor first, with an IF."],
         example: Some(Example {
             frame: Frame::Statements,
             wrong: &["n := 0;", "n := 10 / n;"],
@@ -32,7 +32,7 @@ static EXPLANATIONS: [Explanation; 6] = [
     },
     Explanation {
         code: "F3",
-        title: "a subscript is out of its bounds",
+        title: "a subscript is out of bounds",
         meaning: &["An ARRAY [0..2] has the subscripts 0, 1 and 2."],
         example: Some(Example {
             frame: Frame::Units,
@@ -54,7 +54,7 @@ static EXPLANATIONS: [Explanation; 6] = [
     Explanation {
         code: "F4",
         title: "a value can't be converted",
-        meaning: &["The type that it is converted to doesn't hold it."],
+        meaning: &["The type that it is converted to can't hold it."],
         example: Some(Example {
             frame: Frame::Statements,
             wrong: &["n := DINT_TO_INT(DINT#40000);"],
@@ -67,8 +67,8 @@ static EXPLANATIONS: [Explanation; 6] = [
         title: "the budget is used up",
         meaning: &[
             "An execution needed more ticks than the budget has.",
-            "A tick is a statement that begins, or a turn of a loop.",
-            "A loop that should end may need a larger --budget, up to 1,000,000.",
+            "Each statement and each loop iteration takes a tick.",
+            "A long loop may need a larger --budget, up to 1,000,000.",
         ],
         example: Some(Example {
             frame: Frame::Statements,
@@ -79,7 +79,7 @@ static EXPLANATIONS: [Explanation; 6] = [
     },
     Explanation {
         code: "F6",
-        title: "a FOR with a step of 0",
+        title: "a FOR has a step of 0",
         meaning: &["It would never end."],
         example: Some(Example {
             frame: Frame::Units,
@@ -104,9 +104,9 @@ static EXPLANATIONS: [Explanation; 6] = [
     },
 ];
 
-/// What is told of the codes with F.
+/// The explanations of the codes with F.
 pub(crate) fn fault_codes() -> &'static [Explanation]
-    ensures { map code_of result.now ≡ told_faults }
+    ensures { map code_bytes result.now ≡ listed_faults }
 {
     &EXPLANATIONS
 }

@@ -1,17 +1,17 @@
 //! Codes of the grammar of a text.
 
 ghost use Rattle.std.specs.Prelude.{◌≡◌, map};
-ghost use Rattle.source_run.specs.ToldCodes.{code_of, told_grammar};
+ghost use Rattle.source_run.specs.ListedCodes.{code_bytes, listed_grammar};
 
 use crate::entry::{Example, Explanation, Frame, Status};
 
 static EXPLANATIONS: [Explanation; 3] = [
     Explanation {
         code: "P1",
-        title: "with the token at the place no text of the language goes on",
+        title: "a token isn't allowed here, or the source ends too early",
         meaning: &[
-            "Where a mark is left out, the place is that of the token behind it.",
-            "Where the text ends too early, it is the end of the last token.",
+            "If a mark is missing, the place is that of the next token.",
+            "If the source ends too early, it is the end of the last token.",
         ],
         example: Some(Example {
             frame: Frame::Statements,
@@ -22,7 +22,7 @@ static EXPLANATIONS: [Explanation; 3] = [
     },
     Explanation {
         code: "P2",
-        title: "an expression, a statement or an initial value is deeper than 64",
+        title: "an expression, a statement or an initial value is over 64 deep",
         meaning: &[
             "A name or a number has depth 1; an operator, a pair of parentheses, a call or a statement adds 1.",
         ],
@@ -40,8 +40,8 @@ static EXPLANATIONS: [Explanation; 3] = [
     },
     Explanation {
         code: "P3",
-        title: "memory ran out while the text was read as a tree",
-        meaning: &["The text may be right.", "Nothing was opened but the text."],
+        title: "memory ran out while the source was parsed",
+        meaning: &["The source may be correct.", "Only the source was opened."],
         example: Some(Example {
             frame: Frame::ShortMemory,
             wrong: &["(ulimit -v 7000; plant check own.st)"],
@@ -51,9 +51,9 @@ static EXPLANATIONS: [Explanation; 3] = [
     },
 ];
 
-/// What is told of the codes with P.
+/// The explanations of the codes with P.
 pub(crate) fn grammar_codes() -> &'static [Explanation]
-    ensures { map code_of result.now ≡ told_grammar }
+    ensures { map code_bytes result.now ≡ listed_grammar }
 {
     &EXPLANATIONS
 }

@@ -1,16 +1,16 @@
 //! Codes of the plant.
 
 ghost use Rattle.std.specs.Prelude.{◌≡◌, map};
-ghost use Rattle.source_run.specs.ToldCodes.{code_of, told_plants};
+ghost use Rattle.source_run.specs.ListedCodes.{code_bytes, listed_plants};
 
 use crate::entry::{Example, Explanation, Frame, Status};
 
 static EXPLANATIONS: [Explanation; 6] = [
     Explanation {
         code: "I1",
-        title: "the first line is not t and the inputs' names in the order of their declarations",
+        title: "the first line isn't t and the input names in order of declaration",
         meaning: &[
-            "The names stand in any case, with commas and no blanks; a text without inputs has t alone.",
+            "Names have any case, with commas and no spaces; a source without inputs has only t.",
         ],
         example: Some(Example {
             frame: Frame::Plant,
@@ -21,8 +21,8 @@ static EXPLANATIONS: [Explanation; 6] = [
     },
     Explanation {
         code: "I2",
-        title: "a field is no number of its column's type, or a line has too many or too few fields",
-        meaning: &["A number has no blank, no + and no leading zero; a BOOL is 0 or 1."],
+        title: "a field isn't a number of its column's type, or a row has too many or too few fields",
+        meaning: &["A number has no space, no + and no leading zero; a BOOL is 0 or 1."],
         example: Some(Example {
             frame: Frame::Plant,
             wrong: &["t", "05"],
@@ -32,9 +32,9 @@ static EXPLANATIONS: [Explanation; 6] = [
     },
     Explanation {
         code: "I3",
-        title: "a moment is not later than the one before it",
+        title: "a row isn't later than the one before it",
         meaning: &[
-            "The first column counts milliseconds, and each row is later than the row before.",
+            "The first column is the time in milliseconds, which increases from row to row.",
         ],
         example: Some(Example {
             frame: Frame::Plant,
@@ -46,7 +46,7 @@ static EXPLANATIONS: [Explanation; 6] = [
     Explanation {
         code: "I4",
         title: "more than 10,000 rows",
-        meaning: &["Divide the plant, and go on with a warm start."],
+        meaning: &["Split the plant and continue with a warm start."],
         example: Some(Example {
             frame: Frame::Command,
             wrong: &[
@@ -63,7 +63,7 @@ static EXPLANATIONS: [Explanation; 6] = [
     Explanation {
         code: "I5",
         title: "the plant can't be read",
-        meaning: &["There is no file of this name, or it is a folder, or it may not be read."],
+        meaning: &["The file doesn't exist, is a folder or can't be read."],
         example: Some(Example {
             frame: Frame::Command,
             wrong: &["plant run own.st --plant nowhere.csv --store own.retain --start cold"],
@@ -74,10 +74,7 @@ static EXPLANATIONS: [Explanation; 6] = [
     Explanation {
         code: "I6",
         title: "memory ran out while the plant was read",
-        meaning: &[
-            "The plant may be right.",
-            "The reader of the plant may tell I5 instead.",
-        ],
+        meaning: &["The plant may be correct.", "I5 may be reported instead."],
         example: Some(Example {
             frame: Frame::ShortMemory,
             wrong: &[
@@ -89,9 +86,9 @@ static EXPLANATIONS: [Explanation; 6] = [
     },
 ];
 
-/// What is told of the codes with I.
+/// The explanations of the codes with I.
 pub(crate) fn plant_codes() -> &'static [Explanation]
-    ensures { map code_of result.now ≡ told_plants }
+    ensures { map code_bytes result.now ≡ listed_plants }
 {
     &EXPLANATIONS
 }

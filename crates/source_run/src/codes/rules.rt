@@ -1,16 +1,16 @@
 //! Codes of names and types.
 
 ghost use Rattle.std.specs.Prelude.{◌≡◌, map};
-ghost use Rattle.source_run.specs.ToldCodes.{code_of, told_rules};
+ghost use Rattle.source_run.specs.ListedCodes.{code_bytes, listed_rules};
 
 use crate::entry::{Example, Explanation, Frame, Status};
 
 static EXPLANATIONS: [Explanation; 13] = [
     Explanation {
         code: "C1",
-        title: "a name stands for nothing where it stands",
+        title: "a name isn't declared in this scope",
         meaning: &[
-            "A program names each global that it uses under VAR_EXTERNAL; its own variables stand under VAR.",
+            "A program declares the globals that it uses in VAR_EXTERNAL, and its own variables in VAR.",
         ],
         example: Some(Example {
             frame: Frame::Statements,
@@ -23,9 +23,9 @@ static EXPLANATIONS: [Explanation; 13] = [
         code: "C2",
         title: "a name is declared twice in its scope, or is taken",
         meaning: &[
-            "Upper and lower case are the same.",
-            "A variable may not have the name of a unit or a type, and nothing that of a standard function or block.",
-            "The place is the later declaration of the two, or that of the name that is taken.",
+            "Names aren't case-sensitive.",
+            "A variable can't have the name of a unit or type; nothing can have that of a standard function or block.",
+            "The place is the later of the two declarations, or that of the taken name.",
         ],
         example: Some(Example {
             frame: Frame::Units,
@@ -38,8 +38,8 @@ static EXPLANATIONS: [Explanation; 13] = [
         code: "C3",
         title: "a type is wrong",
         meaning: &[
-            "Both sides of := have one type, and so have both operands of an operator: INT and DINT don't mix.",
-            "INT_TO_DINT(x) and the like convert; a number without a type takes the one that is wanted.",
+            "Both sides of := and both operands of an operator must have the same type: INT and DINT don't mix.",
+            "Convert, as in INT_TO_DINT(x); a number without a type takes the type that is needed.",
         ],
         example: Some(Example {
             frame: Frame::Statements,
@@ -50,9 +50,9 @@ static EXPLANATIONS: [Explanation; 13] = [
     },
     Explanation {
         code: "C4",
-        title: "a literal is outside its type",
+        title: "a literal doesn't fit in its type",
         meaning: &[
-            "An INT holds -32768 to 32767, and each other type what its bits hold; a PRIORITY is at most 65535.",
+            "An INT holds -32768 to 32767, and other types what their bits hold; a PRIORITY is at most 65535.",
         ],
         example: Some(Example {
             frame: Frame::Statements,
@@ -63,10 +63,10 @@ static EXPLANATIONS: [Explanation; 13] = [
     },
     Explanation {
         code: "C5",
-        title: "an input, a constant, the control variable of a FOR that runs, or an output is assigned",
+        title: "an input, a constant, the control variable of an enclosing FOR, or an output is assigned",
         meaning: &[
-            "An output of a block is assigned by the block alone, and not from outside its instance.",
-            "The place is the first byte of the variable that is assigned.",
+            "Only the block itself can assign its outputs, not code outside its instance.",
+            "The place is the first byte of the assigned variable.",
         ],
         example: Some(Example {
             frame: Frame::Units,
@@ -87,11 +87,11 @@ static EXPLANATIONS: [Explanation; 13] = [
     },
     Explanation {
         code: "C6",
-        title: "a type or unit contains itself, or a type, a block or a function is over 64 deep",
+        title: "a type or unit contains itself, or a type, block or function is over 64 deep",
         meaning: &[
-            "A function contains the functions that it calls; a block contains those, and its instances.",
-            "A structure and an array contain what they are made of.",
-            "So no function calls itself, by whatever way; a loop does what a recursion would.",
+            "A function contains the functions that it calls; a block contains those and its instances.",
+            "A structure contains its fields, and an array its elements.",
+            "So no function can call itself, even indirectly: use a loop instead of recursion.",
         ],
         example: Some(Example {
             frame: Frame::Units,
@@ -108,7 +108,7 @@ static EXPLANATIONS: [Explanation; 13] = [
         code: "C7",
         title: "a range of a CASE is reversed, or labels overlap",
         meaning: &[
-            "The lower label of a range stands first, and no value has two labels.",
+            "The lower label of a range comes first, and no value has two labels.",
             "The place is one of the two labels.",
         ],
         example: Some(Example {
@@ -120,7 +120,7 @@ static EXPLANATIONS: [Explanation; 13] = [
     },
     Explanation {
         code: "C8",
-        title: "an array's bounds are reversed or over 4,096 elements apart, or a list is longer than its array",
+        title: "an array has reversed bounds or over 4,096 elements, or a list is longer than its array",
         meaning: &["The place is the lower bound of the array, or the [ of the list."],
         example: Some(Example {
             frame: Frame::Globals,
@@ -131,7 +131,7 @@ static EXPLANATIONS: [Explanation; 13] = [
     },
     Explanation {
         code: "C9",
-        title: "an EXIT stands outside a loop",
+        title: "an EXIT is outside a loop",
         meaning: &[
             "EXIT leaves the innermost FOR, WHILE or REPEAT; RETURN leaves the program, function or block.",
         ],
@@ -144,10 +144,10 @@ static EXPLANATIONS: [Explanation; 13] = [
     },
     Explanation {
         code: "C10",
-        title: "the arguments of a call don't fit in name, number or repetition",
+        title: "a call has the wrong number of arguments, or an unknown or repeated one",
         meaning: &[
-            "A function takes its arguments by place, all of them; a block takes them by name, each at most once.",
-            "The place is the function's name, or the argument's name of a block.",
+            "A function takes all its arguments by position; a block takes them by name, each at most once.",
+            "The place is the function's name, or the name of the block's argument.",
         ],
         example: Some(Example {
             frame: Frame::Statements,
@@ -158,9 +158,9 @@ static EXPLANATIONS: [Explanation; 13] = [
     },
     Explanation {
         code: "C11",
-        title: "an address (AT) stands in a block under RETAIN",
+        title: "an address (AT) is in a RETAIN block",
         meaning: &[
-            "An input comes from the plant, and an output is made anew: they stand in a block without RETAIN.",
+            "Inputs come from the plant, and programs set outputs anew: declare them in a block without RETAIN.",
         ],
         example: Some(Example {
             frame: Frame::Globals,
@@ -171,8 +171,8 @@ static EXPLANATIONS: [Explanation; 13] = [
     },
     Explanation {
         code: "C12",
-        title: "memory ran out while the text was judged",
-        meaning: &["The text may be right.", "Nothing was opened but the text."],
+        title: "memory ran out while the source was checked",
+        meaning: &["The source may be correct.", "Only the source was opened."],
         example: Some(Example {
             frame: Frame::ShortMemory,
             wrong: &["(ulimit -v 7000; plant check own.st)"],
@@ -183,7 +183,7 @@ static EXPLANATIONS: [Explanation; 13] = [
     Explanation {
         code: "C13",
         title: "an enumerated type has more than 256 names",
-        meaning: &["The place is the name behind the last one that the type may have."],
+        meaning: &["The place is the first name over the limit."],
         example: Some(Example {
             frame: Frame::Command,
             wrong: &[
@@ -199,9 +199,9 @@ static EXPLANATIONS: [Explanation; 13] = [
     },
 ];
 
-/// What is told of the codes with C.
+/// The explanations of the codes with C.
 pub(crate) fn rule_codes() -> &'static [Explanation]
-    ensures { map code_of result.now ≡ told_rules }
+    ensures { map code_bytes result.now ≡ listed_rules }
 {
     &EXPLANATIONS
 }

@@ -1,17 +1,17 @@
 //! Codes of the layout and the code.
 
 ghost use Rattle.std.specs.Prelude.{◌≡◌, map};
-ghost use Rattle.source_run.specs.ToldCodes.{code_of, told_sizes};
+ghost use Rattle.source_run.specs.ListedCodes.{code_bytes, listed_sizes};
 
 use crate::entry::{Example, Explanation, Frame, Status};
 
 static EXPLANATIONS: [Explanation; 3] = [
     Explanation {
         code: "M1",
-        title: "more than 4,096 paths, inputs among them, or more than 4,096 instances of function blocks",
+        title: "more than 4,096 paths, including inputs, or more than 4,096 function block instances",
         meaning: &[
-            "Each number, each element of an array and each member of an instance is a path of its own.",
-            "M1 tells too that the values of a program's functions take more than 4,096 places.",
+            "Each elementary variable, array element, field and instance member is a path.",
+            "M1 also applies if the values of a program's functions take more than 4,096 places.",
         ],
         example: Some(Example {
             frame: Frame::Globals,
@@ -24,8 +24,8 @@ static EXPLANATIONS: [Explanation; 3] = [
         code: "M2",
         title: "a program has more than 16,384 instructions",
         meaning: &[
-            "The code of functions and blocks stands in place of each of their calls, so that nested calls add up.",
-            "A loop takes the code of its body once.",
+            "The code of a function or block is repeated for each call, so nested calls add up.",
+            "The code of a loop's body counts once.",
         ],
         example: Some(Example {
             frame: Frame::Units,
@@ -50,8 +50,8 @@ static EXPLANATIONS: [Explanation; 3] = [
     },
     Explanation {
         code: "M3",
-        title: "memory ran out while the text was laid out or compiled",
-        meaning: &["The text may be right.", "Nothing was opened but the text."],
+        title: "memory ran out while the source was laid out or compiled",
+        meaning: &["The source may be correct.", "Only the source was opened."],
         example: Some(Example {
             frame: Frame::ShortMemory,
             wrong: &["(ulimit -v 7000; plant check own.st)"],
@@ -61,9 +61,9 @@ static EXPLANATIONS: [Explanation; 3] = [
     },
 ];
 
-/// What is told of the codes with M.
+/// The explanations of the codes with M.
 pub(crate) fn size_codes() -> &'static [Explanation]
-    ensures { map code_of result.now ≡ told_sizes }
+    ensures { map code_bytes result.now ≡ listed_sizes }
 {
     &EXPLANATIONS
 }

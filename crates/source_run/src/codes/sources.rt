@@ -1,14 +1,14 @@
 //! Codes of files of texts.
 
 ghost use Rattle.std.specs.Prelude.{◌≡◌, map};
-ghost use Rattle.source_run.specs.ToldCodes.{code_of, told_sources};
+ghost use Rattle.source_run.specs.ListedCodes.{code_bytes, listed_sources};
 
 use crate::entry::{Example, Explanation, Frame, Status};
 
 static EXPLANATIONS: [Explanation; 1] = [Explanation {
     code: "X1",
     title: "the source can't be read",
-    meaning: &["There is no file of this name, or it is a folder, or it may not be read."],
+    meaning: &["The file doesn't exist, is a folder or can't be read."],
     example: Some(Example {
         frame: Frame::Command,
         wrong: &["plant check nowhere.st"],
@@ -17,9 +17,9 @@ static EXPLANATIONS: [Explanation; 1] = [Explanation {
     status: Status::Source,
 }];
 
-/// What is told of the codes with X.
+/// The explanations of the codes with X.
 pub(crate) fn source_codes() -> &'static [Explanation]
-    ensures { map code_of result.now ≡ told_sources }
+    ensures { map code_bytes result.now ≡ listed_sources }
 {
     &EXPLANATIONS
 }

@@ -1,14 +1,14 @@
 //! Codes of the start.
 
 ghost use Rattle.std.specs.Prelude.{◌≡◌, map};
-ghost use Rattle.source_run.specs.ToldCodes.{code_of, told_starts};
+ghost use Rattle.source_run.specs.ListedCodes.{code_bytes, listed_starts};
 
 use crate::entry::{Example, Explanation, Frame, Status};
 
 static EXPLANATIONS: [Explanation; 1] = [Explanation {
     code: "N2",
     title: "memory ran out at the start, for the core",
-    meaning: &["The retain file may be right."],
+    meaning: &["The retain file may be intact."],
     example: Some(Example {
         frame: Frame::ShortMemory,
         wrong: &[
@@ -19,9 +19,9 @@ static EXPLANATIONS: [Explanation; 1] = [Explanation {
     status: Status::Start,
 }];
 
-/// What is told of the codes with N.
+/// The explanations of the codes with N.
 pub(crate) fn start_codes() -> &'static [Explanation]
-    ensures { map code_of result.now ≡ told_starts }
+    ensures { map code_bytes result.now ≡ listed_starts }
 {
     &EXPLANATIONS
 }

@@ -1,7 +1,7 @@
 //! Codes of the retain file.
 
 ghost use Rattle.std.specs.Prelude.{◌≡◌, map};
-ghost use Rattle.source_run.specs.ToldCodes.{code_of, told_stores};
+ghost use Rattle.source_run.specs.ListedCodes.{code_bytes, listed_stores};
 
 use crate::entry::{Example, Explanation, Frame, Status};
 
@@ -10,8 +10,8 @@ static EXPLANATIONS: [Explanation; 6] = [
         code: "S1",
         title: "the retain file is longer than 262,144 bytes",
         meaning: &[
-            "So it is no retain file, or something else wrote to it.",
-            "It stands in the way of a cold start too: give another name, or take the file away.",
+            "So it isn't a retain file, or something else wrote to it.",
+            "It prevents a cold start too: give another name or remove the file.",
         ],
         example: Some(Example {
             frame: Frame::Command,
@@ -27,9 +27,9 @@ static EXPLANATIONS: [Explanation; 6] = [
         code: "S2",
         title: "the retain file is damaged",
         meaning: &[
-            "It has an open gate over no record, or two open areas of one generation.",
-            "No stop of a run leaves it so: something else wrote to it.",
-            "It stands in the way of a cold start too: give another name, or take the file away.",
+            "It has an open gate without a record, or two open areas of one generation.",
+            "No interrupted run causes this: something else wrote to it.",
+            "It prevents a cold start too: give another name or remove the file.",
         ],
         example: Some(Example {
             frame: Frame::Command,
@@ -43,8 +43,8 @@ static EXPLANATIONS: [Explanation; 6] = [
     },
     Explanation {
         code: "S3",
-        title: "the device failed, the file can't be opened, or another run has it",
-        meaning: &["One run at a time may have a retain file."],
+        title: "the device failed, the file can't be opened, or another run uses it",
+        meaning: &["Only one run at a time can use a retain file."],
         example: Some(Example {
             frame: Frame::Command,
             wrong: &["plant run own.st --plant own.csv --store nofolder/own.retain --start cold"],
@@ -54,10 +54,10 @@ static EXPLANATIONS: [Explanation; 6] = [
     },
     Explanation {
         code: "S4",
-        title: "a start has to save, and the generations are used up",
+        title: "a start has to save, but no generation is left",
         meaning: &[
-            "Each save has a generation of its own, and the last is 18,446,744,073,709,551,615: no run comes so far.",
-            "The example makes a record of it by hand, for a text that retains n : INT alone.",
+            "Each save takes a new generation; the last is 18,446,744,073,709,551,615, which no run reaches.",
+            "The example makes a record of it by hand, for a source that retains only n : INT.",
         ],
         example: Some(Example {
             frame: Frame::Command,
@@ -74,7 +74,7 @@ static EXPLANATIONS: [Explanation; 6] = [
     Explanation {
         code: "S5",
         title: "memory ran out at the start, for the retain file",
-        meaning: &["The retain file may be right."],
+        meaning: &["The retain file may be intact."],
         example: Some(Example {
             frame: Frame::ShortMemory,
             wrong: &[
@@ -86,18 +86,18 @@ static EXPLANATIONS: [Explanation; 6] = [
     },
     Explanation {
         code: "S6",
-        title: "a save after one that failed",
+        title: "a save follows one that failed",
         meaning: &[
-            "A retain store answers so to the core; plant tells K5, and no command gives S6.",
+            "A retain store reports this to the core; plant reports K5, and no command gives S6.",
         ],
         example: None,
         status: Status::Run,
     },
 ];
 
-/// What is told of the codes with S.
+/// The explanations of the codes with S.
 pub(crate) fn store_codes() -> &'static [Explanation]
-    ensures { map code_of result.now ≡ told_stores }
+    ensures { map code_bytes result.now ≡ listed_stores }
 {
     &EXPLANATIONS
 }

@@ -1,16 +1,16 @@
 //! Codes of threads.
 
 ghost use Rattle.std.specs.Prelude.{◌≡◌, map};
-ghost use Rattle.source_run.specs.ToldCodes.{code_of, told_threads};
+ghost use Rattle.source_run.specs.ListedCodes.{code_bytes, listed_threads};
 
 use crate::entry::{Example, Explanation, Frame, Status};
 
 static EXPLANATIONS: [Explanation; 2] = [
     Explanation {
         code: "H1",
-        title: "a thread could not be started",
+        title: "a thread couldn't be started",
         meaning: &[
-            "As a rule there was no room for its stack; each resource has a thread, and so has the flusher.",
+            "Usually there was no room for its stack; each resource has a thread, and so does the flusher.",
         ],
         example: Some(Example {
             frame: Frame::ShortMemory,
@@ -21,19 +21,19 @@ static EXPLANATIONS: [Explanation; 2] = [
     },
     Explanation {
         code: "H2",
-        title: "all threads have ended well, and yet something was left to do",
+        title: "all threads ended normally, but left something to do",
         meaning: &[
-            "A run looks for this before it ends.",
-            "No test meets it, and no command is known that gives H2.",
+            "A run checks for this before it ends.",
+            "No test and no known command gives H2.",
         ],
         example: None,
         status: Status::Run,
     },
 ];
 
-/// What is told of the codes with H.
+/// The explanations of the codes with H.
 pub(crate) fn thread_codes() -> &'static [Explanation]
-    ensures { map code_of result.now ≡ told_threads }
+    ensures { map code_bytes result.now ≡ listed_threads }
 {
     &EXPLANATIONS
 }

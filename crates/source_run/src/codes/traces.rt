@@ -1,16 +1,16 @@
 //! Codes of the trace.
 
 ghost use Rattle.std.specs.Prelude.{◌≡◌, map};
-ghost use Rattle.source_run.specs.ToldCodes.{code_of, told_traces};
+ghost use Rattle.source_run.specs.ListedCodes.{code_bytes, listed_traces};
 
 use crate::entry::{Example, Explanation, Frame, Status};
 
 static EXPLANATIONS: [Explanation; 6] = [
     Explanation {
         code: "V1",
-        title: "a line is not of the format, or tells what is not the plan's",
+        title: "a line is malformed, or doesn't match the plan",
         meaning: &[
-            "The plan's are its retained variables, their initial values after a cold start, and its programs.",
+            "The plan has the RETAIN variables, their initial values after a cold start, and the programs.",
             "The last line has the number of rows and executions before it.",
         ],
         example: Some(Example {
@@ -22,8 +22,8 @@ static EXPLANATIONS: [Explanation; 6] = [
     },
     Explanation {
         code: "V2",
-        title: "a row is not the plant's next one, or not later than the one before it",
-        meaning: &["The rows of a trace are the first rows of the plant, by their moments."],
+        title: "a row isn't the plant's next one, or isn't later than the one before it",
+        meaning: &["The rows of a trace are the first rows of the plant, given by their times."],
         example: Some(Example {
             frame: Frame::Trace,
             wrong: &["row 11"],
@@ -33,9 +33,9 @@ static EXPLANATIONS: [Explanation; 6] = [
     },
     Explanation {
         code: "V3",
-        title: "an execution of what was not waiting",
+        title: "a program ran that wasn't waiting",
         meaning: &[
-            "A line done has the program, and the number of the row that made it due, from 0.",
+            "A line done has the program and the number of the row that made it due, from 0.",
         ],
         example: Some(Example {
             frame: Frame::Trace,
@@ -46,8 +46,8 @@ static EXPLANATIONS: [Explanation; 6] = [
     },
     Explanation {
         code: "V4",
-        title: "an execution that ends in another way",
-        meaning: &["A line done ends with ok, or with the fault of the execution."],
+        title: "an execution ends differently",
+        meaning: &["A line done ends with ok or with the fault of the execution."],
         example: Some(Example {
             frame: Frame::Trace,
             wrong: &["done R/P 0 F1"],
@@ -57,8 +57,8 @@ static EXPLANATIONS: [Explanation; 6] = [
     },
     Explanation {
         code: "V5",
-        title: "memory ran out while a trace was read, run again or written",
-        meaning: &["The trace may be right."],
+        title: "memory ran out while a trace was read, replayed or written",
+        meaning: &["The trace may be correct."],
         example: Some(Example {
             frame: Frame::ShortMemory,
             wrong: &["(ulimit -v 7000; plant replay own.st --plant own.csv --trace own.trace)"],
@@ -68,9 +68,9 @@ static EXPLANATIONS: [Explanation; 6] = [
     },
     Explanation {
         code: "V6",
-        title: "the trace can't be read, or in a run not written",
+        title: "the trace can't be read, or a run can't write it",
         meaning: &[
-            "A run that can't write its trace has ended well, and its retain file is as it is after it.",
+            "A run that can't write its trace has otherwise succeeded, and its retain file is saved.",
         ],
         example: Some(Example {
             frame: Frame::Command,
@@ -84,9 +84,9 @@ static EXPLANATIONS: [Explanation; 6] = [
     },
 ];
 
-/// What is told of the codes with V.
+/// The explanations of the codes with V.
 pub(crate) fn trace_codes() -> &'static [Explanation]
-    ensures { map code_of result.now ≡ told_traces }
+    ensures { map code_bytes result.now ≡ listed_traces }
 {
     &EXPLANATIONS
 }

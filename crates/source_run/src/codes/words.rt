@@ -1,17 +1,17 @@
 //! Codes of the words of a text.
 
 ghost use Rattle.std.specs.Prelude.{◌≡◌, map};
-ghost use Rattle.source_run.specs.ToldCodes.{code_of, told_words};
+ghost use Rattle.source_run.specs.ListedCodes.{code_bytes, listed_words};
 
 use crate::entry::{Example, Explanation, Frame, Status};
 
 static EXPLANATIONS: [Explanation; 6] = [
     Explanation {
         code: "L1",
-        title: "a byte may not stand there",
+        title: "a byte isn't allowed here",
         meaning: &[
             "Allowed bytes are TAB, LF, CR and 32 to 126, in comments too.",
-            "The place is the byte's, or the opening of the comment that it stands in.",
+            "The place is that of the byte, or of the comment that contains it.",
         ],
         example: Some(Example {
             frame: Frame::Statements,
@@ -24,8 +24,8 @@ static EXPLANATIONS: [Explanation; 6] = [
         code: "L2",
         title: "a literal or an address is malformed or too large",
         meaning: &[
-            "A number to the base 2, 8 or 16 has digits of its base alone; a duration has its units in falling order.",
-            "The place is the first byte of the literal or the address.",
+            "A number in base 2, 8 or 16 has only digits of its base; a duration has its units in descending order.",
+            "The place is the first byte of the literal or address.",
         ],
         example: Some(Example {
             frame: Frame::Statements,
@@ -38,7 +38,7 @@ static EXPLANATIONS: [Explanation; 6] = [
         code: "L3",
         title: "a name is malformed",
         meaning: &[
-            "It has at most 64 letters, digits and underscores, no two underscores in a row, and none at its end.",
+            "Use at most 64 letters, digits and underscores, no two underscores in a row, and none at the end.",
         ],
         example: Some(Example {
             frame: Frame::Units,
@@ -49,10 +49,10 @@ static EXPLANATIONS: [Explanation; 6] = [
     },
     Explanation {
         code: "L4",
-        title: "a comment is left open, or another begins in it",
+        title: "a comment isn't closed, or contains another one",
         meaning: &[
             "Comments are (* *) and don't nest.",
-            "The place is the opening of the comment, or of the inner one.",
+            "The place is the start of the comment, or of the inner one.",
         ],
         example: Some(Example {
             frame: Frame::Statements,
@@ -63,8 +63,8 @@ static EXPLANATIONS: [Explanation; 6] = [
     },
     Explanation {
         code: "L5",
-        title: "the text is longer than 1,048,576 bytes",
-        meaning: &["Comments and blanks count."],
+        title: "the source is longer than 1,048,576 bytes",
+        meaning: &["Comments and spaces count."],
         example: Some(Example {
             frame: Frame::Command,
             wrong: &[
@@ -77,8 +77,8 @@ static EXPLANATIONS: [Explanation; 6] = [
     },
     Explanation {
         code: "L6",
-        title: "memory ran out while the text was read as tokens",
-        meaning: &["The text may be right.", "Nothing was opened but the text."],
+        title: "memory ran out while the source was split into tokens",
+        meaning: &["The source may be correct.", "Only the source was opened."],
         example: Some(Example {
             frame: Frame::ShortMemory,
             wrong: &["(ulimit -v 7000; plant check own.st)"],
@@ -88,9 +88,9 @@ static EXPLANATIONS: [Explanation; 6] = [
     },
 ];
 
-/// What is told of the codes with L.
+/// The explanations of the codes with L.
 pub(crate) fn word_codes() -> &'static [Explanation]
-    ensures { map code_of result.now ≡ told_words }
+    ensures { map code_bytes result.now ≡ listed_words }
 {
     &EXPLANATIONS
 }

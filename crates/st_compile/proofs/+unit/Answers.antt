@@ -16,17 +16,17 @@ use Rattle.slot_trees.specs.SlotEvaluation.{slot_at}
 use Rattle.std.proofs.lemmas.Bool.{false≢true}
 use Rattle.st_types.specs.Values.{Datum}
 use Rattle.machine_code.specs.Calls.{resets_code}
-use Rattle.machine_code.specs.Codes.{count_of, stmts_code, stores_code, body_ways}
+use Rattle.machine_code.specs.Codes.{count_of, stmts_code, stores_code, body_targets}
 use Rattle.machine_code.specs.Fitting.{of_function, of_block, AllBelow, ArgumentsFit, ExprFits, ExprsFit, StmtsFit}
 use Rattle.machine_code.specs.Growing.{◌◂◌}
-use Rattle.machine_code.specs.Sites.{site_at, end_of}
+use Rattle.machine_code.specs.UnitFrames.{instance_frame, end_of}
 use Rattle.symbols.specs.Standard.{standard_view}
 use Rattle.slot_trees.specs.LibraryViews.{slot_library_view, slot_function_view}
 use Rattle.std.proofs.lemmas.Bool.Decides.{nat_tests}
 use Rattle.st_compile.specs.declared.compile_error.CompileError.TheVariants.{NotLinked, TooManyPlaces}
 use Rattle.st_compile.specs.Accesses.{known_instr, led_instr}
 use Rattle.st_compile.proofs.Filled.{filled_body, filled_function}
-use Rattle.st_compile.specs.Emitting.{filled, site_of, units_in, lengths_in, FitsIn, LinkedIn}
+use Rattle.st_compile.specs.Emitting.{filled, frame_of, units_in, lengths_in, FitsIn, LinkedIn}
 use Rattle.st_compile.specs.Lengths.{units_length, inputs_length, outputs_length, place_length, stmts_length}
 use Rattle.st_compile.specs.Lengths.{subscripts_length}
 use Rattle.st_compile.specs.Linked.{ExprLinked, StmtsLinked, AreLabels}
@@ -52,7 +52,7 @@ pub expressions::put_exprs-returns-in_err-put_expr-clause-wrong :
     goal.expressions::put_exprs-returns-in_err-put_expr-clause-wrong
 expressions::put_exprs-returns-in_err-put_expr-clause-wrong t c =
     not_linked _ c.in_err-put_expr.field-0.0 _ _ c.in_err-put_expr.ensures.wrong
-    (λ h. expr_at (LinkedIn c.args.library.now c.args.scope) (site_of c.args.scope)
+    (λ h. expr_at (LinkedIn c.args.library.now c.args.scope) (frame_of c.args.scope)
     c.args.expressions.now (c.loop-left.left - 1) c.index-expressions-left.result (omega arith)
     c.index-expressions-left.is h) (search rules)
 
@@ -60,7 +60,7 @@ pub expressions::put_subscripts-returns-in_err-put_subscript-clause-wrong :
     goal.expressions::put_subscripts-returns-in_err-put_subscript-clause-wrong
 expressions::put_subscripts-returns-in_err-put_subscript-clause-wrong t c =
     not_linked _ c.in_err-put_subscript.field-0.0 _ _ c.in_err-put_subscript.ensures.wrong
-    (λ h. (subscript_at (LinkedIn c.args.library.now c.args.scope) (site_of c.args.scope)
+    (λ h. (subscript_at (LinkedIn c.args.library.now c.args.scope) (frame_of c.args.scope)
     c.args.subscripts.now (c.loop-left.left - 1) c.index-subscripts-left.result (omega arith)
     c.index-subscripts-left.is h).0) (search rules)
 
@@ -69,15 +69,15 @@ pub expressions::put_subscripts-returns-in_err-put_expr-clause-wrong :
 expressions::put_subscripts-returns-in_err-put_expr-clause-wrong t c =
     not_linked _ c.in_err-put_expr.field-0.0 _ _ c.in_err-put_expr.ensures.wrong
     (λ h. subst (λ (y : code_subscript.Subscript). ExprLinked (LinkedIn c.args.library.now c.args.scope)
-    (site_of c.args.scope) (slot_expr_view y.index)) c.index-subscripts-left-in-loop-left.is
-    (subscript_at (LinkedIn c.args.library.now c.args.scope) (site_of c.args.scope)
+    (frame_of c.args.scope) (slot_expr_view y.index)) c.index-subscripts-left-in-loop-left.is
+    (subscript_at (LinkedIn c.args.library.now c.args.scope) (frame_of c.args.scope)
     c.args.subscripts.now (c.loop-left.left - 1) c.index-subscripts-left-in-loop-left.result
     (omega arith) c.index-subscripts-left-in-loop-left.is h).1) (search rules)
 
 pub calls::put_inputs-returns-then-saturating_add-scope-clause-wrong :
     goal.calls::put_inputs-returns-then-saturating_add-scope-clause-wrong
 calls::put_inputs-returns-then-saturating_add-scope-clause-wrong t c = λ _ h.
-    let w = input_at (LinkedIn c.args.library.now c.args.scope) (site_of c.args.scope)
+    let w = input_at (LinkedIn c.args.library.now c.args.scope) (frame_of c.args.scope)
     c.args.arguments.now (c.loop-left.left - 1) c.args.first c.index-arguments-left.result
     (Given c.in-Given.member c.in-Given.value) (omega arith) c.index-arguments-left.is c.in-Given.is h in
     omega (arith, w.0)
@@ -86,7 +86,7 @@ pub calls::put_inputs-returns-in_err-put_expr-clause-wrong :
     goal.calls::put_inputs-returns-in_err-put_expr-clause-wrong
 calls::put_inputs-returns-in_err-put_expr-clause-wrong t c =
     not_linked _ c.in_err-put_expr.field-0.0 _ _ c.in_err-put_expr.ensures.wrong
-    (λ h. (input_at (LinkedIn c.args.library.now c.args.scope) (site_of c.args.scope)
+    (λ h. (input_at (LinkedIn c.args.library.now c.args.scope) (frame_of c.args.scope)
     c.args.arguments.now (c.loop-left.left - 1) c.args.first c.index-arguments-left.result
     (Given c.in-Given.member c.in-Given.value) (omega arith) c.index-arguments-left.is c.in-Given.is h).1) (search
     rules)
@@ -94,7 +94,7 @@ calls::put_inputs-returns-in_err-put_expr-clause-wrong t c =
 pub calls::put_outputs-returns-then-slot-scope-clause-wrong :
     goal.calls::put_outputs-returns-then-slot-scope-clause-wrong
 calls::put_outputs-returns-then-slot-scope-clause-wrong t c = λ _ h.
-    let w = output_at (LinkedIn c.args.library.now c.args.scope) (site_of c.args.scope)
+    let w = output_at (LinkedIn c.args.library.now c.args.scope) (frame_of c.args.scope)
     c.args.arguments.now (c.loop-left.left - 1) c.args.first c.index-arguments-left.result
     (Copied c.in-Copied.member c.in-Copied.target) (omega arith) c.index-arguments-left.is c.in-Copied.is h in
     omega (arith, w.0)
@@ -103,7 +103,7 @@ pub calls::put_outputs-returns-in_err-put_place-clause-wrong :
     goal.calls::put_outputs-returns-in_err-put_place-clause-wrong
 calls::put_outputs-returns-in_err-put_place-clause-wrong t c =
     not_linked _ c.in_err-put_place.field-0.0 _ _ c.in_err-put_place.ensures.wrong
-    (λ h. (output_at (LinkedIn c.args.library.now c.args.scope) (site_of c.args.scope)
+    (λ h. (output_at (LinkedIn c.args.library.now c.args.scope) (frame_of c.args.scope)
     c.args.arguments.now (c.loop-left.left - 1) c.args.first c.index-arguments-left.result
     (Copied c.in-Copied.member c.in-Copied.target) (omega arith) c.index-arguments-left.is c.in-Copied.is h).1)
     (search rules)
@@ -112,7 +112,7 @@ pub statements::put_statements-returns-in_err-put_statement-clause-wrong :
     goal.statements::put_statements-returns-in_err-put_statement-clause-wrong
 statements::put_statements-returns-in_err-put_statement-clause-wrong t c =
     not_linked _ c.in_err-put_statement.field-0.0 _ _ c.in_err-put_statement.ensures.wrong
-    (λ h. stmt_at (LinkedIn c.args.library.now c.args.scope) (site_of c.args.scope)
+    (λ h. stmt_at (LinkedIn c.args.library.now c.args.scope) (frame_of c.args.scope)
     c.args.statements.now (c.loop-left.left - 1) c.index-statements-left.result (omega arith)
     c.index-statements-left.is h) (search rules)
 
@@ -120,12 +120,12 @@ pub statements::put_arms-returns-in_err-put_statements-clause-wrong :
     goal.statements::put_arms-returns-in_err-put_statements-clause-wrong
 statements::put_arms-returns-in_err-put_statements-clause-wrong t c =
     not_linked _ c.in_err-put_statements.field-0.0 _ _ c.in_err-put_statements.ensures.wrong
-    (λ h. subst (λ (ys : List code_stmt.SlotStmt). StmtsLinked (LinkedIn c.args.library.now c.args.scope) (site_of
+    (λ h. subst (λ (ys : List code_stmt.SlotStmt). StmtsLinked (LinkedIn c.args.library.now c.args.scope) (frame_of
     c.args.scope)
     (stmts_of (map slot_stmt_view ys))) (sym c.deref.ensures.value)
-    (subst (λ (y : code_arm.SlotArm). StmtsLinked (LinkedIn c.args.library.now c.args.scope) (site_of c.args.scope)
+    (subst (λ (y : code_arm.SlotArm). StmtsLinked (LinkedIn c.args.library.now c.args.scope) (frame_of c.args.scope)
     (stmts_of (map slot_stmt_view y.body.items))) c.index-arms-left.is
-    (arm_at (LinkedIn c.args.library.now c.args.scope) (site_of c.args.scope) c.args.arms.now (c.loop-left.left - 1)
+    (arm_at (LinkedIn c.args.library.now c.args.scope) (frame_of c.args.scope) c.args.arms.now (c.loop-left.left - 1)
     c.index-arms-left.result (omega arith)
     c.index-arms-left.is h).1)) (search rules)
 
@@ -134,8 +134,8 @@ pub statements::put_arms-returns-in_err-put_expr-clause-wrong :
 statements::put_arms-returns-in_err-put_expr-clause-wrong t c =
     not_linked _ c.in_err-put_expr.field-0.0 _ _ c.in_err-put_expr.ensures.wrong
     (λ h. subst (λ (y : code_arm.SlotArm). ExprLinked (LinkedIn c.args.library.now c.args.scope)
-    (site_of c.args.scope) (slot_expr_view y.condition)) c.index-arms-left-in-loop-left.is
-    (arm_at (LinkedIn c.args.library.now c.args.scope) (site_of c.args.scope)
+    (frame_of c.args.scope) (slot_expr_view y.condition)) c.index-arms-left-in-loop-left.is
+    (arm_at (LinkedIn c.args.library.now c.args.scope) (frame_of c.args.scope)
     c.args.arms.now (c.loop-left.left - 1) c.index-arms-left-in-loop-left.result
     (omega arith) c.index-arms-left-in-loop-left.is h).0) (search rules)
 
@@ -143,13 +143,13 @@ pub statements::put_case_arms-returns-in_err-put_statements-clause-wrong :
     goal.statements::put_case_arms-returns-in_err-put_statements-clause-wrong
 statements::put_case_arms-returns-in_err-put_statements-clause-wrong t c =
     not_linked _ c.in_err-put_statements.field-0.0 _ _ c.in_err-put_statements.ensures.wrong
-    (λ h. subst (λ (ys : List code_stmt.SlotStmt). StmtsLinked (LinkedIn c.args.library.now c.args.scope) (site_of
+    (λ h. subst (λ (ys : List code_stmt.SlotStmt). StmtsLinked (LinkedIn c.args.library.now c.args.scope) (frame_of
     c.args.scope)
     (stmts_of (map slot_stmt_view ys))) (sym c.deref.ensures.value)
-    (subst (λ (y : code_case_arm.SlotCaseArm). StmtsLinked (LinkedIn c.args.library.now c.args.scope) (site_of
+    (subst (λ (y : code_case_arm.SlotCaseArm). StmtsLinked (LinkedIn c.args.library.now c.args.scope) (frame_of
     c.args.scope)
     (stmts_of (map slot_stmt_view y.body.items))) c.index-arms-left.is
-    (case_at (LinkedIn c.args.library.now c.args.scope) (site_of c.args.scope) c.args.arms.now (c.loop-left.left - 1)
+    (case_at (LinkedIn c.args.library.now c.args.scope) (frame_of c.args.scope) c.args.arms.now (c.loop-left.left - 1)
     c.index-arms-left.result (omega arith)
     c.index-arms-left.is h).1)) (search rules)
 
@@ -159,7 +159,7 @@ statements::put_case_arms-returns-in_err-put_labels-clause-wrong t c =
     not_linked _ c.in_err-put_labels.field-0.0 _ _ (rw c.deref-in-loop-left.ensures.value at
     c.in_err-put_labels.ensures.wrong)
     (λ h. subst (λ (y : code_case_arm.SlotCaseArm). AreLabels y.labels.items) c.index-arms-left-in-loop-left.is
-    (case_at (LinkedIn c.args.library.now c.args.scope) (site_of c.args.scope)
+    (case_at (LinkedIn c.args.library.now c.args.scope) (frame_of c.args.scope)
     c.args.arms.now (c.loop-left.left - 1) c.index-arms-left-in-loop-left.result (omega arith)
     c.index-arms-left-in-loop-left.is h).0) (search rules)
 
@@ -188,7 +188,7 @@ pub calls::put_block-returns-else-member_count-scope-clause-code :
 calls::put_block-returns-else-member_count-scope-clause-code t c =
     on_ok c.put.result _ _ (λ e. e ∙ standard_put (filled (slot_library_view c.args.library.now)) c.args.scope.depth
     c.in-Some.depth _ _ _ _ _ (omega (arith, c.in-Some.ensures))
-    (ap block_code_view c.in-Standard.is) c.slot_behind.ensures) c.put.ensures.put
+    (ap block_code_view c.in-Standard.is) c.slot_after.ensures) c.put.ensures.put
 
 pub calls::put_block-returns-else-member_count-scope-clause-fits :
     goal.calls::put_block-returns-else-member_count-scope-clause-fits
@@ -243,7 +243,7 @@ expressions::put_expr-returns-in_ok-put-in-Compute-clause-code t c =
     let es = c.in-Compute.arguments.items in
     let seen : slot_expr_view c.args.expression.now ≡ compute (standard_view f) (exprs_of (map slot_expr_view es)) =
     rw c.in-Compute.is (search (rules, code_expr.the_lemmas)) in
-    on_ok c.put_exprs.result _ _ (λ e. compute_put (units_in c.args.library.now c.args.scope) (site_of c.args.scope)
+    on_ok c.put_exprs.result _ _ (λ e. compute_put (units_in c.args.library.now c.args.scope) (frame_of c.args.scope)
     f es _ _ _ _ _ _ seen c.deref-in-Compute.ensures.value
     c.in_ok-put-in-Compute.ensures.put (omega (arith, c.in-Ok.ensures, c.len.ensures)) e) c.put_exprs.ensures.code
 
@@ -265,7 +265,7 @@ calls::put_function-returns-in_err-put_statements-clause-wrong t c =
     )) in
     not_linked _ c.in_err-put_statements.field-0.0 _ _ c.in_err-put_statements.ensures.wrong
     (λ h. subst (λ (ys : List code_stmt.SlotStmt). StmtsLinked (LinkedIn c.args.library.now c.in_ok-inner.inner)
-    (site_of c.in_ok-inner.inner) (stmts_of (map slot_stmt_view ys))) (sym c.deref.ensures.value)
+    (frame_of c.in_ok-inner.inner) (stmts_of (map slot_stmt_view ys))) (sym c.deref.ensures.value)
     (body_linked (slot_library_view c.args.library.now) c.args.scope.depth _ _ _ _ c.in_ok-inner.inner e
     c.in_ok-function.ensures.known c.in_ok-inner.ensures.start c.in_ok-inner.ensures.base c.in_ok-inner.ensures.size
     h)) (search rules)
@@ -276,7 +276,7 @@ calls::put_invocation-returns-in_err-put_outputs-clause-wrong t c =
     let e : (slot_at c.args.scope.base (anchor_view c.args.instance)) ≡ c.value_at-first.result =
     omega (arith, c.value_at-first.ensures, c.if-first-scope.false, c.requires.room, c.requires.numbered) in
     not_linked _ c.in_err-put_outputs.field-0.0 _ _ c.in_err-put_outputs.ensures.wrong
-    (λ h. outputs_linked (LinkedIn c.args.library.now c.args.scope) (site_of c.args.scope) _ _ (rw e at h.2)) (search
+    (λ h. outputs_linked (LinkedIn c.args.library.now c.args.scope) (frame_of c.args.scope) _ _ (rw e at h.2)) (search
     rules)
 
 pub calls::put_invocation-returns-clause-wrong : goal.calls::put_invocation-returns-clause-wrong
@@ -284,13 +284,13 @@ calls::put_invocation-returns-clause-wrong t c =
     let e : (slot_at c.args.scope.base (anchor_view c.args.instance)) ≡ c.value_at-first.result =
     omega (arith, c.value_at-first.ensures, c.if-first-scope.false, c.requires.room, c.requires.numbered) in
     passed_on NotLinked c.put_inputs.result _ _ c.put_inputs.ensures.wrong
-    (λ h. inputs_linked (LinkedIn c.args.library.now c.args.scope) (site_of c.args.scope) _ _ (rw e at h.2))
+    (λ h. inputs_linked (LinkedIn c.args.library.now c.args.scope) (frame_of c.args.scope) _ _ (rw e at h.2))
 
 pub calls::put_invocation-returns-clause-code : goal.calls::put_invocation-returns-clause-code
 calls::put_invocation-returns-clause-code t c =
     let e : c.value_at-first.result ≡ (slot_at c.args.scope.base (anchor_view c.args.instance)) =
     omega (arith, c.value_at-first.ensures, c.if-first-scope.false, c.requires.room, c.requires.numbered) in
-    on_ok c.put_inputs.result _ _ (λ put5. invoke_put (units_in c.args.library.now c.args.scope) (site_of
+    on_ok c.put_inputs.result _ _ (λ put5. invoke_put (units_in c.args.library.now c.args.scope) (frame_of
     c.args.scope) c.value_at-first.result (slot_at c.args.scope.base (anchor_view c.args.instance))
     (c.args.scope.start + c.value_at-first.result) c.in-Ok.count (block_code_view c.args.block) (map
     slot_argument_view c.args.arguments.now) _ _ _ _
@@ -305,7 +305,7 @@ calls::put_invocation-returns-clause-block t c =
     let e : c.value_at-first.result ≡ (slot_at c.args.scope.base (anchor_view c.args.instance)) =
     omega (arith, c.value_at-first.ensures, c.if-first-scope.false, c.requires.room, c.requires.numbered) in
     on_ok c.put_inputs.result _ _ (λ _. subst (λ at. FitsIn c.args.library.now c.args.scope
-    (of_block (block_code_view c.args.block) (site_at (site_of c.args.scope) at))) e c.in_ok-put_block.ensures.fits)
+    (of_block (block_code_view c.args.block) (instance_frame (frame_of c.args.scope) at))) e c.in_ok-put_block.ensures.fits)
     c.put_inputs.ensures.fits
 
 pub calls::put_invocation-returns-clause-fits : goal.calls::put_invocation-returns-clause-fits
@@ -313,8 +313,8 @@ calls::put_invocation-returns-clause-fits t c =
     let e : c.value_at-first.result ≡ (slot_at c.args.scope.base (anchor_view c.args.instance)) =
     omega (arith, c.value_at-first.ensures, c.if-first-scope.false, c.requires.room, c.requires.numbered) in
     on_ok c.put_inputs.result _ _ (λ h. subst (λ at. ArgumentsFit (FitsIn c.args.library.now c.args.scope)
-    (site_of c.args.scope) at (map slot_argument_view c.args.arguments.now)) e (arguments_fit (FitsIn
-    c.args.library.now c.args.scope) (site_of c.args.scope)
+    (frame_of c.args.scope) at (map slot_argument_view c.args.arguments.now)) e (arguments_fit (FitsIn
+    c.args.library.now c.args.scope) (frame_of c.args.scope)
     c.value_at-first.result (map slot_argument_view c.args.arguments.now) h c.in_ok-put_outputs.ensures.fits))
     c.put_inputs.ensures.fits
 
@@ -328,7 +328,7 @@ expressions::put_expr-returns-in_err-put_function-in-Call-clause-wrong t c =
     let n : count_of (exprs_of (map slot_expr_view es)) ≡ c.len-in-Call.result =
     count_is es ∙ (omega (arith, c.len-in-Call.ensures, c.in-Call.arguments.ok.0)) in
     not_linked _ c.in_err-put_function-in-Call.field-0.0 _ _ c.in_err-put_function-in-Call.ensures.wrong
-    (λ h. rw n at (subst (λ x. ExprLinked (LinkedIn c.args.library.now c.args.scope) (site_of c.args.scope) x) seen
+    (λ h. rw n at (subst (λ x. ExprLinked (LinkedIn c.args.library.now c.args.scope) (frame_of c.args.scope) x) seen
     h).1) (search rules)
 
 pub calls::put_function-returns-clause-code : goal.calls::put_function-returns-clause-code
@@ -341,10 +341,10 @@ calls::put_function-returns-clause-code t c =
       c.in_ok-inner.ensures.depth,
     ) in
     let has = c.if-not-has_signature.ensures.0 refl in
-    let body : c.put_statements.new.code ≡ stmts_code (units_in c.args.library.now z) (site_of z)
-    (slot_stmts_view f.body.items) (body_ways c.len-end.result) c.put.new.self
+    let body : c.put_statements.new.code ≡ stmts_code (units_in c.args.library.now z) (frame_of z)
+    (slot_stmts_view f.body.items) (body_targets c.len-end.result) c.put.new.self
     = subst (λ (ys : List code_stmt.SlotStmt). c.put_statements.new.code ≡ stmts_code (units_in c.args.library.now z)
-    (site_of z) (slot_stmts_view ys) (body_ways c.len-end.result) c.put.new.self) c.deref.ensures.value
+    (frame_of z) (slot_stmts_view ys) (body_targets c.len-end.result) c.put.new.self) c.deref.ensures.value
     c.in_ok-put_statements.ensures.code in
     let stores : c.put_stores.new.code ≡ stores_code z.start f.inputs.items c.put_statements.new.code
     = subst (λ (ys : List ℕ). c.put_stores.new.code ≡ stores_code z.start ys c.put_statements.new.code)
@@ -354,12 +354,12 @@ calls::put_function-returns-clause-code t c =
     c.deref-3.ensures.value c.in_ok-put_resets.ensures.code in
     on_ok c.put-2.result _ _ (λ put5. function_put (filled (slot_library_view c.args.library.now)) c.args.scope.depth
     c.args.number
-    (end_of (site_of c.args.scope)) (slot_function_view f) z c.args.code.now c.put.new.self c.put_statements.new.code
-    c.put_stores.new.code c.put_resets.new.code c.put-2.new.self c.slot_behind.result c.len-end.result
+    (end_of (frame_of c.args.scope)) (slot_function_view f) z c.args.code.now c.put.new.self c.put_statements.new.code
+    c.put_stores.new.code c.put_resets.new.code c.put-2.new.self c.slot_after.result c.len-end.result
     c.in-Ok.taken e
     (filled_function (slot_library_view c.args.library.now) c.args.number _ c.in_ok-function.ensures.known)
     c.in_ok-inner.ensures.start c.in_ok-inner.ensures.base c.in_ok-inner.ensures.size
-    c.slot_behind.ensures c.in_ok-put.ensures.put c.len-end.ensures.count body stores resets
+    c.slot_after.ensures c.in_ok-put.ensures.put c.len-end.ensures.count body stores resets
     (omega (arith, c.in-Ok.ensures, has.0)) put5) c.put-2.ensures.put
 
 pub calls::put_function-returns-clause-fits : goal.calls::put_function-returns-clause-fits
@@ -371,13 +371,13 @@ calls::put_function-returns-clause-fits t c =
       c.in-Some.ensures,
       c.in_ok-inner.ensures.depth,
     ) in
-    let body : StmtsFit (FitsIn c.args.library.now z) (site_of z) (slot_stmts_view f.body.items)
-    = subst (λ (ys : List code_stmt.SlotStmt). StmtsFit (FitsIn c.args.library.now z) (site_of z) (slot_stmts_view
+    let body : StmtsFit (FitsIn c.args.library.now z) (frame_of z) (slot_stmts_view f.body.items)
+    = subst (λ (ys : List code_stmt.SlotStmt). StmtsFit (FitsIn c.args.library.now z) (frame_of z) (slot_stmts_view
     ys))
     c.deref.ensures.value c.in_ok-put_statements.ensures.fits in
     on_ok c.put-2.result _ _ (λ _. function_fits_so c.args.scope.memory (filled (slot_library_view
     c.args.library.now)) c.args.scope.depth c.args.number
-    (end_of (site_of c.args.scope)) c.args.count (slot_function_view f) z e
+    (end_of (frame_of c.args.scope)) c.args.count (slot_function_view f) z e
     (filled_function (slot_library_view c.args.library.now) c.args.number _ c.in_ok-function.ensures.known)
     c.in_ok-inner.ensures.memory
     c.in_ok-inner.ensures.start c.in_ok-inner.ensures.base c.in_ok-inner.ensures.size c.in_ok-inner.ensures.room
@@ -392,11 +392,11 @@ expressions::put_expr-returns-in_ok-put_function-in-Call-clause-fits t c =
     rw c.in-Call.is (search (rules, code_expr.the_lemmas)) in
     let n : c.len-in-Call.result ≡ count_of (exprs_of (map slot_expr_view es)) =
     (omega (arith, c.len-in-Call.ensures, c.in-Call.arguments.ok.0)) ∙ sym (count_is es) in
-    on_ok c.put_exprs-in-Call.result _ _ (λ h. subst (λ x. ExprFits (FitsIn c.args.library.now c.args.scope) (site_of
+    on_ok c.put_exprs-in-Call.result _ _ (λ h. subst (λ x. ExprFits (FitsIn c.args.library.now c.args.scope) (frame_of
     c.args.scope) x) (sym seen) (
-      subst (λ (ys : List code_expr.SlotExpr). ExprsFit (FitsIn c.args.library.now c.args.scope) (site_of
+      subst (λ (ys : List code_expr.SlotExpr). ExprsFit (FitsIn c.args.library.now c.args.scope) (frame_of
           c.args.scope) (exprs_of (map slot_expr_view ys))) c.deref-in-Call.ensures.value h,
-      subst (λ m. FitsIn c.args.library.now c.args.scope (of_function f (end_of (site_of c.args.scope)) m)) n
+      subst (λ m. FitsIn c.args.library.now c.args.scope (of_function f (end_of (frame_of c.args.scope)) m)) n
           c.in_ok-put_function-in-Call.ensures.fits,
     )) c.put_exprs-in-Call.ensures.fits
 
@@ -407,7 +407,7 @@ expressions::put_place-returns-clause-code t c =
     p.subscripts.items)) = search (rules, code_place.the_lemmas) in
     let lt : 0 < length p.subscripts.items
     = grind (arith, nat_tests, p.subscripts.ok.0, c.is_empty.ensures, c.if-is_empty.false) in
-    on_ok c.put-3.result _ _ (λ put3. place_put (units_in c.args.library.now c.args.scope) (site_of c.args.scope)
+    on_ok c.put-3.result _ _ (λ put3. place_put (units_in c.args.library.now c.args.scope) (frame_of c.args.scope)
     (anchor_view p.anchor) p.subscripts.items c.deref-2.result.now
     (place_view c.args.place.now) (known_instr c.args.access) (led_instr c.args.access) c.in_ok-slot.slot
     c.slot_value.result c.args.code.now c.put-2.new.self c.put_subscripts.new.code c.put-3.new.self seen
@@ -543,10 +543,10 @@ calls::put_function-returns-in_err-put_statements-clause-crowded t c =
     let z = c.in_ok-inner.inner in
     let f = c.in_ok-function.function.now in
     not_linked _ c.in_err-put_statements.field-0.0 _ _ c.in_err-put_statements.ensures.crowded
-    (λ h. subst (λ (ys : List code_stmt.SlotStmt). StmtsFit (FitsIn c.args.library.now z) (site_of z)
+    (λ h. subst (λ (ys : List code_stmt.SlotStmt). StmtsFit (FitsIn c.args.library.now z) (frame_of z)
     (slot_stmts_view ys)) (sym c.deref.ensures.value)
     (body_fits_so (filled (slot_library_view c.args.library.now)) z c.args.scope.memory c.in-Some.depth (end_of
-    (site_of c.args.scope)) (slot_function_view f)
+    (frame_of c.args.scope)) (slot_function_view f)
     c.in_ok-inner.ensures.memory c.in_ok-inner.ensures.depth c.in_ok-inner.ensures.start c.in_ok-inner.ensures.base
     c.in_ok-inner.ensures.size (function_fits_below c.args.scope.memory (filled (slot_library_view
     c.args.library.now)) c.args.scope.depth c.in-Some.depth c.args.number _ _ _
@@ -696,7 +696,7 @@ pub calls::put_inputs-returns-in_err-put_expr-clause-crowded :
     goal.calls::put_inputs-returns-in_err-put_expr-clause-crowded
 calls::put_inputs-returns-in_err-put_expr-clause-crowded t c =
     not_linked _ c.in_err-put_expr.field-0.0 _ _ c.in_err-put_expr.ensures.crowded
-    (λ h. (input_fits (FitsIn c.args.library.now c.args.scope) (site_of c.args.scope) c.args.arguments.now
+    (λ h. (input_fits (FitsIn c.args.library.now c.args.scope) (frame_of c.args.scope) c.args.arguments.now
     (c.loop-left.left - 1) c.args.first c.index-arguments-left.result
     (Given c.in-Given.member c.in-Given.value) (omega arith) c.index-arguments-left.is c.in-Given.is h).1)
     (search rules)
@@ -707,7 +707,7 @@ calls::put_invocation-returns-in_err-put_outputs-clause-crowded t c =
     let e : (slot_at c.args.scope.base (anchor_view c.args.instance)) ≡ c.value_at-first.result =
     omega (arith, c.value_at-first.ensures, c.if-first-scope.false, c.requires.room, c.requires.numbered) in
     not_linked _ c.in_err-put_outputs.field-0.0 _ _ c.in_err-put_outputs.ensures.crowded
-    (λ h. outputs_fit (FitsIn c.args.library.now c.args.scope) (site_of c.args.scope) _ _ (rw e at h.1)) (search
+    (λ h. outputs_fit (FitsIn c.args.library.now c.args.scope) (frame_of c.args.scope) _ _ (rw e at h.1)) (search
     rules)
 
 pub calls::put_invocation-returns-in_err-put_members-clause-crowded :
@@ -716,7 +716,7 @@ calls::put_invocation-returns-in_err-put_members-clause-crowded t c =
     let e : (slot_at c.args.scope.base (anchor_view c.args.instance)) ≡ c.value_at-first.result =
     omega (arith, c.value_at-first.ensures, c.if-first-scope.false, c.requires.room, c.requires.numbered) in
     not_linked _ c.in_err-put_members.field-0.0 _ _ c.in_err-put_members.ensures.room
-    (λ h. members_fit (FitsIn c.args.library.now c.args.scope) (site_of c.args.scope) c.value_at-first.result _ _
+    (λ h. members_fit (FitsIn c.args.library.now c.args.scope) (frame_of c.args.scope) c.value_at-first.result _ _
     (omega (arith, c.requires.room, c.requires.numbered)) (rw e at h.1)) (search rules)
 
 pub calls::put_invocation-returns-clause-crowded : goal.calls::put_invocation-returns-clause-crowded
@@ -724,7 +724,7 @@ calls::put_invocation-returns-clause-crowded t c =
     let e : (slot_at c.args.scope.base (anchor_view c.args.instance)) ≡ c.value_at-first.result =
     omega (arith, c.value_at-first.ensures, c.if-first-scope.false, c.requires.room, c.requires.numbered) in
     passed_on TooManyPlaces c.put_inputs.result _ _ c.put_inputs.ensures.crowded
-    (λ h. inputs_fit (FitsIn c.args.library.now c.args.scope) (site_of c.args.scope) _ _ (rw e at h.1))
+    (λ h. inputs_fit (FitsIn c.args.library.now c.args.scope) (frame_of c.args.scope) _ _ (rw e at h.1))
 
 pub calls::put_outputs-returns-in_err-put_place-clause-full :
     goal.calls::put_outputs-returns-in_err-put_place-clause-full
@@ -745,7 +745,7 @@ pub calls::put_outputs-returns-in_err-put_place-clause-crowded :
     goal.calls::put_outputs-returns-in_err-put_place-clause-crowded
 calls::put_outputs-returns-in_err-put_place-clause-crowded t c =
     not_linked _ c.in_err-put_place.field-0.0 _ _ c.in_err-put_place.ensures.crowded
-    (λ h. (output_fits (FitsIn c.args.library.now c.args.scope) (site_of c.args.scope) c.args.arguments.now
+    (λ h. (output_fits (FitsIn c.args.library.now c.args.scope) (frame_of c.args.scope) c.args.arguments.now
     (c.loop-left.left - 1) c.args.first c.index-arguments-left.result
     (Copied c.in-Copied.member c.in-Copied.target) (omega arith) c.index-arguments-left.is c.in-Copied.is h).1)
     (search rules)
@@ -770,7 +770,7 @@ expressions::put_expr-returns-in_default-clause-wrong t c = λ _ h.
     let es = c.in-Compute.arguments.items in
     let seen : slot_expr_view c.args.expression.now ≡ compute (standard_view f) (exprs_of (map slot_expr_view es)) =
     rw c.in-Compute.is (search (rules, code_expr.the_lemmas)) in
-    let few = (subst (λ x. ExprLinked (LinkedIn c.args.library.now c.args.scope) (site_of c.args.scope) x) seen h).0
+    let few = (subst (λ x. ExprLinked (LinkedIn c.args.library.now c.args.scope) (frame_of c.args.scope) x) seen h).0
     in
     omega (arith, few, count_is es, c.in_default.ensures, c.len.ensures, c.in-Compute.arguments.ok.0)
 
@@ -784,14 +784,14 @@ expressions::put_expr-returns-in_err-put_function-in-Call-clause-crowded t c =
     let n : count_of (exprs_of (map slot_expr_view es)) ≡ c.len-in-Call.result =
     count_is es ∙ (omega (arith, c.len-in-Call.ensures, c.in-Call.arguments.ok.0)) in
     not_linked _ c.in_err-put_function-in-Call.field-0.0 _ _ c.in_err-put_function-in-Call.ensures.crowded
-    (λ h. rw n at (subst (λ x. ExprFits (FitsIn c.args.library.now c.args.scope) (site_of c.args.scope) x) seen h).1)
+    (λ h. rw n at (subst (λ x. ExprFits (FitsIn c.args.library.now c.args.scope) (frame_of c.args.scope) x) seen h).1)
     (search rules)
 
 pub expressions::put_exprs-returns-in_err-put_expr-clause-crowded :
     goal.expressions::put_exprs-returns-in_err-put_expr-clause-crowded
 expressions::put_exprs-returns-in_err-put_expr-clause-crowded t c =
     not_linked _ c.in_err-put_expr.field-0.0 _ _ c.in_err-put_expr.ensures.crowded
-    (λ h. expr_fits (FitsIn c.args.library.now c.args.scope) (site_of c.args.scope) c.args.expressions.now
+    (λ h. expr_fits (FitsIn c.args.library.now c.args.scope) (frame_of c.args.scope) c.args.expressions.now
     (c.loop-left.left - 1) c.index-expressions-left.result (omega arith)
     c.index-expressions-left.is h) (search rules)
 
@@ -895,10 +895,10 @@ pub expressions::put_subscripts-returns-in_err-put_expr-clause-crowded :
     goal.expressions::put_subscripts-returns-in_err-put_expr-clause-crowded
 expressions::put_subscripts-returns-in_err-put_expr-clause-crowded t c =
     not_linked _ c.in_err-put_expr.field-0.0 _ _ c.in_err-put_expr.ensures.crowded
-    (λ h. subst (λ (y : code_subscript.Subscript). ExprFits (FitsIn c.args.library.now c.args.scope) (site_of
+    (λ h. subst (λ (y : code_subscript.Subscript). ExprFits (FitsIn c.args.library.now c.args.scope) (frame_of
     c.args.scope)
     (slot_expr_view y.index)) c.index-subscripts-left-in-loop-left.is
-    (subscript_fits (FitsIn c.args.library.now c.args.scope) (site_of c.args.scope) c.args.subscripts.now
+    (subscript_fits (FitsIn c.args.library.now c.args.scope) (frame_of c.args.scope) c.args.subscripts.now
     (c.loop-left.left - 1) c.index-subscripts-left-in-loop-left.result
     (omega arith) c.index-subscripts-left-in-loop-left.is h)) (search rules)
 
@@ -913,21 +913,21 @@ pub statements::put_arms-returns-in_err-put_statements-clause-crowded :
     goal.statements::put_arms-returns-in_err-put_statements-clause-crowded
 statements::put_arms-returns-in_err-put_statements-clause-crowded t c =
     not_linked _ c.in_err-put_statements.field-0.0 _ _ c.in_err-put_statements.ensures.crowded
-    (λ h. subst (λ (ys : List code_stmt.SlotStmt). StmtsFit (FitsIn c.args.library.now c.args.scope) (site_of
+    (λ h. subst (λ (ys : List code_stmt.SlotStmt). StmtsFit (FitsIn c.args.library.now c.args.scope) (frame_of
     c.args.scope)
     (stmts_of (map slot_stmt_view ys))) (sym c.deref.ensures.value)
-    (subst (λ (y : code_arm.SlotArm). StmtsFit (FitsIn c.args.library.now c.args.scope) (site_of c.args.scope)
+    (subst (λ (y : code_arm.SlotArm). StmtsFit (FitsIn c.args.library.now c.args.scope) (frame_of c.args.scope)
     (stmts_of (map slot_stmt_view y.body.items))) c.index-arms-left.is
-    (arm_fits (FitsIn c.args.library.now c.args.scope) (site_of c.args.scope) c.args.arms.now (c.loop-left.left - 1)
+    (arm_fits (FitsIn c.args.library.now c.args.scope) (frame_of c.args.scope) c.args.arms.now (c.loop-left.left - 1)
     c.index-arms-left.result (omega arith) c.index-arms-left.is h).1)) (search rules)
 
 pub statements::put_arms-returns-in_err-put_expr-clause-crowded :
     goal.statements::put_arms-returns-in_err-put_expr-clause-crowded
 statements::put_arms-returns-in_err-put_expr-clause-crowded t c =
     not_linked _ c.in_err-put_expr.field-0.0 _ _ c.in_err-put_expr.ensures.crowded
-    (λ h. subst (λ (y : code_arm.SlotArm). ExprFits (FitsIn c.args.library.now c.args.scope) (site_of c.args.scope)
+    (λ h. subst (λ (y : code_arm.SlotArm). ExprFits (FitsIn c.args.library.now c.args.scope) (frame_of c.args.scope)
     (slot_expr_view y.condition)) c.index-arms-left-in-loop-left.is
-    (arm_fits (FitsIn c.args.library.now c.args.scope) (site_of c.args.scope) c.args.arms.now (c.loop-left.left - 1)
+    (arm_fits (FitsIn c.args.library.now c.args.scope) (frame_of c.args.scope) c.args.arms.now (c.loop-left.left - 1)
     c.index-arms-left-in-loop-left.result
     (omega arith) c.index-arms-left-in-loop-left.is h).0) (search rules)
 
@@ -959,13 +959,13 @@ pub statements::put_case_arms-returns-in_err-put_statements-clause-crowded :
     goal.statements::put_case_arms-returns-in_err-put_statements-clause-crowded
 statements::put_case_arms-returns-in_err-put_statements-clause-crowded t c =
     not_linked _ c.in_err-put_statements.field-0.0 _ _ c.in_err-put_statements.ensures.crowded
-    (λ h. subst (λ (ys : List code_stmt.SlotStmt). StmtsFit (FitsIn c.args.library.now c.args.scope) (site_of
+    (λ h. subst (λ (ys : List code_stmt.SlotStmt). StmtsFit (FitsIn c.args.library.now c.args.scope) (frame_of
     c.args.scope)
     (stmts_of (map slot_stmt_view ys))) (sym c.deref.ensures.value)
-    (subst (λ (y : code_case_arm.SlotCaseArm). StmtsFit (FitsIn c.args.library.now c.args.scope) (site_of
+    (subst (λ (y : code_case_arm.SlotCaseArm). StmtsFit (FitsIn c.args.library.now c.args.scope) (frame_of
     c.args.scope)
     (stmts_of (map slot_stmt_view y.body.items))) c.index-arms-left.is
-    (case_fits (FitsIn c.args.library.now c.args.scope) (site_of c.args.scope) c.args.arms.now (c.loop-left.left - 1)
+    (case_fits (FitsIn c.args.library.now c.args.scope) (frame_of c.args.scope) c.args.arms.now (c.loop-left.left - 1)
     c.index-arms-left.result (omega arith) c.index-arms-left.is h))) (search rules)
 
 pub statements::put_case_arms-returns-in_err-put-2-clause-full :
@@ -1020,6 +1020,6 @@ pub statements::put_statements-returns-in_err-put_statement-clause-crowded :
     goal.statements::put_statements-returns-in_err-put_statement-clause-crowded
 statements::put_statements-returns-in_err-put_statement-clause-crowded t c =
     not_linked _ c.in_err-put_statement.field-0.0 _ _ c.in_err-put_statement.ensures.crowded
-    (λ h. stmt_fits (FitsIn c.args.library.now c.args.scope) (site_of c.args.scope) c.args.statements.now
+    (λ h. stmt_fits (FitsIn c.args.library.now c.args.scope) (frame_of c.args.scope) c.args.statements.now
     (c.loop-left.left - 1) c.index-statements-left.result (omega arith)
     c.index-statements-left.is h) (search rules)

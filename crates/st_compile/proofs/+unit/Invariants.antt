@@ -7,7 +7,7 @@ use Rattle.slot_trees.specs.StatementViews.{slot_argument_view, slot_stmt_view, 
 use Rattle.machine_code.specs.Codes.{exprs_code, subscripts_code, inputs_code, outputs_code, stmts_code, arms_code}
 use Rattle.machine_code.specs.Codes.{case_code}
 use Rattle.machine_code.specs.Fitting.{ExprsFit, SubscriptsFit, StmtsFit, ArmsFit, CaseArmsFit}
-use Rattle.st_compile.specs.Emitting.{filled, site_of, units_in, lengths_in, FitsIn, InputsFit, OutputsFit}
+use Rattle.st_compile.specs.Emitting.{filled, frame_of, units_in, lengths_in, FitsIn, InputsFit, OutputsFit}
 use Rattle.st_compile.specs.Lengths.{exprs_length, subscripts_length, inputs_length, outputs_length, stmts_length}
 use Rattle.st_compile.specs.Lengths.{arms_length, case_length}
 use Rattle.st_compile.proofs.Sizes.{weight, expr_size, exprs_size, place_size, subscripts_size, step_size}
@@ -105,16 +105,16 @@ decreases-statements::put_turns l =
     weight (filled (slot_library_view l.library.now)) l.scope.depth + suc (stmts_size (stmts_of (map slot_stmt_view
     l.body.now)))
 
--- Loops go from the end: their code is that of what stands from here on.
+-- Loops go from the end: their code is that of the elements from here on.
 abbrev pub invariant-calls::put_inputs-loop-left : goal.invariant-calls::put_inputs-loop-left
 invariant-calls::put_inputs-loop-left l = record {
   within : l.left ≤ length l.arguments;
   long : length l.code ≡ inputs_length (lengths_in l.library l.scope) (map slot_argument_view (drop l.left
       l.arguments))
       + length l.fn.code;
-  code : l.code ≡ inputs_code (units_in l.library l.scope) (site_of l.scope) (map slot_argument_view (drop l.left
+  code : l.code ≡ inputs_code (units_in l.library l.scope) (frame_of l.scope) (map slot_argument_view (drop l.left
       l.arguments)) l.fn.code;
-  fits : InputsFit (FitsIn l.library l.scope) (site_of l.scope) l.first (map slot_argument_view (drop l.left
+  fits : InputsFit (FitsIn l.library l.scope) (frame_of l.scope) l.first (map slot_argument_view (drop l.left
       l.arguments));
 }
 
@@ -127,9 +127,9 @@ invariant-calls::put_outputs-loop-left l = record {
   long : length l.code ≡ outputs_length (lengths_in l.library l.scope) (map slot_argument_view (drop l.left
       l.arguments))
       + length l.fn.code;
-  code : l.code ≡ outputs_code (units_in l.library l.scope) (site_of l.scope) l.first (map slot_argument_view (drop
+  code : l.code ≡ outputs_code (units_in l.library l.scope) (frame_of l.scope) l.first (map slot_argument_view (drop
       l.left l.arguments)) l.fn.code;
-  fits : OutputsFit (FitsIn l.library l.scope) (site_of l.scope) l.first (map slot_argument_view (drop l.left
+  fits : OutputsFit (FitsIn l.library l.scope) (frame_of l.scope) l.first (map slot_argument_view (drop l.left
       l.arguments));
 }
 
@@ -142,9 +142,9 @@ invariant-expressions::put_exprs-loop-left l = record {
   long : length l.code ≡ exprs_length (lengths_in l.library l.scope) (exprs_of (map slot_expr_view (drop l.left
       l.expressions)))
       + length l.fn.code;
-  code : l.code ≡ exprs_code (units_in l.library l.scope) (site_of l.scope) (exprs_of (map slot_expr_view (drop
+  code : l.code ≡ exprs_code (units_in l.library l.scope) (frame_of l.scope) (exprs_of (map slot_expr_view (drop
       l.left l.expressions))) l.fn.code;
-  fits : ExprsFit (FitsIn l.library l.scope) (site_of l.scope) (exprs_of (map slot_expr_view (drop l.left
+  fits : ExprsFit (FitsIn l.library l.scope) (frame_of l.scope) (exprs_of (map slot_expr_view (drop l.left
       l.expressions)));
 }
 
@@ -157,9 +157,9 @@ invariant-expressions::put_subscripts-loop-left l = record {
   long : length l.code ≡ subscripts_length (lengths_in l.library l.scope) (subscripts_of (map subscript_view (drop
       l.left l.subscripts)))
       + length l.fn.code;
-  code : l.code ≡ subscripts_code (units_in l.library l.scope) (site_of l.scope) (subscripts_of (map subscript_view
+  code : l.code ≡ subscripts_code (units_in l.library l.scope) (frame_of l.scope) (subscripts_of (map subscript_view
       (drop l.left l.subscripts))) l.fn.code;
-  fits : SubscriptsFit (FitsIn l.library l.scope) (site_of l.scope) (subscripts_of (map subscript_view (drop l.left
+  fits : SubscriptsFit (FitsIn l.library l.scope) (frame_of l.scope) (subscripts_of (map subscript_view (drop l.left
       l.subscripts)));
 }
 
@@ -171,9 +171,9 @@ invariant-statements::put_arms-loop-left l = record {
   within : l.left ≤ length l.arms;
   long : length l.code ≡ arms_length (lengths_in l.library l.scope) (arms_of (map slot_arm_view (drop l.left l.arms)))
       + length l.fn.code;
-  code : l.code ≡ arms_code (units_in l.library l.scope) (site_of l.scope) (arms_of (map slot_arm_view (drop l.left
+  code : l.code ≡ arms_code (units_in l.library l.scope) (frame_of l.scope) (arms_of (map slot_arm_view (drop l.left
       l.arms))) l.ways l.end l.fn.code;
-  fits : ArmsFit (FitsIn l.library l.scope) (site_of l.scope) (arms_of (map slot_arm_view (drop l.left l.arms)));
+  fits : ArmsFit (FitsIn l.library l.scope) (frame_of l.scope) (arms_of (map slot_arm_view (drop l.left l.arms)));
 }
 
 abbrev pub decreases-statements::put_arms-loop-left : goal.decreases-statements::put_arms-loop-left
@@ -185,9 +185,9 @@ invariant-statements::put_case_arms-loop-left l = record {
   long : length l.code ≡ case_length (lengths_in l.library l.scope) (case_arms_of (map slot_case_arm_view (drop
       l.left l.arms)))
       + length l.fn.code;
-  code : l.code ≡ case_code (units_in l.library l.scope) (site_of l.scope) (case_arms_of (map slot_case_arm_view
+  code : l.code ≡ case_code (units_in l.library l.scope) (frame_of l.scope) (case_arms_of (map slot_case_arm_view
       (drop l.left l.arms))) l.ways l.end l.fn.code;
-  fits : CaseArmsFit (FitsIn l.library l.scope) (site_of l.scope) (case_arms_of (map slot_case_arm_view (drop l.left
+  fits : CaseArmsFit (FitsIn l.library l.scope) (frame_of l.scope) (case_arms_of (map slot_case_arm_view (drop l.left
       l.arms)));
 }
 
@@ -200,9 +200,9 @@ invariant-statements::put_statements-loop-left l = record {
   long : length l.code ≡ stmts_length (lengths_in l.library l.scope) (stmts_of (map slot_stmt_view (drop l.left
       l.statements)))
       + length l.fn.code;
-  code : l.code ≡ stmts_code (units_in l.library l.scope) (site_of l.scope) (stmts_of (map slot_stmt_view (drop
+  code : l.code ≡ stmts_code (units_in l.library l.scope) (frame_of l.scope) (stmts_of (map slot_stmt_view (drop
       l.left l.statements))) l.ways l.fn.code;
-  fits : StmtsFit (FitsIn l.library l.scope) (site_of l.scope) (stmts_of (map slot_stmt_view (drop l.left
+  fits : StmtsFit (FitsIn l.library l.scope) (frame_of l.scope) (stmts_of (map slot_stmt_view (drop l.left
       l.statements)));
 }
 

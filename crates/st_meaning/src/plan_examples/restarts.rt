@@ -1,4 +1,4 @@
-//! Worked examples of what is retained and what a life starts with, each proved by computation.
+//! Worked examples of retention and of the start of a life, each proved by computation.
 
 ghost use Rattle.std.specs.Prelude.{◌≡◌, ◌∷◌, ◌++◌, [], Some, None, pos, true, false, codes, length};
 ghost use Rattle.st_types.specs.declared.declaration.Retention.TheVariants.{Retain, NonRetain};
@@ -20,8 +20,8 @@ pub fn retention()
     ensures no_declaration { is_retained_by [] ≡ false }
 {}
 
-/// Of `VAR_GLOBAL RETAIN n : INT; p : INT := 2; END_VAR VAR_GLOBAL k : INT := 7; END_VAR` a record keeps n and p. A
-/// warm start gives them the record's values, and its moment; k, and all without a record or in a cold start, take
+/// Of `VAR_GLOBAL RETAIN n : INT; p : INT := 2; END_VAR VAR_GLOBAL k : INT := 7; END_VAR` a record keeps n and p. A warm
+/// start gives them the record's values, and its moment; k, and all variables without a record or in a cold start, take
 /// their initial values.
 pub fn restarts()
     ensures { (kept two_of_three (values (pos 3) (pos 4) (pos 10)) ≡ retained (pos 3) (pos 4))
@@ -40,9 +40,9 @@ pub fn restarts()
         × (cold_start two_of_three ≡ record { store = values (pos 0) (pos 2) (pos 7); moment = None }) }
 {}
 
-/// A variable finds its line by path and type: wherever the line stands, and whatever other lines the record has. A
-/// line of another type is not its line, nor is one of a variable that isn't retained, nor one with a value that the
-/// type doesn't hold.
+/// A variable finds its line by path and type: wherever the line is, and whatever other lines the record has. A line of
+/// another type is not its line, nor is one of a variable that isn't retained, nor one with a value that the type doesn't
+/// hold.
 pub fn lines_found_by_path_and_type()
     ensures order { started_with (int_line (codes "P") (pos 4) ∷ int_line (codes "N") (pos 3) ∷ [])
         ≡ values (pos 3) (pos 4) (pos 7) }
@@ -61,7 +61,7 @@ pub fn lines_found_by_path_and_type()
 {}
 
 /// A record spells an enumerated type by its names: of `Mode : (Stopped, Running, Fault)` and a retained `m : Mode` its
-/// layout text has 26 bytes and its body 39. Another type has its keyword, and one that the text hasn't has none.
+/// layout text has 26 bytes and its body 39. Another type has its keyword, and one that isn't in the text has none.
 pub fn types_as_records_spell_them()
     ensures keyword { type_text modes Time ≡ codes "TIME" }
     ensures names { type_text modes (mode 0) ≡ codes "(STOPPED,RUNNING,FAULT)" }

@@ -1,4 +1,4 @@
-//! Worked examples of what an execution works on: the inputs and the moment of its own activation's row, each proved by
+//! Worked examples of the input of an execution: the inputs and the moment of its own activation's row, each proved by
 //! computation.
 
 ghost use Rattle.std.specs.Prelude.{◌≡◌, ℕ, ℤ, ◌∷◌, [], List, Option, Some, None, map, pos, negsuc, Bool, true, false};
@@ -18,12 +18,12 @@ ghost use Rattle.st_meaning.specs.StandardBlocks.{TON, members_of};
 ghost use Rattle.st_meaning.specs.Plans.{Plan, no_single, single_input, single_global};
 ghost use Rattle.st_meaning.specs.Logs.{after, outcomes_of, past_of};
 ghost use Rattle.st_meaning.specs.PlanExamples.{of};
-ghost use Rattle.st_meaning.specs.ProgramExamples.{body_over_globals, identifier, datum, set, number, name, truth, owner, own};
+ghost use Rattle.st_meaning.specs.ProgramExamples.{body_over_globals, identifier, datum, set, number, name, bool_literal, owner, own};
 ghost use Rattle.st_meaning.specs.ProgramExamples.{bool, int, time, C, X, Y, Z};
 
 use crate::outcome::Outcome;
 
-/// A program with a TON t, every 50 ms: `t(IN := TRUE, PT := T#100ms);`. What Q and ET are after its last run.
+/// A program with a TON t, every 50 ms: `t(IN := TRUE, PT := T#100ms);`. Q and ET after its last run.
 #[tactic(auto, unfolding(crate::specs::Runs::ran, crate::specs::Runs::ran_where, crate::specs::Runs::store_after, crate::specs::Runs::units_within, crate::specs::StandardBlocks::block_of))]
 pub fn moments_of_rows()
     ensures { let plan : Plan = record {
@@ -42,7 +42,7 @@ pub fn moments_of_rows()
           body = record {
             externals = [];
             instances = (codes "T", codes "TON") ∷ [];
-            statements = stmts_of (invoke (identifier (codes "T")) (given (identifier (codes "IN")) (truth true)
+            statements = stmts_of (invoke (identifier (codes "T")) (given (identifier (codes "IN")) (bool_literal true)
                 ∷ given (identifier (codes "PT")) (literal (literals.Duration 0 100)) ∷ []) ∷ []);
           };
         };
@@ -62,10 +62,9 @@ pub fn moments_of_rows()
         ∷ Some (time (pos 100)) ∷ []) }
 {}
 
-/// A program every 10 ms over an input z: `x := x + z; c := TRUE; y := 12 / x;`, where x and y are 0 and c is FALSE at
-/// first. Each execution has its own row's z, and the variables as the one before left them; one that faults leaves
-/// them. Of two more tasks SINGLE is c, sampled in the variables before the row, and an input g, sampled in the row's
-/// image.
+/// A program every 10 ms over an input z: `x := x + z; c := TRUE; y := 12 / x;`, with x and y 0 and c FALSE at first. Each
+/// execution has its own row's z, and the variables as the one before left them; one that faults leaves them. Of two more
+/// tasks SINGLE is c, sampled in the variables before the row, and an input g, sampled in the row's image.
 #[tactic(auto, unfolding(crate::specs::Runs::ran, crate::specs::Runs::ran_where, crate::specs::Runs::store_after, crate::specs::Runs::outcome_of, crate::specs::Runs::units_within))]
 pub fn inputs_of_rows()
     ensures { let plan : Plan = record {
@@ -84,7 +83,7 @@ pub fn inputs_of_rows()
         code = record {
           library = record { functions = []; blocks = [] };
           owner = owner;
-          body = body_over_globals (set X (binary Add (name X) (name Z)) ∷ set C (truth true)
+          body = body_over_globals (set X (binary Add (name X) (name Z)) ∷ set C (bool_literal true)
               ∷ set Y (binary Divide (number Int (pos 12)) (name X)) ∷ []);
         };
       } ∷ [];

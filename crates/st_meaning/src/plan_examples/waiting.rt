@@ -1,4 +1,4 @@
-//! Worked examples of what waits, what is best and what is an overrun.
+//! Worked examples of the activations that wait, the best one, and overruns.
 
 ghost use Rattle.std.specs.Prelude.{◌≡◌, ◌∷◌, [], List, true, false};
 ghost use Rattle.st_meaning.specs.declared.plan.Schedule.{Schedule};

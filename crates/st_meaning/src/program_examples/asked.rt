@@ -6,10 +6,10 @@ ghost use Rattle.st_types.specs.declared.operator.BinaryOperator.TheVariants.{Mu
 ghost use Rattle.st_types.specs.Expressions.{binary, read};
 ghost use Rattle.st_types.specs.Statements.{assign, invoke};
 ghost use Rattle.st_meaning.specs.Scopes.{unowned};
-ghost use Rattle.st_meaning.specs.ProgramExamples.{set, number, name, truth, identifier, Asks, element, element_of_a, if_then};
+ghost use Rattle.st_meaning.specs.ProgramExamples.{set, number, name, bool_literal, identifier, Asks, element, element_of_a, if_then};
 ghost use Rattle.st_meaning.specs.ProgramExamples.{faulting, assigned_if_c, A, C, I, P, X, Z};
 
-/// A run asks for a global's value where it looks it up before it assigns it, whatever becomes of the value.
+/// A run asks for a global's value if it looks it up before it assigns it, whatever becomes of the value.
 pub fn asked_globals()
     // x := p * 0;
     ensures without_effect { Asks false (set X (binary Multiply (name P) (number Int (pos 0))) ∷ []) (unowned P) }
@@ -29,12 +29,12 @@ pub fn asked_globals()
     ensures in_a_block { Asks false (invoke (identifier I) [] ∷ []) (unowned P) }
 {}
 
-/// A run does not ask for a global that it has assigned, that stands where it does not come, or that it only assigns.
+/// A run does not ask for a global that it has assigned, that is in code it does not come to, or that it only assigns.
 pub fn globals_not_asked()
     // p := 1; x := p;
     ensures assigned { Asks false (set P (number Int (pos 1)) ∷ set X (name P) ∷ []) (unowned P) → ⊥ }
     // IF FALSE THEN x := p; END_IF;
-    ensures in_no_branch { Asks false (if_then (truth false) (set X (name P) ∷ []) ∷ []) (unowned P) → ⊥ }
+    ensures in_no_branch { Asks false (if_then (bool_literal false) (set X (name P) ∷ []) ∷ []) (unowned P) → ⊥ }
     // y := 1 / 0; x := p;
     ensures behind_a_fault { Asks false (faulting ∷ set X (name P) ∷ []) (unowned P) → ⊥ }
     ensures assigned_in_a_branch { Asks true assigned_if_c (unowned P) → ⊥ }

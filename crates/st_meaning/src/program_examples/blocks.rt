@@ -29,7 +29,7 @@ pub fn timers()
     ensures tp_of_0 { timed TP (pos 0) ((0, true) ∷ []) ≡ q_et false 0 ∷ [] }
 {}
 
-/// What edges see at their first calls, and where counters stop.
+/// Edges at their first calls, and the limits of counters.
 pub fn edges_and_counters()
     // F_TRIG twice with CLK FALSE
     ensures f_trig { outputs_of F_TRIG 1 1 ((0, bool false ∷ []) ∷ (10, bool false ∷ []) ∷ []) (fresh_members F_TRIG)

@@ -7,7 +7,7 @@ ghost use Rattle.st_types.specs.Statements.{copied};
 ghost use Rattle.st_meaning.specs.Scopes.{member_at};
 ghost use Rattle.st_meaning.specs.Loops.{goes_on};
 ghost use Rattle.st_meaning.specs.Runs.{outcome_of, store_after};
-ghost use Rattle.st_meaning.specs.ProgramExamples.{own, number, name, set, truth, target, identifier, int, bool, datum};
+ghost use Rattle.st_meaning.specs.ProgramExamples.{own, number, name, set, bool_literal, target, identifier, int, bool, datum};
 ghost use Rattle.st_meaning.specs.ProgramExamples.{ran_with, after_with, variables, square, A, C, I, K, P, X, Y};
 ghost use Rattle.st_meaning.specs.CallExamples.{ran_calling, invoked, giving, copying, indexed, own_member, own_element};
 ghost use Rattle.st_meaning.specs.CallExamples.{with_blocks, accumulator, accumulated, outer, two_outputs, early, fourth};
@@ -38,7 +38,7 @@ pub fn calls_of_blocks()
               ∷ (own_element A (pos 0), int (pos 0)) ∷ (own_element A (pos 1), int (pos 7)) ∷ []),
           0,
         ) }
-    // t(); t(); where t is of a block with an instance of another
+    // t(); t(); with t of a block with an instance of another
     ensures nested { ran_calling (with_blocks (accumulator ∷ outer ∷ [])) ((T, codes "OUTER") ∷ []) 6
         (invoked T [] ∷ invoked T [] ∷ [])
         ((member_at (own_member T A) STEP, int (pos 0)) ∷ (member_at (own_member T A) TOTAL, int (pos 0)) ∷ [])
@@ -51,9 +51,9 @@ pub fn calls_of_blocks()
         (invoked T [] ∷ [])
         ((member_at (own_member T A) STEP, int (pos 0)) ∷ (member_at (own_member T A) TOTAL, int (pos 0)) ∷ [])
         ≡ Err Budget }
-    // c(CU := TRUE, PV := 1, CV => x); where c is a CTU
+    // c(CU := TRUE, PV := 1, CV => x); with c a CTU
     ensures standard { ran_calling (with_blocks []) ((C, codes "CTU") ∷ []) 1
-        (invoked C (giving (codes "CU") (truth true) ∷ giving (codes "PV") (number Int (pos 1))
+        (invoked C (giving (codes "CU") (bool_literal true) ∷ giving (codes "PV") (number Int (pos 1))
         ∷ copying (codes "CV") X ∷ []) ∷ [])
         ((own_member C (codes "CU"), bool false) ∷ (own_member C (codes "R"), bool false)
         ∷ (own_member C (codes "PV"), int (pos 0)) ∷ (own_member C (codes "Q"), bool false)
@@ -77,7 +77,7 @@ pub fn calls_within_functions()
         (set Y (calling_with (codes "FOURTH") (number Dint (pos 3))) ∷ []) ((Y, datum Dint (pos 0)) ∷ []) ≡ Err Budget }
 {}
 
-/// RETURN leaves a block, and what called it goes on: outputs are copied, and the next statement runs.
+/// RETURN leaves a block, and its caller goes on: outputs are copied, and the next statement runs.
 #[tactic(auto, unfolding(crate::specs::Runs::ran, crate::specs::Runs::ran_where, crate::specs::Runs::units_within, crate::specs::StandardBlocks::block_of))]
 pub fn returns_from_blocks()
     // t(p => x); y := 9;
@@ -87,7 +87,7 @@ pub fn returns_from_blocks()
         ≡ Ok (goes_on ((own_member T P, int (pos 1)) ∷ (own X, int (pos 1)) ∷ (own Y, int (pos 9)) ∷ []), 0) }
 {}
 
-/// RETURN in a loop leaves the whole function, whose result is what its name has then.
+/// RETURN in a loop leaves the whole function, whose result is the value that its name has then.
 #[tactic(auto, unfolding(crate::specs::Runs::ran, crate::specs::Runs::ran_where, crate::specs::Runs::store_after, crate::specs::Runs::units_within, crate::specs::StandardFunctions::standard_of, crate::specs::StandardFunctions::standard_functions, crate::specs::Loops::looped, crate::specs::Loops::turns, crate::specs::Loops::guarded, crate::specs::Loops::runs_on, crate::specs::Loops::step_on, crate::specs::Evaluation::truth_of))]
 pub fn returns_from_functions()
     // y := First(4); and y := First(20);
@@ -97,7 +97,7 @@ pub fn returns_from_functions()
         ((Y, int (pos 0)) ∷ []) ≡ variables ((Y, int (pos 100)) ∷ []) }
 {}
 
-/// RETURN in a loop within a loop ends the program's statements: nothing behind the loops runs.
+/// RETURN in a loop within a loop ends the program's statements: nothing after the loops runs.
 #[tactic(auto, unfolding(crate::specs::Runs::ran, crate::specs::Runs::ran_where, crate::specs::Runs::store_after, crate::specs::Runs::units_within, crate::specs::Loops::looped, crate::specs::Loops::turns, crate::specs::Loops::guarded, crate::specs::Loops::runs_on, crate::specs::Loops::step_on, crate::specs::Evaluation::truth_of))]
 pub fn returns_from_loops()
     // FOR i := 1 TO 5 DO WHILE TRUE DO IF i = 2 THEN RETURN; END_IF; EXIT; END_WHILE; k := k + 1; END_FOR; k := 100;

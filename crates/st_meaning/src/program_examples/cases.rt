@@ -7,7 +7,7 @@ ghost use Rattle.st_types.specs.declared.statement.Label.TheVariants.{Single, Ra
 ghost use Rattle.st_types.specs.Statements.{Stmt, stmts_of, case_arms_of, CASE};
 ghost use Rattle.st_meaning.specs.ProgramExamples.{after_with, variables, set, number, name, int, X, Y};
 
-/// CASE runs the first list with a label that holds the selector, else the ELSE list: what y is for x from 0 to 8 after
+/// CASE runs the first list with a label that holds the selector, else the ELSE list: y for x from 0 to 8 after
 /// `CASE x OF 1..3: y := 1; 5, 7: y := 2; 2, 6..8: y := 3; ELSE y := 9; END_CASE;`.
 #[tactic(auto, unfolding(crate::specs::Runs::ran, crate::specs::Runs::ran_where, crate::specs::Runs::store_after, crate::specs::Runs::units_within))]
 pub fn lists_of_a_case()

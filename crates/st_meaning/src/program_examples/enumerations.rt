@@ -14,8 +14,7 @@ ghost use Rattle.st_meaning.specs.EnumerationExamples.{two_enumerations, text_of
 ghost use Rattle.st_meaning.specs.EnumerationExamples.{typed, written, name_label, place_label, stepping};
 ghost use Rattle.st_meaning.specs.EnumerationExamples.{M, MODE, ALARM, STOPPED, RUNNING, FAULT, CLEAR};
 
-/// A name alone stands for a value where exactly one type has it; with its type it always does. Enumerated types alone
-/// are counted.
+/// A name alone stands for a value if exactly one type has it; with its type it always does. Only enumerated types count.
 pub fn names_of_values()
     ensures one_type { member_named two_enumerations RUNNING ≡ Some (member mode 1) }
     ensures of_the_second { member_named two_enumerations CLEAR ≡ Some (member alarm 0) }

@@ -1,11 +1,11 @@
-//! Worked examples of what a fault leaves, each proved by computation.
+//! Worked examples of the variables after a fault, each proved by computation.
 
 ghost use Rattle.std.specs.Prelude.{◌≡◌, ◌∷◌, [], pos, false};
 ghost use Rattle.st_types.specs.declared.kind.Kind.TheVariants.{Int};
 ghost use Rattle.st_types.specs.declared.fault.Fault.TheVariants.{Range, DivisionByZero};
 ghost use Rattle.st_types.specs.declared.operator.BinaryOperator.TheVariants.{And, Equal, Divide, Add};
 ghost use Rattle.st_types.specs.Expressions.{binary};
-ghost use Rattle.st_meaning.specs.ProgramExamples.{outcome_with, after_with, variables, set, number, name, truth, by_0, bool};
+ghost use Rattle.st_meaning.specs.ProgramExamples.{outcome_with, after_with, variables, set, number, name, bool_literal, by_0, bool};
 ghost use Rattle.st_meaning.specs.ProgramExamples.{int, A, X, Y, Z};
 
 use crate::outcome::Outcome;
@@ -21,6 +21,6 @@ pub fn faults()
         ((X, int (pos 0)) ∷ (Y, int (pos 0)) ∷ []) ≡ Outcome.Faulted DivisionByZero }
     // b := FALSE AND (1 / z = 1);
     ensures and_evaluates_both { outcome_with [] (set X
-        (binary And (truth false) (binary Equal (binary Divide (number Int (pos 1)) (name Z)) (number Int (pos 1))))
+        (binary And (bool_literal false) (binary Equal (binary Divide (number Int (pos 1)) (name Z)) (number Int (pos 1))))
         ∷ []) ((X, bool false) ∷ (Z, int (pos 0)) ∷ []) ≡ Outcome.Faulted DivisionByZero }
 {}

@@ -9,7 +9,7 @@ ghost use Rattle.st_meaning.specs.StandardFunctions.{ROL, ROR, CONVERT};
 ghost use Rattle.st_meaning.specs.Loops.{goes_on};
 ghost use Rattle.st_meaning.specs.ProgramExamples.{ran_with, variables, datum, square, squared, bool, int, A, Y};
 
-/// What standard functions give at the ends of types, and what they refuse.
+/// The results of standard functions at the ends of types, and their faults.
 pub fn standard_functions()
     ensures abs_of_the_least { standard_value ABS (datum Sint (negsuc 127) ∷ []) ≡ Err (fails Range) }
     ensures int_to_usint { standard_value (CONVERT Int Usint) (int (pos 256) ∷ []) ≡ Err (fails Conversion) }
@@ -30,7 +30,7 @@ pub fn standard_functions()
     ensures rol_by_minus_1 { standard_value ROL (datum Byte (pos 0x81) ∷ int (negsuc 0) ∷ []) ≡ Err (fails Range) }
 {}
 
-/// Standard functions go by their names; `INT_TO_INT` and `TIME_TO_INT` are none.
+/// A standard function is found by its name; `INT_TO_INT` and `TIME_TO_INT` do not exist.
 #[tactic(auto, unfolding(crate::specs::StandardFunctions::standard_of, crate::specs::StandardFunctions::standard_functions))]
 pub fn names_of_standard_functions()
     ensures abs { standard_of (codes "ABS") ≡ Some ABS }
@@ -40,7 +40,7 @@ pub fn names_of_standard_functions()
     ensures time_to_int { standard_of (codes "TIME_TO_INT") ≡ None }
 {}
 
-/// A function of the text runs on variables of its own: `y := Sq(46340);` takes 2 ticks, and the square of 46341 is no
+/// A function of the text runs on variables of its own: `y := Sq(46340);` takes 2 ticks, and the square of 46341 isn't a
 /// DINT.
 #[tactic(auto, unfolding(crate::specs::Runs::ran, crate::specs::Runs::ran_where, crate::specs::Runs::units_within, crate::specs::StandardFunctions::standard_of, crate::specs::StandardFunctions::standard_functions))]
 pub fn function_calls()

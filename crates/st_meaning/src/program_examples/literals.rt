@@ -9,7 +9,7 @@ ghost use Rattle.st_meaning.specs.Resolution.{resolved_expr};
 ghost use Rattle.st_meaning.specs.ProgramExamples.{number, name, int, untyped, identifier, three_variables, its_text};
 ghost use Rattle.st_types.specs.declared.literal.Literal.TheVariants as literals;
 
-/// An untyped literal takes the type that its place expects; where nothing is expected that it may be, it is a LINT.
+/// An untyped literal takes the type that its place expects; if none is expected that can hold it, it is a LINT.
 #[tactic(auto, unfolding(crate::specs::StandardFunctions::standard_of, crate::specs::StandardFunctions::standard_functions))]
 pub fn untyped_literals()
     // n := -32768;

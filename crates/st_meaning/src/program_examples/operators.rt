@@ -1,4 +1,4 @@
-//! Worked examples of what operators give, each proved by computation.
+//! Worked examples of the results of operators, each proved by computation.
 
 ghost use Rattle.std.specs.Prelude.{◌≡◌, ◌∷◌, [], map, Ok, Err, pos, negsuc, Bool, true, false};
 ghost use Rattle.st_types.specs.declared.kind.Kind.TheVariants.{Int, Sint, Usint, Byte, Word, Time};
@@ -12,8 +12,8 @@ ghost use Rattle.st_meaning.specs.Failures.{fails};
 ghost use Rattle.st_meaning.specs.Operators.{apply, apply_unary};
 ghost use Rattle.st_meaning.specs.ProgramExamples.{after_with, variables, datum, set, number, name, bool, int, X, Y, by_0, A};
 
-/// What each comparison says of 1, 2 and 3 beside 2, and what `=`, `<>`, `<`, `>`, `<=` and `>=` say of two other pairs
-/// and of equal operands.
+/// The result of each comparison of 1, 2 and 3 with 2, and of `=`, `<>`, `<`, `>`, `<=` and `>=` on two other pairs and on
+/// equal operands.
 pub fn comparisons()
     ensures equal { map (λ z. apply Equal (int z) (int (pos 2))) (pos 1 ∷ pos 2 ∷ pos 3 ∷ []) ≡ Ok (bool false)
         ∷ Ok (bool true) ∷ Ok (bool false) ∷ [] }
@@ -60,7 +60,7 @@ pub fn bit_operators()
         ∷ [] }
 {}
 
-/// Sums, differences, products and signs; each is F1 where it leaves its type.
+/// Sums, differences, products and signs; each is F1 if its result isn't in its type.
 pub fn sums_and_signs()
     ensures sum { apply Add (int (pos 3)) (int (pos 5)) ≡ Ok (int (pos 8)) }
     ensures smaller_less_greater { apply Subtract (int (pos 3)) (int (pos 5)) ≡ Ok (int (negsuc 1)) }
@@ -87,8 +87,8 @@ pub fn division()
     ensures least_by_minus_1 { apply Divide (datum Sint (negsuc 127)) (datum Sint (negsuc 0)) ≡ Err (fails Range) }
 {}
 
-/// What stands left of an operator in a text is its left operand, and an operator before an expression works on its
-/// value.
+/// The expression to the left of an operator in a text is its left operand, and an operator before an expression works on
+/// its value.
 #[tactic(auto, unfolding(crate::specs::Runs::ran, crate::specs::Runs::ran_where, crate::specs::Runs::store_after, crate::specs::Runs::units_within))]
 pub fn operators_in_a_text()
     // y := x - 5; with x = 3

@@ -13,8 +13,8 @@ ghost use Rattle.st_meaning.specs.CallExamples.{indexed, dotted, own_member, own
 
 use crate::outcome::Outcome;
 
-/// A member of a structure is a variable of its own, also in an array of structures. A subscript that is out of bounds
-/// is F3, before what stands behind it is evaluated.
+/// A member of a structure is a variable of its own, also in an array of structures. A subscript that is out of bounds is
+/// F3, before the parts after it are evaluated.
 #[tactic(auto, unfolding(crate::specs::Runs::ran, crate::specs::Runs::ran_where, crate::specs::Runs::outcome_of, crate::specs::Runs::store_after, crate::specs::Runs::units_within))]
 pub fn parts_of_variables()
     // i.u := i.v + 1; with i.v = 5

@@ -10,7 +10,7 @@ ghost use Rattle.st_types.specs.Statements.{WHILE, REPEAT};
 ghost use Rattle.st_types.specs.Initials.{list, structure, single, repeated, defaults, elements_of, members_of};
 ghost use Rattle.st_meaning.specs.NameTypes.{variable_type};
 ghost use Rattle.st_meaning.specs.ResolvedUnits.{resolved_stmt, resolved_initial, resolved_type};
-ghost use Rattle.st_meaning.specs.ProgramExamples.{identifier, name, number, untyped, truth, set, A, C};
+ghost use Rattle.st_meaning.specs.ProgramExamples.{identifier, name, number, untyped, bool_literal, set, A, C};
 ghost use Rattle.st_meaning.specs.CallExamples.{indexed, dotted, giving, invoked};
 ghost use Rattle.st_meaning.specs.ResolutionExamples.{several_variables, text_of_several, plain_number, labelled};
 ghost use Rattle.st_meaning.specs.ResolutionExamples.{ranging, initially, two_dints};

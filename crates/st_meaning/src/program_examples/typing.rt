@@ -5,11 +5,11 @@ ghost use Rattle.st_types.specs.declared.kind.Kind.TheVariants.{Int, Usint, Dint
 ghost use Rattle.st_types.specs.declared.operator.BinaryOperator.TheVariants.{Add};
 ghost use Rattle.st_types.specs.Expressions.{binary, read};
 ghost use Rattle.st_meaning.specs.Asked.{IsTypedRun};
-ghost use Rattle.st_meaning.specs.ProgramExamples.{program, variables, own, number, name, truth, set, if_then, int, datum, A, X};
+ghost use Rattle.st_meaning.specs.ProgramExamples.{program, variables, own, number, name, bool_literal, set, if_then, int, datum, A, X};
 ghost use Rattle.st_meaning.specs.ProgramExamples.{Y};
 ghost use Rattle.st_meaning.specs.CallExamples.{calling_with, indexed, own_element, invoked};
 
-/// A fault of the run is not ill typed: F1, F2, F3 and F4 stay what they are.
+/// A fault of the run is not ill typed: F1, F2, F3 and F4 stay the same.
 pub fn typed_runs()
     // x := x + 1; with x = 32767
     ensures range { IsTypedRun (program [] (set X (binary Add (name X) (number Int (pos 1))) ∷ [])) 9
@@ -21,15 +21,15 @@ pub fn typed_runs()
     ensures conversion { IsTypedRun (program [] (set Y (calling_with (codes "INT_TO_USINT") (number Int (pos 256)))
         ∷ [])) 9 (variables ((Y, datum Usint (pos 0)) ∷ [])) [] 0 }
     // IF FALSE THEN x := TRUE; END_IF;
-    ensures where_it_does_not_come { IsTypedRun (program [] (if_then (truth false) (set X (truth true) ∷ []) ∷ [])) 9
+    ensures where_it_does_not_come { IsTypedRun (program [] (if_then (bool_literal false) (set X (bool_literal true) ∷ []) ∷ [])) 9
         (variables ((X, int (pos 0)) ∷ [])) [] 0 }
 {}
 
-/// What is ill typed: a value of another type, operands of two types, a condition that is no BOOL, and a unit that is
-/// not there.
+/// Ill typed are: a value of another type, operands of two types, a condition that isn't a BOOL, and a unit that doesn't
+/// exist.
 pub fn ill_typed_runs()
     // x := TRUE;
-    ensures value { IsTypedRun (program [] (set X (truth true) ∷ [])) 9 (variables ((X, int (pos 0)) ∷ [])) [] 0 → ⊥ }
+    ensures value { IsTypedRun (program [] (set X (bool_literal true) ∷ [])) 9 (variables ((X, int (pos 0)) ∷ [])) [] 0 → ⊥ }
     // x := x + y; with y a DINT
     ensures operands { IsTypedRun (program [] (set X (binary Add (name X) (name Y)) ∷ [])) 9
         (variables ((X, int (pos 0)) ∷ (Y, datum Dint (pos 0)) ∷ [])) [] 0 → ⊥ }

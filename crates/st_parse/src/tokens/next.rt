@@ -1,4 +1,4 @@
-//! What the next token is.
+//! The kind of the next token.
 
 ghost use Rattle.std.specs.Prelude.{◌≡◌, length, if◌then◌else◌};
 ghost use Rattle.st_parse.specs.Tokens as specs;
@@ -87,7 +87,7 @@ pub fn is_value(kind: &TokenKind) -> bool
     matches!(kind, TokenKind::Name(_) | TokenKind::Enumerated(_, _))
 }
 
-/// Whether what may be a value of an enumerated type comes next.
+/// Whether a token that may be a value of an enumerated type comes next.
 pub fn begins_value(tokens: &[Token]) -> bool
     ensures { result ≡ specs.next specs.is_value tokens.now }
 {
@@ -104,7 +104,7 @@ pub fn refused(tokens: &[Token]) -> ReadError
     ReadError::Refused(Refusal::Unexpected(tokens.len()))
 }
 
-/// Where no depth is left: too deep, where something begins at all.
+/// If no depth is left: too deep, if anything begins at all.
 pub fn sunk(begins: bool, tokens: &[Token]) -> ReadError
     ensures { result ≡ Refused (if begins then Deep else Unexpected (length tokens.now)) }
 {

@@ -50,7 +50,7 @@ pub fn binds(operator: BinaryOperator) -> usize
     }
 }
 
-/// Whether an operator comes next that binds at least so.
+/// Whether an operator comes next that binds at least as strongly as this.
 pub fn goes_on(least: usize, tokens: &[Token]) -> bool
     ensures { result ≡ next (specs.goes_on least) tokens.now }
 {

@@ -5,13 +5,13 @@ ghost use Rattle.st_types.specs.Statements.{assign, EXIT};
 ghost use Rattle.st_rules.specs.declared.rule.Rule.TheVariants.{UnknownName, WrongType, OutOfRange, NotAssignable};
 ghost use Rattle.st_rules.specs.declared.rule.Rule.TheVariants.{ExitOutsideLoop};
 ghost use Rattle.st_rules.specs.Rules.{broken};
-ghost use Rattle.st_rules.specs.ExampleWords.{setting, breaks, number, truth, duration, name, reading, element, part};
+ghost use Rattle.st_rules.specs.ExampleWords.{setting, breaks, number, bool_literal, duration, name, reading, element, part};
 ghost use Rattle.st_rules.specs.ExampleWords.{add, add_constant, wide, N, M, B, F};
 
 /// One statement in `PROGRAM Add VAR n : INT; END_VAR`, and with VAR CONSTANT in the last one.
 pub fn one_statement()
     // `n := TRUE;`
-    ensures truth { broken (add (setting 33 N (truth 38 true) ∷ [])) ≡ breaks WrongType 38 ∷ [] }
+    ensures truth { broken (add (setting 33 N (bool_literal 38 true) ∷ [])) ≡ breaks WrongType 38 ∷ [] }
     // `n := 40000;`
     ensures too_great { broken (add (setting 33 N (number 38 (pos 40000)) ∷ [])) ≡ breaks OutOfRange 38 ∷ [] }
     // `n := -32768;`
@@ -29,15 +29,15 @@ pub fn one_statement()
 /// In `PROGRAM P VAR n : INT; b : BOOL; w : WORD; a : ARRAY [1..2] OF INT; f : TON; d : TIME; u : UINT; END_VAR`.
 pub fn targets()
     // `f.Q := TRUE`: an output from outside
-    ensures output { broken (wide (assign (part 100 F 102 (codes "Q")) (truth 107 true) ∷ []))
+    ensures output { broken (wide (assign (part 100 F 102 (codes "Q")) (bool_literal 107 true) ∷ []))
         ≡ breaks NotAssignable 100 ∷ [] }
     // `f.IN := TRUE`: an input can't be seen from outside
-    ensures input { broken (wide (assign (part 100 F 102 (codes "IN")) (truth 107 true) ∷ []))
+    ensures input { broken (wide (assign (part 100 F 102 (codes "IN")) (bool_literal 107 true) ∷ []))
         ≡ breaks UnknownName 102 ∷ [] }
     // `a := a`: an array has no value as a whole
     ensures whole_array { broken (wide (setting 100 (codes "A") (reading 105 (codes "A")) ∷ []))
         ≡ breaks WrongType 105 ∷ [] }
-    // `a := m`: only the unknown name is told
+    // `a := m`: only the unknown name is reported
     ensures array_and_unknown { broken (wide (setting 100 (codes "A") (reading 105 M) ∷ []))
         ≡ breaks UnknownName 105 ∷ [] }
     // `f := n`
@@ -48,7 +48,7 @@ pub fn targets()
     // `a[1] := 1`
     ensures element { broken (wide (assign (element 100 (codes "A") (number 102 (pos 1))) (number 108 (pos 1)) ∷ []))
         ≡ [] }
-    // `n[1] := 1`: no array
+    // `n[1] := 1`: not an array
     ensures no_array { broken (wide (assign (element 100 N (number 102 (pos 1))) (number 108 (pos 1)) ∷ []))
         ≡ breaks WrongType 100 ∷ [] }
     // `d := T#5ms`

@@ -1,4 +1,4 @@
-//! Functions that call themselves: wherever the call stands, it is a part of the body.
+//! Functions that call themselves: the call is a part of the body wherever it occurs.
 
 ghost use Rattle.std.specs.Prelude.{◌≡◌, ◌∷◌, [], pos, codes, None, Some};
 ghost use Rattle.st_types.specs.declared.operator.UnaryOperator.TheVariants.{Negate};
@@ -93,6 +93,6 @@ pub fn parts()
     ensures subscript_of_copy { broken
         (function_with_counter (invoking 100 M (copying 102 (codes "CV") (element 108 A (calling_f 110)) ∷ []) ∷ []))
         ≡ breaks TooDeep 9 ∷ breaks WrongType 24 ∷ [] }
-    // F := n: its name alone calls nothing
+    // F := n: its name alone isn't a call
     ensures name_alone { broken (function_f (setting 100 N (reading 105 (codes "F")) ∷ [])) ≡ [] }
 {}

@@ -24,7 +24,7 @@ ghost use Rattle.st_types.specs.Configurations.{listed};
 ghost use Rattle.st_rules.specs.ExampleWords.{at, configured, start_of, tasked, P};
 ghost use Rattle.st_rules.specs.ExampleWords as words;
 
-/// When two types are one, with `TYPE x : ARRAY [1..2] OF INT; n : STRUCT m : INT; END_STRUCT; m : STRUCT m : INT;
+/// When two types are the same, with `TYPE x : ARRAY [1..2] OF INT; n : STRUCT m : INT; END_STRUCT; m : STRUCT m : INT;
 /// END_STRUCT; END_TYPE`.
 pub fn types()
     ensures array_and_its_name { same_type texts_with_types (named 0 X) (Array (array_of 0 (pos 1) (pos 2)
@@ -99,7 +99,7 @@ pub fn more_externals()
         ≡ true }
     ensures second_declaration { are_known (external_text External)
         (globals_of None (global M (elementary Int) ∷ global N (elementary Int) ∷ []) one_program) ≡ true }
-    // of the second unit, of its second block, and of a block's second declaration, where m is no global
+    // of the second unit, of its second block, and of a block's second declaration, if m isn't a global
     ensures second_unit { are_known (units_of (externals_at (at 20 N ∷ []) ∷ externals_at (at 60 M ∷ []) ∷ []))
         (globals_of None (global N (elementary Int) ∷ []) one_program) ≡ false }
     ensures second_block_of_externals { are_known (one_unit_of (externals_block (at 20 N ∷ [])
@@ -113,14 +113,14 @@ pub fn more_externals()
     ensures second_block { are_known (external_text External)
         (globals_in (record { qualifier = Some Constant; declarations = global M (elementary Int) ∷ [] }
         ∷ record { qualifier = None; declarations = global N (elementary Int) ∷ [] } ∷ []) one_program) ≡ true }
-    // VAR_EXTERNAL n, m : INT; END_VAR where m is no global
+    // VAR_EXTERNAL n, m : INT; END_VAR if m isn't a global
     ensures second_external { are_known (externals_of (at 20 N ∷ at 30 M ∷ []))
         (globals_of None (global N (elementary Int) ∷ []) one_program) ≡ false }
     ensures both_externals { are_known (externals_of (at 20 N ∷ at 30 M ∷ []))
         (globals_of None (global N (elementary Int) ∷ global M (elementary Int) ∷ []) one_program) ≡ true }
 {}
 
-/// Tasks, programs and SINGLEs of resources, where the text has the unit P.
+/// Tasks, programs and SINGLEs of resources, in a text with the unit P.
 pub fn resources()
     ensures program { are_known (unit_of Program) (globals_of None [] one_program) ≡ true }
     ensures function_block { are_known (unit_of FunctionBlock) (globals_of None [] one_program) ≡ false }
@@ -135,10 +135,10 @@ pub fn resources()
     ensures single_of_an_input { are_known (unit_of Program)
         (globals_of None (addressed X Input Bit 0 (elementary Boolean) ∷ []) (running (single_on X ∷ []) P with_t))
         ≡ true }
-    // of the second task, where the first has none
+    // of the second task, if the first has none
     ensures second_single { are_known (unit_of Program)
         (globals_of None (global X (elementary Int) ∷ []) (running (tasked 0 ∷ single_on X ∷ []) P with_t)) ≡ false }
-    // a second instance, of a program that the text has not
+    // a second instance, of a program that the text doesn't have
     ensures second_instance { are_known (unit_of Program) (resourced (resource_at 40 X (task_at 60 T ∷ [])
         (instance_at 90 N ∷ record { name = at 120 M; task = with_t; program = at 130 M } ∷ []) ∷ [])) ≡ false }
     ensures two_instances { are_known (unit_of Program) (resourced (resource_at 40 X (task_at 60 T ∷ [])

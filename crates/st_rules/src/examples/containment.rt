@@ -1,4 +1,4 @@
-//! What contains itself, or is too deep.
+//! Types and units that contain themselves, or are too deep.
 
 ghost use Rattle.std.specs.Prelude.{◌≡◌, ◌∷◌, ◌++◌, [], pos, codes, None, Some, true, false};
 ghost use Rattle.st_types.specs.declared.kind.Kind.TheVariants.{Int};
@@ -19,7 +19,7 @@ ghost use Rattle.st_rules.specs.ExampleTexts.{chain_of_blocks, chain_of_function
 ghost use Rattle.st_rules.specs.ExampleWords.{declares, organised, defining, field_of, local, chain_of_types, N, M};
 ghost use Rattle.st_rules.specs.ExampleWords.{F, X, P};
 
-/// What contains itself.
+/// Types and units that contain themselves.
 pub fn cycles()
     // PROGRAM P VAR x : P; END_VAR: of its own type
     ensures program { broken (local (declaring (at 14 X) (named 18 P) ∷ []))
@@ -33,7 +33,7 @@ pub fn cycles()
         (organised Program (at 8 P) (block (Local None) (declaring (at 14 X) (named 18 M) ∷ []) ∷ []) []
         ∷ organised Program (at 58 M) (block (Local None) (declaring (at 64 X) (named 68 P) ∷ []) ∷ []) [] ∷ [])
         ≡ breaks TooDeep 8 ∷ breaks TooDeep 58 ∷ breaks WrongType 18 ∷ breaks WrongType 68 ∷ [] }
-    // PROGRAM P VAR CONSTANT x : P; END_VAR, and PROGRAM P VAR_EXTERNAL x : P; END_VAR: no external is a part
+    // PROGRAM P VAR CONSTANT x : P; END_VAR, and PROGRAM P VAR_EXTERNAL x : P; END_VAR: an external isn't a part
     ensures constant_part { broken (declares (block Constant (declaring (at 23 X) (named 27 P) ∷ []) ∷ []))
         ≡ breaks TooDeep 8 ∷ breaks WrongType 27 ∷ [] }
     ensures external { broken (declares (block External (declaring (at 23 X) (named 27 P) ∷ []) ∷ []))
@@ -59,13 +59,13 @@ pub fn cycles()
         (organised FunctionBlock (at 15 F) (block (Local None) (declaring (at 20 N) (named 24 M) ∷ []) ∷ []) []
         ∷ organised FunctionBlock (at 65 M) (block (Local None) (declaring (at 70 N) (named 74 F) ∷ []) ∷ []) [] ∷ [])
         ≡ breaks TooDeep 15 ∷ breaks TooDeep 65 ∷ [] }
-    // A block that calls a function is no part of it, and externals are no parts.
+    // A block that calls a function isn't a part of it, and externals aren't parts.
     ensures no_cycle { broken (organised (Function (Elementary Int 13)) (at 9 F) [] []
         ∷ organised FunctionBlock (at 65 M) (block External (declaring (at 70 N) (elementary Int) ∷ []) ∷ [])
         (setting 87 N (calling 92 F []) ∷ []) ∷ []) ≡ [] }
 {}
 
-/// A chain of structures, the last of which has an INT, each told with its length.
+/// Chains of structures, the last of which has an INT, each given by its length.
 pub fn depths()
     // with the INT 64 deep
     ensures deepest { broken (types (chain_of_types 63) ∷ []) ≡ [] }
@@ -73,7 +73,7 @@ pub fn depths()
     ensures too_deep { broken (types (chain_of_types 64) ∷ []) ≡ breaks TooDeep 64 ∷ [] }
 {}
 
-/// Chains of blocks, and of functions that call one another, each told with its length.
+/// Chains of blocks, and of functions that call one another, each given by its length.
 pub fn depths_of_units()
     // blocks, the last of which has an INT
     ensures deepest_block { broken (chain_of_blocks (elementary Int) 63) ≡ [] }
@@ -101,7 +101,7 @@ pub fn depths_of_units()
     ensures array_type_too_deep { broken (types (defining (at 2000 N)
         (definitions.array (array_of 2004 (pos 1) (pos 2) (Named (at 2020 (63 ∷ []))))) ∷ chain_of_types 63) ∷ [])
         ≡ breaks TooDeep 2000 ∷ [] }
-    // a program over the deepest block is bounded by no depth
+    // a program over the deepest block has no limit of depth
     ensures program_over_deepest { broken
         (organised Program (at 2000 P) (block (Local None) (declaring (at 2010 N) (named 2014 (63 ∷ [])) ∷ []) ∷ []) []
         ∷ chain_of_blocks (elementary Int) 63) ≡ [] }

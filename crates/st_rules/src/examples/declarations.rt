@@ -36,9 +36,9 @@ pub fn names()
     ensures taken { broken
         (local (declaring (at 14 (codes "ABS")) (elementary Int) ∷ declaring (at 24 P) (elementary Int) ∷ []))
         ≡ breaks DeclaredTwice 14 ∷ breaks DeclaredTwice 24 ∷ [] }
-    // PROGRAM P VAR int_to_int : INT; END_VAR: no standard function
+    // PROGRAM P VAR int_to_int : INT; END_VAR: not a standard function
     ensures free { broken (local (declaring (at 14 (codes "INT_TO_INT")) (elementary Int) ∷ [])) ≡ [] }
-    // a program and a block of one name
+    // a program and a block with the same name
     ensures two_units { broken (organised Program (at 8 P) [] [] ∷ organised FunctionBlock (at 50 P) [] [] ∷ [])
         ≡ breaks DeclaredTwice 50 ∷ [] }
     // PROGRAM TON END_PROGRAM
@@ -78,7 +78,7 @@ pub fn kinds()
         (block (Input None) (declaring (at 30 N) (named 34 (codes "TON")) ∷ [])
         ∷ block (Output None) (declaring (at 60 M) (words.array 64 (pos 1) (pos 2)) ∷ []) ∷ []) [] ∷ [])
         ≡ breaks WrongType 34 ∷ breaks WrongType 34 ∷ breaks WrongType 64 ∷ [] }
-    // FUNCTION F : x .. where x is a structure, FUNCTION M : foo, FUNCTION N : TON
+    // FUNCTION F : x .. if x is a structure, FUNCTION M : foo, FUNCTION N : TON
     ensures results { broken (types (defining (at 5 X) (structure (field_of (at 16 N) (elementary Int) ∷ [])) ∷ [])
         ∷ organised (Function (Named (at 53 X))) (at 50 F) [] []
         ∷ organised (Function (Named (at 83 (codes "FOO")))) (at 80 M) [] []
@@ -104,7 +104,7 @@ pub fn kinds()
         (codes "FOO")) ∷ []))
         ∷ defining (at 40 M) (array (array_of 44 (pos 1) (pos 2) (Named (at 60 (codes "FOO"))))) ∷ []) ∷ [])
         ≡ breaks UnknownName 20 ∷ breaks UnknownName 60 ∷ [] }
-    // PROGRAM P VAR n : foo; END_VAR n(); n[1] := n.x;: of a variable of an unknown type nothing more is told
+    // PROGRAM P VAR n : foo; END_VAR n(); n[1] := n.x;: for a variable of an unknown type nothing more is reported
     ensures unknown_used { broken (organised Program (at 8 P) (block (Local None) (declaring (at 14 N) (named 18
         (codes "FOO")) ∷ []) ∷ [])
         (invoking 30 N [] ∷ assign (element 35 N (number 37 (pos 1))) (read (part 43 N 45 X)) ∷ []) ∷ [])
@@ -169,7 +169,7 @@ pub fn configurations()
     ensures retained { broken (configuring (Some Retain) (one_global 40 N (elementary Boolean) None ∷ []) []) ≡ [] }
     // VAR_GLOBAL s AT %IX0 : BOOL; END_VAR
     ensures address { broken (configured None (located_at 40 N ∷ []) (tasked 65535)) ≡ [] }
-    // RESOURCE R ON CPU TASK T (PRIORITY := 65536); TASK m (PRIORITY := 0); and the other way round
+    // RESOURCE R ON CPU TASK T (PRIORITY := 65536); TASK m (PRIORITY := 0); and in the other order
     ensures first_task { broken (configuring None [] (resource_at 40 X (with_priority 65536 (task_at 60 M)
         ∷ task_at 80 N ∷ []) [] ∷ []))
         ≡ breaks OutOfRange 70 ∷ [] }

@@ -29,8 +29,7 @@ ghost use Rattle.st_rules.specs.ExampleWords.{field_of, array_of, part, element,
 ghost use Rattle.st_rules.specs.ExampleTexts.{configuring, one_global};
 
 /// In `PROGRAM Step VAR m : Mode; k : Alarm; n : INT; clear : Mode; END_VAR`, with `Mode : (Stopped, Running, Fault)`
-/// and
-/// `Alarm : (Clear, Fault)`.
+/// and `Alarm : (Clear, Fault)`.
 pub fn values()
     // `m := Running`
     ensures fitting { broken (step (setting 140 M (reading 145 RUNNING) ∷ [])) ≡ [] }
@@ -57,7 +56,7 @@ pub fn values()
     ensures number { broken (step (setting 140 M (number 145 (pos 1)) ∷ [])) ≡ breaks WrongType 145 ∷ [] }
     // `n := Running`
     ensures to_a_number { broken (step (setting 140 N (reading 145 RUNNING) ∷ [])) ≡ breaks WrongType 145 ∷ [] }
-    // `Running := m`: a value is no variable
+    // `Running := m`: a value isn't a variable
     ensures assigned { broken (step (setting 140 RUNNING (reading 145 M) ∷ [])) ≡ breaks UnknownName 140 ∷ [] }
     // `IF m = Mode#Fault THEN END_IF`
     ensures compared { broken
@@ -84,7 +83,7 @@ pub fn values()
         ≡ breaks WrongType 149 ∷ breaks WrongType 152 ∷ [] }
 {}
 
-/// Where these types stand for elementary ones, and where they do not.
+/// Where these types may take the place of elementary ones, and where not.
 pub fn uses()
     // TYPE Mode, Alarm; x : STRUCT m : Mode; END_STRUCT; t : ARRAY [1..2] OF Mode; END_TYPE
     // FUNCTION_BLOCK F VAR_INPUT m : Mode; END_VAR VAR_OUTPUT k : Mode; END_VAR k := m; END_FUNCTION_BLOCK
@@ -117,10 +116,10 @@ pub fn uses()
         ∷ [])) no_stmts
         ∷ IF (arms_of ((binary NotEqual (reading 165 M) (reading 170 RUNNING), no_stmts) ∷ [])) no_stmts ∷ []))
         ≡ breaks WrongType 145 ∷ [] }
-    // clear := Clear: the variable's own name, of the Mode; m := Alarm#Running: no name of that type
+    // clear := Clear: the variable's own name, of the Mode; m := Alarm#Running: not a name of that type
     ensures names { broken (step (setting 140 CLEAR (reading 149 CLEAR)
         ∷ setting 160 M (literal (Enumerated (of_type 165 ALARM RUNNING))) ∷ [])) ≡ breaks UnknownName 165 ∷ [] }
-    // Stopped.n, Stopped[1]: of a value nothing is selected
+    // Stopped.n, Stopped[1]: a value has no parts
     ensures selected { broken (step (setting 140 N (read (part 145 STOPPED 153 N))
         ∷ setting 160 N (read (element 165 STOPPED (number 173 (pos 1)))) ∷ []))
         ≡ breaks UnknownName 145 ∷ breaks UnknownName 165 ∷ [] }
@@ -135,7 +134,7 @@ pub fn labels()
     ensures twice { broken (step (case_of (reading 145 M) ((labels.Enumerated (bare 150 STOPPED) ∷ [])
         ∷ (labels.Enumerated (of_type 160 MODE STOPPED) ∷ []) ∷ []) ∷ []))
         ≡ breaks WrongLabel 160 ∷ breaks WrongLabel 150 ∷ [] }
-    // `CASE m OF Stopped : Alarm#Clear : END_CASE`: the other type's first name is no label of the same value
+    // `CASE m OF Stopped : Alarm#Clear : END_CASE`: the other type's first name isn't a label of the same value
     ensures of_two_types { broken (step (case_of (reading 145 M) ((labels.Enumerated (bare 150 STOPPED) ∷ [])
         ∷ (labels.Enumerated (of_type 160 ALARM CLEAR) ∷ []) ∷ []) ∷ []))
         ≡ breaks WrongType 160 ∷ [] }
@@ -143,7 +142,7 @@ pub fn labels()
     ensures variable_of_the_name { broken (step (case_of (reading 145 M) ((labels.Enumerated (bare 150 CLEAR) ∷ [])
         ∷ []) ∷ []))
         ≡ breaks WrongType 150 ∷ [] }
-    // `CASE m OF n : END_CASE`: a variable is no label
+    // `CASE m OF n : END_CASE`: a variable isn't a label
     ensures variable { broken (step (case_of (reading 145 M) ((labels.Enumerated (bare 150 N) ∷ []) ∷ []) ∷ []))
         ≡ breaks UnknownName 150 ∷ [] }
     // `CASE m OF Fault : END_CASE`

@@ -12,7 +12,7 @@ ghost use Rattle.st_types.specs.Expressions.{read, unary, binary, parenthesis};
 ghost use Rattle.st_types.specs.Statements.{assign};
 ghost use Rattle.st_rules.specs.declared.rule.Rule.TheVariants.{UnknownName, WrongType, OutOfRange, WrongArguments};
 ghost use Rattle.st_rules.specs.Rules.{broken};
-ghost use Rattle.st_rules.specs.ExampleWords.{setting, breaks, number, typed, truth, duration, name, reading};
+ghost use Rattle.st_rules.specs.ExampleWords.{setting, breaks, number, typed, bool_literal, duration, name, reading};
 ghost use Rattle.st_rules.specs.ExampleWords.{element};
 ghost use Rattle.st_rules.specs.ExampleWords.{part};
 ghost use Rattle.st_rules.specs.ExampleWords.{calling, wide, calls_sq, N, M};
@@ -82,7 +82,7 @@ pub fn operators()
 
 /// Calls of standard functions in the same program.
 pub fn standard_functions()
-    // `w := SHL(1, 2)`: the call is a LINT, and its first argument no bit string
+    // `w := SHL(1, 2)`: the call is a LINT, and its first argument isn't a bit string
     ensures shift_of_untyped { broken (wide (assign (name 100 (codes "W"))
         (calling 105 (codes "SHL") (number 109 (pos 1) ∷ number 112 (pos 2)
         ∷ [])) ∷ [])) ≡ breaks WrongType 105 ∷ breaks WrongType 109 ∷ [] }
@@ -96,7 +96,7 @@ pub fn standard_functions()
     ensures too_many { broken
         (wide (setting 100 N (calling 105 (codes "ABS") (reading 109 N ∷ reading 112 N ∷ [])) ∷ []))
         ≡ breaks WrongArguments 105 ∷ [] }
-    // `n := ABS(m)`, m unknown: it is told, and that the call is a LINT
+    // `n := ABS(m)`, m unknown: this is reported, and that the call is a LINT
     ensures of_unknown { broken (wide (setting 100 N (calling 105 (codes "ABS") (reading 109 M ∷ [])) ∷ []))
         ≡ breaks WrongType 105 ∷ breaks UnknownName 109 ∷ [] }
     // `n := MAX(1, n)`
@@ -112,7 +112,7 @@ pub fn standard_functions()
     ensures limits { broken
         (wide (setting 100 (codes "D") (calling 105 (codes "LIMIT") (duration 111 1 ∷ reading 118 (codes "D")
         ∷ duration 121 9 ∷ [])) ∷ [])) ≡ [] }
-    // `n := SEL(n, 1, 2)`: no condition
+    // `n := SEL(n, 1, 2)`: not a condition
     ensures no_condition { broken (wide (assign (name 100 N)
         (calling 105 (codes "SEL") (reading 109 N ∷ reading 112 N ∷ number 115 (pos 2)
         ∷ [])) ∷ [])) ≡ breaks WrongType 109 ∷ [] }
@@ -123,15 +123,15 @@ pub fn standard_functions()
     ensures conversion_of_less { broken (wide (setting 100 N (calling 105 (codes "UINT_TO_INT") (number 117
         (negsuc 4) ∷ [])) ∷ []))
         ≡ breaks OutOfRange 117 ∷ [] }
-    // `n := INT_TO_INT(n)`: no standard function
+    // `n := INT_TO_INT(n)`: not a standard function
     ensures conversion_to_itself { broken (wide (setting 100 N (calling 105 (codes "INT_TO_INT") (reading 116 N
         ∷ [])) ∷ []))
         ≡ breaks UnknownName 105 ∷ [] }
-    // `n := ROR(n, 1)`: no bit string
+    // `n := ROR(n, 1)`: not a bit string
     ensures number_turned { broken (wide (setting 100 N (calling 105 (codes "ROR") (reading 109 N
         ∷ number 112 (pos 1) ∷ [])) ∷ []))
         ≡ breaks WrongType 109 ∷ [] }
-    // `d := ABS(d)`: a duration is no whole number
+    // `d := ABS(d)`: a duration isn't a whole number
     ensures of_duration { broken (wide (setting 100 (codes "D") (calling 105 (codes "ABS") (reading 109 (codes "D")
         ∷ [])) ∷ []))
         ≡ breaks WrongType 109 ∷ [] }
@@ -140,9 +140,9 @@ pub fn standard_functions()
 /// Parts of variables in the same program.
 pub fn places()
     // `n := a[TRUE]`
-    ensures subscript_of_truth { broken (wide (setting 100 N (read (element 105 (codes "A") (truth 107 true))) ∷ []))
+    ensures subscript_of_truth { broken (wide (setting 100 N (read (element 105 (codes "A") (bool_literal 107 true))) ∷ []))
         ≡ breaks WrongType 107 ∷ [] }
-    // `n := a[w]`: bits are no whole number
+    // `n := a[w]`: bits aren't a whole number
     ensures subscript_of_bits { broken (wide (setting 100 N (read (element 105 (codes "A") (reading 107
         (codes "W")))) ∷ []))
         ≡ breaks WrongType 107 ∷ [] }
@@ -154,10 +154,10 @@ pub fn places()
     // `b := f.RUN`: hidden from texts
     ensures hidden { broken (wide (setting 100 B (read (part 105 F 107 (codes "RUN"))) ∷ []))
         ≡ breaks UnknownName 107 ∷ [] }
-    // `n := n + a`: an array is no operand
+    // `n := n + a`: an array isn't an operand
     ensures array_as_operand { broken (wide (setting 100 N (binary Add (reading 105 N) (reading 109 (codes "A"))) ∷ []))
         ≡ breaks WrongType 105 ∷ [] }
-    // `n := P`: a unit is no variable
+    // `n := P`: a unit isn't a variable
     ensures unit { broken (wide (setting 100 N (reading 105 P) ∷ [])) ≡ breaks UnknownName 105 ∷ [] }
 {}
 
@@ -180,7 +180,7 @@ pub fn functions()
     ensures too_many { broken
         (calls_sq (setting 100 N (calling 105 (codes "SQ") (number 108 (pos 1) ∷ number 111 (pos 2) ∷ [])) ∷ []))
         ≡ breaks WrongArguments 105 ∷ [] }
-    // `n := P(1)`: a program is no function
+    // `n := P(1)`: a program isn't a function
     ensures of_a_program { broken (calls_sq (setting 100 N (calling 105 P (number 107 (pos 1) ∷ [])) ∷ []))
         ≡ breaks UnknownName 105 ∷ [] }
     // `n := Sq()`

@@ -27,11 +27,11 @@ pub fn values()
     ensures typed { broken
         (local (starting (at 14 N) (elementary Int) (constant (Number (typed_digits 25 Sint (pos 5)))) ∷ []))
         ≡ breaks WrongType 25 ∷ [] }
-    // n : foo := TRUE: the type alone is told
+    // n : foo := TRUE: only the type is reported
     ensures of_unknown_type { broken (local (starting (at 14 N) (named 18 (codes "FOO")) (constant (Truth 25 true))
         ∷ []))
         ≡ breaks UnknownName 18 ∷ [] }
-    // n : foo := [1], n : foo := (m := 1), n : foo := m: a name stands for a value, whatever it is for
+    // n : foo := [1], n : foo := (m := 1), n : foo := m: a name stands for a value, whatever the type
     ensures list_for_unknown { broken
         (local (starting (at 14 N) (named 18 (codes "FOO")) (list 25 (elements_of (single (start_of 26 (pos 1))
         ∷ []))) ∷ []))
@@ -75,7 +75,7 @@ pub fn values()
 
 /// Lists for `n : ARRAY [1..2] OF INT`.
 pub fn lists()
-    // [3()], [3(0)]: each count stands for so many elements
+    // [3()], [3(0)]: each count stands for that number of elements
     ensures defaults_too_many { broken (starting_array (defaults (digits 41 (pos 3)) ∷ []))
         ≡ breaks WrongBounds 40 ∷ [] }
     ensures repeated_too_many { broken (starting_array (repeated (digits 41 (pos 3)) (start_of 43 (pos 0)) ∷ []))
@@ -104,7 +104,7 @@ pub fn lists()
     // [SINT#200()]: both the count and the list
     ensures count_out_of_range { broken (starting_array (defaults (typed_digits 41 Sint (pos 200)) ∷ []))
         ≡ breaks WrongBounds 40 ∷ breaks OutOfRange 41 ∷ [] }
-    // [0(TRUE)]: it stands for no element, and is judged
+    // [0(TRUE)]: it stands for no element, but is checked
     ensures none_of_other_type { broken (starting_array (repeated (digits 41 (pos 0)) (constant (Truth 43 true)) ∷ []))
         ≡ breaks WrongType 43 ∷ [] }
 {}

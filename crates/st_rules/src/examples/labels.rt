@@ -63,10 +63,10 @@ pub fn numbers()
     // `CASE 5 OF 40000 : END_CASE`: an untyped selector is a LINT
     ensures untyped_selector { broken (wide (case_of (number 105 (pos 5)) ((single 110 (pos 40000) ∷ []) ∷ []) ∷ []))
         ≡ [] }
-    // `CASE b OF 1 : END_CASE`: the selector, and that the label is none of its values
+    // `CASE b OF 1 : END_CASE`: the selector, and the label, which isn't one of its values
     ensures truth_selects { broken (wide (case_of (reading 105 B) ((single 110 (pos 1) ∷ []) ∷ []) ∷ []))
         ≡ breaks WrongType 105 ∷ breaks WrongType 110 ∷ [] }
-    // `CASE w OF 1 : END_CASE`: bits select nothing
+    // `CASE w OF 1 : END_CASE`: bits aren't a selector
     ensures bits_select { broken (wide (case_of (reading 105 (codes "W")) ((single 110 (pos 1) ∷ []) ∷ []) ∷ []))
         ≡ breaks WrongType 105 ∷ [] }
     // `CASE m OF 1 : END_CASE`

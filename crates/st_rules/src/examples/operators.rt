@@ -1,4 +1,4 @@
-//! What operators take, and the types of untyped expressions.
+//! The operands of operators, and the types of untyped expressions.
 
 ghost use Rattle.std.specs.Prelude.{◌≡◌, ◌∷◌, [], pos, negsuc, true, codes};
 ghost use Rattle.st_types.specs.declared.kind.Kind.TheVariants.{Sint};
@@ -11,12 +11,12 @@ ghost use Rattle.st_types.specs.Expressions.{read, unary, binary, parenthesis};
 ghost use Rattle.st_types.specs.Statements.{assign};
 ghost use Rattle.st_rules.specs.declared.rule.Rule.TheVariants.{UnknownName, WrongType, OutOfRange, WrongArguments};
 ghost use Rattle.st_rules.specs.Rules.{broken};
-ghost use Rattle.st_rules.specs.ExampleWords.{setting, breaks, number, typed, truth, reading, element, calling, wide};
+ghost use Rattle.st_rules.specs.ExampleWords.{setting, breaks, number, typed, bool_literal, reading, element, calling, wide};
 ghost use Rattle.st_rules.specs.ExampleWords.{N, M, B};
 ghost use Rattle.st_rules.specs.ExampleTexts.{joining, A, D, U, W};
 
 /// In `PROGRAM P VAR n : INT; b : BOOL; w : WORD; a : ARRAY [1..2] OF INT; f : TON; d : TIME; u : UINT; END_VAR`: an
-/// operator between two variables of one type. What is refused is told at the first one.
+/// operator between two variables of one type. A refused one is reported at the first operand.
 pub fn sorts()
     // d := d - d; n := n - n; w := w - w; b := b - b;
     ensures subtraction { broken (wide (joining D Subtract 100 ∷ joining N Subtract 110 ∷ joining W Subtract 120
@@ -67,7 +67,7 @@ pub fn sorts()
     ensures two_types { broken (wide (setting 100 B (binary Less (reading 105 N) (typed 109 Sint (pos 5)))
         ∷ setting 120 B (binary Equal (reading 125 N) (reading 129 B)) ∷ []))
         ≡ breaks WrongType 105 ∷ breaks WrongType 125 ∷ [] }
-    // n := m + n; n := n * m; b := m = n; n := -m; the unknown name alone is told
+    // n := m + n; n := n * m; b := m = n; n := -m; only the unknown name is reported
     ensures of_unknown { broken (wide (setting 100 N (binary Add (reading 105 M) (reading 109 N))
         ∷ setting 120 N (binary Multiply (reading 125 N) (reading 129 M))
         ∷ setting 140 B (binary Equal (reading 145 M) (reading 149 N))
@@ -78,7 +78,7 @@ pub fn sorts()
         ∷ setting 120 B (binary Less (reading 125 N) (reading 129 A))
         ∷ setting 140 N (binary Add (reading 145 A) (reading 149 N)) ∷ []))
         ≡ breaks WrongType 105 ∷ breaks WrongType 125 ∷ breaks WrongType 145 ∷ [] }
-    // b := (n) + n; b := -n; b := ABS(n): a wrong value is told at its first byte
+    // b := (n) + n; b := -n; b := ABS(n): a wrong value is reported at its first byte
     ensures first_byte { broken (wide (setting 100 B (binary Add (parenthesis 105 (reading 106 N)) (reading 111 N))
         ∷ setting 120 B (unary Negate 125 (reading 126 N)) ∷ setting 130 B (calling 135 (codes "ABS") (reading 139 N
         ∷ []))
@@ -141,7 +141,7 @@ pub fn untyped()
         ∷ setting 120 N (calling 125 (codes "LIMIT") (reading 131 N ∷ reading 134 N ∷ reading 137 U ∷ []))
         ∷ setting 150 B (calling 155 (codes "SEL") (reading 159 B ∷ reading 162 B ∷ reading 165 N ∷ [])) ∷ []))
         ≡ breaks WrongType 112 ∷ breaks WrongType 137 ∷ breaks WrongType 165 ∷ [] }
-    // d := MIN(d, d); w := LIMIT(w, w, w): bits have no least one
+    // d := MIN(d, d); w := LIMIT(w, w, w): bits have no minimum
     ensures least { broken (wide (setting 100 D (calling 105 (codes "MIN") (reading 109 D ∷ reading 112 D ∷ []))
         ∷ setting 120 W (calling 125 (codes "LIMIT") (reading 131 W ∷ reading 134 W ∷ reading 137 W ∷ [])) ∷ []))
         ≡ breaks WrongType 131 ∷ breaks WrongType 134 ∷ breaks WrongType 137 ∷ [] }

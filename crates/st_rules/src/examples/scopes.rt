@@ -35,7 +35,7 @@ pub fn units()
     // TYPE P : (x); END_TYPE PROGRAM P
     ensures type_and_unit { broken (types (defining (at 5 P) (enumeration (at 10 X ∷ [])) ∷ [])
         ∷ organised Program (at 50 P) [] [] ∷ []) ≡ breaks DeclaredTwice 50 ∷ [] }
-    // FUNCTION P : INT and behind it the type
+    // FUNCTION P : INT and after it the type
     ensures unit_and_type { broken (organised (Function (Elementary Int 14)) (at 9 P) [] []
         ∷ types (defining (at 45 P) (enumeration (at 50 X ∷ [])) ∷ []) ∷ []) ≡ breaks DeclaredTwice 45 ∷ [] }
     // TYPE TON : (x); END_TYPE FUNCTION ABS : INT
@@ -52,7 +52,7 @@ pub fn units()
     // TYPE x : STRUCT ABS : INT; p : INT; END_STRUCT; END_TYPE PROGRAM P: fields are free
     ensures fields { broken (types (defining (at 5 X) (structure (field_of (at 16 (codes "ABS")) (elementary Int)
         ∷ field_of (at 26 P) (elementary Int) ∷ [])) ∷ []) ∷ organised Program (at 60 P) [] [] ∷ []) ≡ [] }
-    // two units with variables of one name
+    // two units with variables of the same name
     ensures two_units { broken
         (organised Program (at 8 P) (block (Local None) (declaring (at 14 N) (elementary Int) ∷ []) ∷ []) []
         ∷ organised Program (at 58 M) (block (Local None) (declaring (at 64 N) (elementary Int) ∷ []) ∷ []) [] ∷ [])
@@ -67,7 +67,7 @@ pub fn standard_names()
     ensures functions { twice_declared (local (declaring_all 100 function_names)) ≡ upwards 100 9 }
     // SINT_TO_BOOL, INT_TO_BOOL, .. LWORD_TO_BOOL, BOOL_TO_SINT
     ensures conversions { twice_declared (local (declaring_all 100 conversion_names)) ≡ upwards 100 13 }
-    // BOOL_TO_INT once more, between numbers and bit strings; INT_TO_INT, TIME_TO_INT and others are none
+    // BOOL_TO_INT once more, between numbers and bit strings; INT_TO_INT, TIME_TO_INT and others aren't conversions
     ensures both_ways { twice_declared (local (declaring_all 100 (codes "BOOL_TO_INT" ∷ codes "INT_TO_UDINT"
         ∷ codes "UDINT_TO_INT" ∷ codes "BYTE_TO_LINT" ∷ codes "LINT_TO_BYTE" ∷ []))) ≡ upwards 100 5 }
     ensures free { twice_declared (local (declaring_all 100 (codes "INT_TO_INT" ∷ codes "TIME_TO_INT"
@@ -75,7 +75,7 @@ pub fn standard_names()
         ∷ codes "INT_TO_" ∷ codes "INT_TO_BOOLS" ∷ codes "ABSS" ∷ codes "TO" ∷ codes "TRUNC" ∷ []))) ≡ [] }
 {}
 
-/// Configurations: globals have a scope, resources have one, and tasks and instances have one a resource.
+/// Configurations: globals have a scope, resources have one, and tasks and instances have one per resource.
 pub fn configurations()
     // VAR_GLOBAL n : INT; n : INT; END_VAR
     ensures globals { broken
@@ -102,14 +102,14 @@ pub fn configurations()
     ensures task_and_instance { broken
         (configuring None [] (resource_at 40 M (task_at 60 T ∷ []) (instance_at 90 T ∷ []) ∷ []))
         ≡ breaks DeclaredTwice 90 ∷ [] }
-    // two resources with an instance of one name
+    // two resources with an instance of the same name
     ensures instances_apart { broken (configuring None []
         (resource_at 40 M (task_at 60 T ∷ []) (instance_at 90 N ∷ []) ∷ resource_at 140 X (task_at 160 T
         ∷ []) (instance_at 190 N ∷ []) ∷ []))
         ≡ [] }
 {}
 
-/// Fields that stand twice in initial values, of `TYPE x : STRUCT n : INT; a : ARRAY [1..2] OF INT; END_STRUCT; t :
+/// Fields that occur twice in initial values, of `TYPE x : STRUCT n : INT; a : ARRAY [1..2] OF INT; END_STRUCT; t :
 /// ARRAY [1..2] OF x; END_TYPE`.
 pub fn initial_values()
     // VAR_GLOBAL m : x := (n := 1, n := 2); END_VAR

@@ -1,4 +1,4 @@
-//! What may be assigned and counted, by the words that a declaration begins with.
+//! Which variables may be assigned and counted, by the words that a declaration begins with.
 
 ghost use Rattle.std.specs.Prelude.{◌≡◌, ◌∷◌, [], pos, true, codes, None, Some};
 ghost use Rattle.st_types.specs.declared.operator.BinaryOperator.TheVariants.{Add};
@@ -9,7 +9,7 @@ ghost use Rattle.st_types.specs.Statements.{assign, IF, FOR, WHILE, REPEAT, EXIT
 ghost use Rattle.st_rules.specs.declared.rule.Rule.TheVariants.{UnknownName, WrongType, OutOfRange, NotAssignable};
 ghost use Rattle.st_rules.specs.declared.rule.Rule.TheVariants.{ExitOutsideLoop, WrongArguments};
 ghost use Rattle.st_rules.specs.Rules.{broken};
-ghost use Rattle.st_rules.specs.ExampleWords.{at, breaks, number, truth, name, reading, element, part, setting};
+ghost use Rattle.st_rules.specs.ExampleWords.{at, breaks, number, bool_literal, name, reading, element, part, setting};
 ghost use Rattle.st_rules.specs.ExampleWords.{calling, invoking, giving, copying, block, organised, declaring};
 ghost use Rattle.st_rules.specs.ExampleWords.{array, single};
 ghost use Rattle.st_rules.specs.ExampleWords.{add_constant, wide, N, M, B, F, X, P};
@@ -29,7 +29,7 @@ pub fn assigned()
     // FUNCTION F .. F := F + 1;: the result, read too
     ensures result { broken (function_f (setting 100 F (binary Add (reading 105 F) (number 109 (pos 1))) ∷ [])) ≡ [] }
     // FUNCTION F : INT .. F := TRUE;
-    ensures result_of_other_type { broken (function_f (setting 100 F (truth 105 true) ∷ []))
+    ensures result_of_other_type { broken (function_f (setting 100 F (bool_literal 105 true) ∷ []))
         ≡ breaks WrongType 105 ∷ [] }
 {}
 
@@ -112,7 +112,7 @@ pub fn instances()
     ensures assigned { broken (with_own_block (assign (part 100 F 102 X) (number 107 (pos 1))
         ∷ assign (part 110 F 112 B) (number 117 (pos 1)) ∷ []))
         ≡ breaks NotAssignable 100 ∷ breaks UnknownName 112 ∷ [] }
-    // m(): a block is no instance
+    // m(): a block isn't an instance
     ensures block_itself { broken (with_own_block (invoking 100 M [] ∷ [])) ≡ breaks UnknownName 100 ∷ [] }
     // n := m(1): nor a function
     ensures block_as_function { broken

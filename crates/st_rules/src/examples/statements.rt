@@ -84,7 +84,7 @@ pub fn loops()
     // `FOR n := 1 TO 2 DO n := 3; END_FOR`
     ensures control_assigned { broken (wide (FOR (at 104 N) (number 109 (pos 1)) (number 114 (pos 2)) None
         (stmts_of (setting 119 N (number 124 (pos 3)) ∷ [])) ∷ [])) ≡ breaks NotAssignable 119 ∷ [] }
-    // `FOR n := 1 TO 2 DO END_FOR; n := 3`: after its loop it may be
+    // `FOR n := 1 TO 2 DO END_FOR; n := 3`: after its loop it may be assigned
     ensures control_assigned_later { broken (wide (FOR (at 104 N) (number 109 (pos 1)) (number 114
         (pos 2)) None no_stmts
         ∷ setting 130 N (number 135 (pos 3)) ∷ [])) ≡ [] }
@@ -100,7 +100,7 @@ pub fn loops()
     ensures limit_of_other_type { broken (wide (FOR (at 104 N) (number 109 (pos 1)) (reading 114
         (codes "U")) None no_stmts ∷ []))
         ≡ breaks WrongType 114 ∷ [] }
-    // `FOR b := 1 TO 2 DO END_FOR`: the control variable, and what is offered to the literals is no whole number
+    // `FOR b := 1 TO 2 DO END_FOR`: the control variable, and the type offered to the literals, which isn't a whole number
     ensures control_of_truth { broken (wide (FOR (at 104 B) (number 109 (pos 1)) (number 114 (pos 2)) None no_stmts
         ∷ []))
         ≡ breaks WrongType 109 ∷ breaks WrongType 114 ∷ breaks WrongType 104 ∷ [] }
@@ -113,7 +113,7 @@ pub fn loops()
         (pos 2)) None no_stmts
         ∷ FOR (at 124 X) (number 129 (pos 1)) (number 134 (pos 2)) None no_stmts ∷ []))
         ≡ breaks WrongType 104 ∷ breaks NotAssignable 104 ∷ breaks WrongType 124 ∷ [] }
-    // `EXIT` inside an IF inside a WHILE; behind it, one in no loop; RETURN stands anywhere
+    // `EXIT` inside an IF inside a WHILE; after it, one outside any loop; RETURN is allowed anywhere
     ensures exits { broken (wide (WHILE (reading 106 B)
         (stmts_of (IF (arms_of ((reading 112 B, stmts_of (EXIT 119 ∷ [])) ∷ [])) no_stmts ∷ []))
         ∷ IF (arms_of ((reading 150 B, stmts_of (EXIT 157 ∷ [])) ∷ [])) no_stmts ∷ RETURN ∷ []))

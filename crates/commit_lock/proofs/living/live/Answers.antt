@@ -23,15 +23,15 @@ returns-in-Ok c =
     subst (λ (f : List ℕ). Only f (MayLeave disk.medium)) (sym of) c.in_ok-disk.ensures.synced in
     let left = rw same at (c.in-Ok.ensures.any_moment tt only) in
     let first : IsFirst plan file life core = record {
-      mode = c.in-Ok.ensures.mode;
-      state = rw same at (c.in-Ok.ensures.started tt)
+      mode = c.in-Ok.ensures.core.mode_is;
+      state = rw same at ((c.in-Ok.ensures.file tt).state_is)
           ∙ ap (λ (f : List ℕ). started plan life.log_room (start_of life.mode plan (recovered f))) of;
-      fresh = c.in-Ok.ensures.fresh.0;
-      unfailed = c.in-Ok.ensures.fresh.1;
+      fresh = c.in-Ok.ensures.core.unacknowledged;
+      unfailed = c.in-Ok.ensures.core.working;
       store = subst (λ (f : List ℕ). IsStoreBegun life.mode plan (recovered f) core.store) of (record {
-        saved = rw same at (c.in-Ok.ensures.saved tt);
-        found = rw same at (c.in-Ok.ensures.found tt);
-        last = c.in-Ok.ensures.last;
+        saved = rw same at ((c.in-Ok.ensures.file tt).saved);
+        found = rw same at ((c.in-Ok.ensures.file tt).found);
+        last = c.in-Ok.ensures.core.last_is;
       });
       served = c.in-Ok.ensures.device ∙ ap (λ (d : SimView). d.failures) begun;
       left = subst (λ (d : SimView). LeavesOnly (λ _ x. MayLeave x.medium) (λ x. MayLeave x.medium) d core.store.disk

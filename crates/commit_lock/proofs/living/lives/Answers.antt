@@ -1,7 +1,7 @@
 use Rattle.std.proofs.Common.{rules, ◌≡◌, length, subst}
 use Rattle.std.specs.Prelude.{List}
 use Rattle.commit_lock.specs.declared.life.Life.{Life}
-use Rattle.commit_lock.specs.Lives.{EachLife, IsLife, BeginsSo, IsAnswered, IsAcked, LeavesLog, IsRefused, HasCause}
+use Rattle.commit_lock.specs.Lives.{EachLife, IsLife, BeginsFrom, IsAnswered, IsAcked, LeavesLog, IsRefused, HasCause}
 use Rattle.commit_lock.proofs.LifeLemmas.{each_weaker, each_end}
 use Rattle.commit_lock.proofs.living.lives.Goals as goal
 
@@ -9,7 +9,7 @@ pub returns-clause-begins : goal.returns-clause-begins
 returns-clause-begins c =
     let none : length c.loop-life.life-iterator.rest.items ≡ 0 = search rules in
     let all : c.into_iter-life-iterator.result.rest.items ≡ c.args.lives.items = search rules in
-    each_weaker (IsLife c.args.plan.now.value) (BeginsSo c.args.plan.now.value) (λ file life end is. is.begins)
+    each_weaker (IsLife c.args.plan.now.value) (BeginsFrom c.args.plan.now.value) (λ file life end is. is.begins)
     c.args.file.items c.args.lives.items c.loop-life.ends.items
     (subst (λ (ls : List Life). EachLife (IsLife c.args.plan.now.value) c.args.file.items ls c.loop-life.ends.items) all
     (each_end (IsLife c.args.plan.now.value) c.args.file.items c.loop-life.file.items

@@ -7,8 +7,9 @@ use Rattle.config.proofs.AddressLemmas.{stands_again, stands_once}
 use Rattle.std.specs.Prelude.{slice_set}
 use Rattle.std.proofs.lemmas.List.{length-replicate, length-set}
 use Rattle.config.specs.Addresses.{number_of_address}
-use Rattle.config.proofs.SearchLemmas.{nothing_left, item_then}
+use Rattle.config.proofs.SearchLemmas.{nothing_left}
 use Rattle.config.proofs.addresses.are_single.Goals as goal
+use Rattle.st_types.proofs.ListLemmas.{drop_next}
 
 pub loop-left-init : goal.loop-left-init
 loop-left-init c =
@@ -35,7 +36,7 @@ returns-then-index c =
     let lt : i < length xs = search rules in
     let next : i + 1 ≡ c.loop-left.left = search rules in
     let is : drop i xs ≡ x ∷ drop c.loop-left.left xs =
-    item_then xs i x lt (each_at xs i _ lt) ∙ ap (λ n. x ∷ drop n xs) next in
+    drop_next xs i x lt (each_at xs i _ lt) ∙ ap (λ n. x ∷ drop n xs) next in
     let m = c.index.result.now in
     let found = single_here c.loop-left.marked.items x (drop c.loop-left.left xs) m c.loop-left.invariant.sized
     (each_passes (λ a. is_in_range a.width a.number) xs i _ c.requires lt) c.loop-left.invariant.marks
@@ -51,7 +52,7 @@ loop-left-preserved c =
     let lt : i < length xs = search rules in
     let next : i + 1 ≡ c.loop-left.left = search rules in
     let is : drop i xs ≡ x ∷ drop c.loop-left.left xs =
-    item_then xs i x lt (each_at xs i _ lt) ∙ ap (λ n. x ∷ drop n xs) next in
+    drop_next xs i x lt (each_at xs i _ lt) ∙ ap (λ n. x ∷ drop n xs) next in
     let m = c.index.result.now in
     let marked = c.loop-left.marked.items in
     let ranged = each_passes (λ a. is_in_range a.width a.number) xs i _ c.requires lt in

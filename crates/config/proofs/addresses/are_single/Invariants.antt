@@ -3,7 +3,7 @@ use Rattle.st_rules.specs.ConfigurationRules.{are_single}
 use Rattle.config.specs.Addresses.{Marks}
 use Rattle.config.proofs.addresses.are_single.Given as goal
 
--- those behind stand once, and are marked
+-- those after it occur once, and are marked
 abbrev pub invariant-loop-left : goal.invariant-loop-left
 invariant-loop-left l = record {
   within : l.left ≤ length l.addresses;

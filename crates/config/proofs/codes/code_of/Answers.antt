@@ -12,7 +12,7 @@ returns-clause-code c =
     let same : c.in_ok-clone.field-0.value.items ≡ kinds = search rules in
     let memory = c.in_ok-compiled.compiled.memory in
     let whole_memory : memory ≡ length kinds + (memory - c.len-size.result) =
-    omega (arith, size, c.in_ok-compiled.ensures.room) in
+    omega (arith, size, c.in_ok-compiled.ensures.sizes.room) in
     λ whole kept. record {
       instrs = ap (λ v. v.instrs) code_is ∙ c.in_ok-compiled.ensures.code whole kept
           ∙ ap (λ n. program_code whole 0 n body 64) size;

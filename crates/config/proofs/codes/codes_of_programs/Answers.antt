@@ -11,7 +11,7 @@ use Rattle.config.specs.Compiled.{AreCompiled}
 use Rattle.st_link.proofs.SymbolLemmas.{more_taken}
 use Rattle.slot_code.specs.Codes.{code_view}
 use Rattle.config.specs.Codes.{AreCodesOver, IsCodeOver}
-use Rattle.config.specs.Rooms.{HasOne, IsCrowded, IsLong}
+use Rattle.config.specs.Rooms.{HasOne, IsCrowded, HasTooManyInstructions}
 use Rattle.config.proofs.CodeLemmas.{compiled_at, one_more}
 use Rattle.config.proofs.RoomLemmas.{at_hand}
 use Rattle.config.proofs.codes.codes_of_programs.Goals as goal
@@ -58,12 +58,12 @@ returns-in_err-code-clause-long c =
     let size = length c.args.kinds.now.value.items in
     let same : c.from_residual.result ≡ Err c.in_err-code.field-0.0 = search rules in
     subst (λ r. IfErr r (λ e. e ≡ TooManyInstructions → (whole : SlotLibrary) → IsKeptOf library whole
-    → HasOne (IsLong whole size) (map (λ b. slot_stmts_view b.items) c.args.programs.now))) (sym same)
+    → HasOne (HasTooManyInstructions whole size) (map (λ b. slot_stmts_view b.items) c.args.programs.now))) (sym same)
     (λ long whole kept. record {
       body = slot_stmts_view x.items;
       among = at_hand (λ b. slot_stmts_view b.items) c.args.programs.now c.loop-body.body-index x
           (more_taken c.args.programs.now c.loop-body.body-index x c.loop-body-test.true c.body-item.is);
-      holds = subst (λ b. IsLong whole size (slot_stmts_view b)) c.deref.ensures.value
+      holds = subst (λ b. HasTooManyInstructions whole size (slot_stmts_view b)) c.deref.ensures.value
           (c.in_err-code.ensures.long long whole kept);
     })
 

@@ -19,12 +19,13 @@ use Rattle.st_link.specs.Linked.{linked_text_view}
 use Rattle.st_link.specs.Orderly.{IsOrderlySource}
 use Rattle.slot_code.specs.Codes.{code_view}
 use Rattle.config.specs.Codes.{AreCodesOver}
-use Rattle.config.specs.Rooms.{HasOne, IsCrowded, IsLong, LacksRoom}
+use Rattle.config.specs.Rooms.{HasOne, IsCrowded, HasTooManyInstructions, LacksRoom}
 use Rattle.config.proofs.ManyValues.{many_values_are_long}
 use Rattle.config.proofs.RoomLemmas.{are_called, has_many_values}
-use Rattle.config.proofs.CodeLemmas.{codes_mean, kinds_are, kinds_shown, ok_weaker}
+use Rattle.config.proofs.CodeLemmas.{codes_mean, kinds_are, kinds_shown}
 use Rattle.config.proofs.CountLemmas.{codes_counted, linked_counted}
 use Rattle.config.proofs.codes.codes_of_text.Goals as goal
+use Rattle.st_types.proofs.OptionLemmas.{ok_weaker}
 
 pub returns-clause-codes : goal.returns-clause-codes
 returns-clause-codes c =
@@ -114,8 +115,8 @@ returns-clause-instructions c =
     subst (LacksRoom text) (sym is) (record {
       linked = link.whole;
       is = link.linked;
-      long = subst (λ n. HasOne (IsLong link.whole.library n) link.whole.programs) long
-          (subst (HasOne (IsLong link.whole.library (length kinds))) kept
+      long = subst (λ n. HasOne (HasTooManyInstructions link.whole.library n) link.whole.programs) long
+          (subst (HasOne (HasTooManyInstructions link.whole.library (length kinds))) kept
           (no_room is link.whole.library link.part.library));
     }))
     c.codes_of_programs.ensures.long

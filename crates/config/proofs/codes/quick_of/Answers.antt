@@ -1,4 +1,4 @@
--- By the law of quick code beside instructions.
+-- By the law of quick code next to instructions.
 use Rattle.slot_trees.specs.LibraryViews.{slot_library_view}
 use Rattle.slot_trees.specs.StatementViews.{slot_stmts_view}
 use Rattle.config.proofs.QuickAnswers.{all_answer}

@@ -7,7 +7,7 @@ use Rattle.st_rules.specs.ConfigurationRules.{is_known_external}
 use Rattle.config.specs.Globals.{ServesGlobals}
 use Rattle.config.proofs.externals.are_known_externals.Given as goal
 
--- all are known just where all that are still to come are
+-- all are known exactly if all that are still to come are
 abbrev pub invariant-loop-name : goal.invariant-loop-name
 invariant-loop-name l = (text : Declared) (blocks : List tree.GlobalBlock) → ServesText l.names.text.now text
     → ServesGlobals l.names.globals.now blocks

@@ -8,9 +8,7 @@ use Rattle.machine_code.specs.Asking.{IsOnlyLookedUp}
 use Rattle.config.proofs.OwnNames.{texts_keep_own}
 use Rattle.config.proofs.UnitCodes.{looked_up}
 use Rattle.config.proofs.look_ups.codes_of_accepted_texts_look_globals_up.Goals as goal
-
-same_linked : (a b : LinkedText) (o : Option LinkedText) → o ≡ Some a → o ≡ Some b → a ≡ b
-same_linked a b o x y = cc
+use Rattle.config.proofs.CodeLemmas.{linked_same}
 
 same_body : (a b : SlotStmts) (o : Option SlotStmts) → o ≡ Some a → o ≡ Some b → a ≡ b
 same_body a b o x y = cc
@@ -20,7 +18,7 @@ returns c = λ source linked n p body depth code k l accepted is there here made
     let has = c.texts_that_break_no_rule_are_linked.ensures source accepted.configuration accepted.well_typed
     accepted.functions accepted.only accepted.known in
     let link : IsLinkOf source linked =
-    subst (λ x. IsLinkOf source x) (same_linked has.linked linked (linked_source source) has.link.is is) has.link in
+    subst (λ x. IsLinkOf source x) (linked_same has.linked linked (linked_source source) has.link.is is) has.link in
     let program = c.linked_texts_have_their_programs.ensures source linked link n p there in
     let same = same_body program.body body (slice_get linked.programs n) program.there here in
     let keep = texts_keep_own source accepted.configuration accepted.well_typed accepted.only n p there in

@@ -2,7 +2,7 @@ use Rattle.std.proofs.Common.{◌+◌, List, length, sym, subst, arith}
 use Rattle.st_types.specs.Values.{Datum}
 use Rattle.st_meaning.specs.Runs.{ran_where}
 use Rattle.layout.specs.TextLayouts.{slots_of_text}
-use Rattle.slot_trees.specs.Alike.{EndsAlike}
+use Rattle.slot_trees.specs.Alike.{EndsEqually}
 use Rattle.slot_trees.specs.Seeing.{Sees}
 use Rattle.slot_trees.specs.SlotRuns.{slots_ran}
 use Rattle.machine_code.specs.Machine.{Ending}
@@ -19,7 +19,7 @@ returns c = λ source n p linked body depth code has linked_is there is.
       fails = λ t f image s vs rest now budget sees room fails.
           let run = same_run t code has.linked has.body depth now (length layout) vs rest budget here.instrs sees.length
           in
-          fails_so (length vs) (EndsAlike (Sees layout image)) (ran_where t p image now budget s)
+          fails_so (length vs) (EndsEqually (Sees layout image)) (ran_where t p image now budget s)
           (slots_ran t has.linked.library 0 has.body now (depth + budget) vs budget) _ f
           (has.ends t image now budget (depth + budget) s vs (omega arith) sees)
           (c.code_does_what_its_program_does.ensures t has.linked.library 0 has.body now depth (depth + budget) memory

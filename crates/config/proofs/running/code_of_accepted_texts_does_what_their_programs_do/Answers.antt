@@ -8,19 +8,19 @@ use Rattle.slot_trees.specs.Seeing.{Sees}
 use Rattle.slot_trees.specs.SlotExecution.{SlotEnd}
 use Rattle.slot_trees.specs.SlotRuns.{slot_outcome_in, slots_in}
 use Rattle.machine_code.specs.Machine.{Ending, finished, failed}
-use Rattle.machine_code.specs.Programs.{EndsSo}
+use Rattle.machine_code.specs.Programs.{MachineEndsAs}
 use Rattle.machine_code.specs.Endings.{outcome_at_end, values_at_end}
 use Rattle.config.proofs.running.code_of_accepted_texts_does_what_their_programs_do.Goals as goal
 
 same_outcome : (vs : List Datum) (r : Result (SlotEnd × ℕ) Fault) (e : Ending (List Datum))
-    → EndsSo (length vs) r e → slot_outcome_in r ≡ outcome_at_end e
+    → MachineEndsAs (length vs) r e → slot_outcome_in r ≡ outcome_at_end e
 same_outcome vs (Ok r) (finished m b) h = refl
 same_outcome vs (Err f) (failed m g) h = let is : g ≡ f = h in cc
 same_outcome vs (Ok r) (failed m g) h = absurd h
 same_outcome vs (Err f) (finished m b) h = absurd h
 
 same_values : (vs : List Datum) (r : Result (SlotEnd × ℕ) Fault) (e : Ending (List Datum))
-    → EndsSo (length vs) r e → slots_in r vs ≡ values_at_end e vs
+    → MachineEndsAs (length vs) r e → slots_in r vs ≡ values_at_end e vs
 same_values vs (Ok r) (finished m b) h = let is = h.1 in cc
 same_values vs (Err f) (failed m g) h = refl
 same_values vs (Ok r) (failed m g) h = absurd h

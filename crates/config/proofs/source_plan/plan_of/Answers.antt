@@ -19,8 +19,8 @@ plan_of_tree-requires-clause-judged c =
     let sound : IsConfigured source = search rules in
     let resolved : source_view c.in_ok-checked.checked.source ≡ resolved_source source = search rules in (
       source,
-      judged_from text source of well sound (c.paths_of_texts_are_written_apart.ensures.spelled text source of well)
-          (c.paths_of_texts_are_written_apart.ensures.different text source of well)
+      judged_from text source of well sound (c.paths_of_texts_have_distinct_spellings.ensures.spelled text source of well)
+          (c.paths_of_texts_have_distinct_spellings.ensures.different text source of well)
           (c.literals_of_texts_are_spelled.ensures text source of),
       resolved,
     )
@@ -34,8 +34,8 @@ returns-clause-plan c =
     let sound : IsConfigured source = search rules in
     let resolved : tree ≡ resolved_source source = search rules in
     let judged = judged_from text source of well sound
-    (c.paths_of_texts_are_written_apart.ensures.spelled text source of well)
-    (c.paths_of_texts_are_written_apart.ensures.different text source of well)
+    (c.paths_of_texts_have_distinct_spellings.ensures.spelled text source of well)
+    (c.paths_of_texts_have_distinct_spellings.ensures.different text source of well)
     (c.literals_of_texts_are_spelled.ensures text source of) in
     on_ok (λ plan. (x : trees.Source) → IsJudged x → tree ≡ resolved_source x → IsPlanOf x c.args.budget (plan_view plan))
     (λ plan. IsPlanOf source c.args.budget (plan_view plan)) c.plan_of_tree.result c.plan_of_tree.ensures.plan
@@ -50,8 +50,8 @@ returns-clause-refused c =
     let sound : IsConfigured source = search rules in
     let resolved : tree ≡ resolved_source source = search rules in
     let judged = judged_from text source of well sound
-    (c.paths_of_texts_are_written_apart.ensures.spelled text source of well)
-    (c.paths_of_texts_are_written_apart.ensures.different text source of well)
+    (c.paths_of_texts_have_distinct_spellings.ensures.spelled text source of well)
+    (c.paths_of_texts_have_distinct_spellings.ensures.different text source of well)
     (c.literals_of_texts_are_spelled.ensures text source of) in
     on_err (λ e. (x : trees.Source) → IsJudged x → tree ≡ resolved_source x → LacksPlan x e)
     (λ e. SourceLacksPlan source e) c.plan_of_tree.result c.plan_of_tree.ensures.refused

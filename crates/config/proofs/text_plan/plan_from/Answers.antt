@@ -15,9 +15,9 @@ use Rattle.config.specs.Programs.{instance_view, instances_from}
 use Rattle.config.specs.Places.{places_from}
 use Rattle.config.specs.Tasks.{tasks_from}
 use Rattle.layout.specs.TypeNames.{names_in_text}
-use Rattle.config.proofs.ListLemmas.{length_map}
 use Rattle.config.proofs.PlanLemmas.{configuration_there, few_variables, long_record, sound_plan, text_plan}
 use Rattle.config.proofs.text_plan.plan_from.Goals as goal
+use Rattle.st_types.proofs.ListLemmas.{length_map}
 
 -- src/text_plan.rt:45:9
 pub unreachable-requires : goal.unreachable-requires

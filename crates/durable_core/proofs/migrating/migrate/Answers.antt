@@ -1,8 +1,8 @@
 use Rattle.std.proofs.Common.{◌∙◌, List, ap, refl}
 use Rattle.st_types.specs.Values.{Datum}
 use Rattle.retain_records.specs.Records.{Content}
-use Rattle.retain_records.specs.Told.{lines_in}
-use Rattle.retain_records.specs.Matching.{all_told}
+use Rattle.retain_records.specs.ContentLines.{lines_in}
+use Rattle.retain_records.specs.Matching.{all_restored}
 use Rattle.durable_core.specs.Restart.{layout_text_of}
 use Rattle.durable_core.proofs.MigratingLemmas.{are_across, migrated, start_again}
 use Rattle.durable_core.proofs.migrating.migrate.Goals as goal
@@ -13,9 +13,9 @@ resume-requires-clause-kinds c =
     let text = layout_text_of plan in
     let content : Content = c.args.last.now in
     let own = c.retain.new.values.items in
-    let valued = c.deref.ensures.value ∙ c.take_told.ensures.items text c.requires.lines
-    ∙ ap (λ t. all_told text (lines_in t c.values.result.now) own) c.layout.ensures
-    ∙ ap (λ (ds : List Datum). all_told text (lines_in content.layout ds) own) c.values.ensures in
+    let valued = c.deref.ensures.value ∙ c.restore_from.ensures.items text c.requires.lines
+    ∙ ap (λ t. all_restored text (lines_in t c.values.result.now) own) c.layout.ensures
+    ∙ ap (λ (ds : List Datum). all_restored text (lines_in content.layout ds) own) c.values.ensures in
     let a = are_across plan c.args.parts.now.serial.room c.args.parts.now.serial content text own c.deref.result.now
     c.requires.begun refl c.retain.ensures.values c.retain.ensures.kinds c.retain.ensures.held valued in
     a.kinds
@@ -26,9 +26,9 @@ resume-requires-clause-held c =
     let text = layout_text_of plan in
     let content : Content = c.args.last.now in
     let own = c.retain.new.values.items in
-    let valued = c.deref.ensures.value ∙ c.take_told.ensures.items text c.requires.lines
-    ∙ ap (λ t. all_told text (lines_in t c.values.result.now) own) c.layout.ensures
-    ∙ ap (λ (ds : List Datum). all_told text (lines_in content.layout ds) own) c.values.ensures in
+    let valued = c.deref.ensures.value ∙ c.restore_from.ensures.items text c.requires.lines
+    ∙ ap (λ t. all_restored text (lines_in t c.values.result.now) own) c.layout.ensures
+    ∙ ap (λ (ds : List Datum). all_restored text (lines_in content.layout ds) own) c.values.ensures in
     let a = are_across plan c.args.parts.now.serial.room c.args.parts.now.serial content text own c.deref.result.now
     c.requires.begun refl c.retain.ensures.values c.retain.ensures.kinds c.retain.ensures.held valued in
     a.held
@@ -39,9 +39,9 @@ returns-clause-resumed c =
     let text = layout_text_of plan in
     let content : Content = c.args.last.now in
     let own = c.retain.new.values.items in
-    let valued = c.deref.ensures.value ∙ c.take_told.ensures.items text c.requires.lines
-    ∙ ap (λ t. all_told text (lines_in t c.values.result.now) own) c.layout.ensures
-    ∙ ap (λ (ds : List Datum). all_told text (lines_in content.layout ds) own) c.values.ensures in
+    let valued = c.deref.ensures.value ∙ c.restore_from.ensures.items text c.requires.lines
+    ∙ ap (λ t. all_restored text (lines_in t c.values.result.now) own) c.layout.ensures
+    ∙ ap (λ (ds : List Datum). all_restored text (lines_in content.layout ds) own) c.values.ensures in
     let a = are_across plan c.args.parts.now.serial.room c.args.parts.now.serial content text own c.deref.result.now
     c.requires.begun refl c.retain.ensures.values c.retain.ensures.kinds c.retain.ensures.held valued in
     migrated plan c.args.parts.now.serial.room content c.resume.new.self c.deref.result.now c.moment.result
@@ -53,9 +53,9 @@ returns-clause-again c = λ generation.
     let text = layout_text_of plan in
     let content : Content = c.args.last.now in
     let own = c.retain.new.values.items in
-    let valued = c.deref.ensures.value ∙ c.take_told.ensures.items text c.requires.lines
-    ∙ ap (λ t. all_told text (lines_in t c.values.result.now) own) c.layout.ensures
-    ∙ ap (λ (ds : List Datum). all_told text (lines_in content.layout ds) own) c.values.ensures in
+    let valued = c.deref.ensures.value ∙ c.restore_from.ensures.items text c.requires.lines
+    ∙ ap (λ t. all_restored text (lines_in t c.values.result.now) own) c.layout.ensures
+    ∙ ap (λ (ds : List Datum). all_restored text (lines_in content.layout ds) own) c.values.ensures in
     let a = are_across plan c.args.parts.now.serial.room c.args.parts.now.serial content text own c.deref.result.now
     c.requires.begun refl c.retain.ensures.values c.retain.ensures.kinds c.retain.ensures.held valued in
     start_again plan c.args.parts.now.serial.room generation c.resume.new.self c.deref.result.now c.moment.result

@@ -13,11 +13,11 @@ invariant_of-core g c =
       started = c.requires.start;
       early = c.requires.early;
       log_room = c.requires.log_room;
-      last = subst (λ (r : Recovered). Survives state.plan state.start state.before state.log 0 r) (sym last.1) now;
+      last = subst (λ (r : Recovered). Survives state.plan state.start state.before state.log 0 r) (sym last.last_is) now;
       tried = subst (λ (r : Recovered). Survives state.plan state.start state.before state.log 0 r)
-          (sym (last.2 ∙ last.1)) now;
+          (sym (last.tried_is ∙ last.last_is)) now;
       few = omega arith;
-      met = sym last.3;
-      saves = omega (arith, c.in-Ok.ensures.room, c.requires.room, state.plan.sound.limits.record_is);
+      met = sym last.working;
+      saves = omega (arith, last.room_is, c.requires.room, state.plan.sound.limits.record_is);
       room_is = omega (arith, c.requires.kept, c.in-Ok.ensures.kept);
     }

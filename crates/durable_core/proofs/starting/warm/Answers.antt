@@ -6,7 +6,8 @@ use Rattle.durable_core.specs.Restart.{record_now, warm}
 use Rattle.durable_core.specs.Cores.{CoreView}
 use Rattle.durable_core.specs.Starting.{LeftByStart, started as started_so}
 use Rattle.durable_core.specs.declared.starting.StartMode.TheVariants.{Warm}
-use Rattle.durable_core.proofs.StartLemmas.{either_is, left_saved, match_both, ok_both, record_started, started_warm}
+use Rattle.durable_core.proofs.StartLemmas.{either_is, left_saved, match_both, of_plan_not_other, record_started, started_warm}
+use Rattle.st_types.proofs.OptionLemmas.{ok_weaker}
 use Rattle.durable_core.proofs.starting.warm.Goals as goal
 
 pub gone_on-requires-clause-start : goal.gone_on-requires-clause-start
@@ -29,21 +30,37 @@ returns-then-is_same-clause-any_moment g c = λ tells.
     (started g.D.Disk.left_since g.D.Disk.may_leave _ _ (λ file left. g.met.D.Disk.only_now _ file tells left)
     (λ file left. inl (either_is store.last store.tried (recovered file) c.requires.tried (kept file left))))
 
-pub returns-else-is_same-clause-again : goal.returns-else-is_same-clause-again
-returns-else-is_same-clause-again g c =
+pub returns-then-is_same-clause-core : goal.returns-then-is_same-clause-core
+returns-then-is_same-clause-core g c = rw c.gone_on.ensures.core (record {
+  mode_is = refl;
+  state_is = c.resume_from-is_same.ensures.resumed;
+  again = c.resume_from-is_same.ensures.resumed;
+  unacknowledged = refl;
+  working = refl;
+  last_is = c.requires.last;
+  unsaved = λ same. refl;
+  saved = λ other. absurd (of_plan_not_other c.args.parts.serial.plan c.args.store.last (c.resume_from-is_same.ensures.same (search rules)) other);
+  next = λ other. absurd (of_plan_not_other c.args.parts.serial.plan c.args.store.last (c.resume_from-is_same.ensures.same (search rules)) other);
+})
+
+pub returns-else-is_same-clause-core : goal.returns-else-is_same-clause-core
+returns-else-is_same-clause-core g c =
     let plan = c.args.parts.serial.plan in
     let room = c.args.parts.serial.room in
     let other : c.resume_from-is_same.result ≡ false = search rules in
     let again = c.resume_from-is_same.ensures.again other in
-    ok_both c.saved_first.result _ _ _ (λ core same saved. same ∙ again core.store.generation
-    ∙ ap (λ (file : Recovered). started_so plan room (warm plan file)) (sym saved)) c.saved_first.ensures.state
-    c.saved_first.ensures.saved
-
-pub returns-else-is_same-clause-saved : goal.returns-else-is_same-clause-saved
-returns-else-is_same-clause-saved g c = λ other.
-    ok_both c.saved_first.result _ _ _ (λ core same saved. saved
-    ∙ ap (λ (s : State). Found core.store.generation (record_now s)) (sym same)) c.saved_first.ensures.state
-    c.saved_first.ensures.saved
+    ok_weaker c.saved_first.result _ _ (λ core is. record {
+      mode_is = is.mode_is;
+      state_is = is.state_is ∙ c.resume_from-is_same.ensures.resumed;
+      again = is.state_is ∙ again core.store.generation
+          ∙ ap (λ (file : Recovered). started_so plan room (warm plan file)) (sym is.saved);
+      unacknowledged = is.unacknowledged;
+      working = is.working;
+      last_is = is.last_is;
+      unsaved = λ same. absurd (same (c.resume_from-is_same.ensures.other other));
+      saved = λ saves. is.saved ∙ ap (λ (s : State). Found core.store.generation (record_now s)) (sym is.state_is);
+      next = λ saves. is.next;
+    }) c.saved_first.ensures.core
 
 pub returns-else-is_same-clause-any_moment : goal.returns-else-is_same-clause-any_moment
 returns-else-is_same-clause-any_moment g c = λ tells.

@@ -4,7 +4,7 @@ use Rattle.layout.specs.NamedSites.{named_site_view}
 use Rattle.layout.specs.KeptSites.{kept, kept_part, member_part, part_view, site_view}
 use Rattle.layout.proofs.block_members.push_members.Given as goal
 
--- what is there and what is still to come
+-- the elements so far and those still to come
 abbrev pub invariant-loop-variable : goal.invariant-loop-variable
 invariant-loop-variable l = (s : made.Site) → site_view l.initial.whole ≡ kept s
     → map part_view l.parts.items

@@ -5,7 +5,7 @@ use Rattle.st_types.specs.SourceViews.{element_view, source_view}
 use Rattle.layout.specs.LayoutVariables.{configurations_in}
 use Rattle.layout.proofs.configurations.only_configuration.Given as goal
 
--- what was found and what is still to come
+-- the configuration found so far and the elements still to come
 abbrev pub invariant-loop-element : goal.invariant-loop-element
 invariant-loop-element l = option_to_list (option_map (λ c. configuration_view c.now) l.found)
     ++ configurations_in (map element_view (drop l.element-index l.element-items))

@@ -2,7 +2,7 @@ use Rattle.std.proofs.Common.{◌≡◌, ◌++◌, map, drop}
 use Rattle.layout.specs.Instances.{instance_on, instance_view}
 use Rattle.layout.proofs.configurations.push_instances.Given as goal
 
--- what is there and what is still to come
+-- the elements so far and those still to come
 abbrev pub invariant-loop-instance : goal.invariant-loop-instance
 invariant-loop-instance l = map instance_view l.instances.items
     ++ map (instance_on l.resource) (drop l.instance-index l.declared)

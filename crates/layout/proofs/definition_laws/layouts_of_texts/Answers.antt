@@ -2,17 +2,17 @@ use Rattle.std.proofs.Common.{◌≡◌, true}
 use Rattle.st_types.specs.Sources.{Source}
 use Rattle.layout.specs.LayoutVariables.{declared_of, configuration_of, layout_variables}
 use Rattle.layout.specs.Names.{are_types_and_units_different, is_configuration_different, has_different_names}
-use Rattle.layout.specs.Standing.{are_declared_once}
-use Rattle.layout.proofs.ListLemmas.{both}
+use Rattle.layout.specs.VariableSlots.{are_declared_once}
 use Rattle.layout.proofs.NameLemmas.{configuration_once}
 use Rattle.layout.proofs.VariableLemmas.{variables_layout}
 use Rattle.layout.proofs.StoreLemmas.{initial_store_is}
 use Rattle.layout.proofs.definition_laws.layouts_of_texts.Goals as goal
+use Rattle.std.proofs.lemmas.Bool.{and_parts}
 
 declared_once : (source : Source) → has_different_names source ≡ true
     → are_declared_once (declared_of source) (layout_variables source) ≡ true
 declared_once source h =
-    let b = both (are_types_and_units_different (declared_of source))
+    let b = and_parts (are_types_and_units_different (declared_of source))
     (is_configuration_different (configuration_of source)) h in
     configuration_once (declared_of source) b.0 (configuration_of source) b.1
 

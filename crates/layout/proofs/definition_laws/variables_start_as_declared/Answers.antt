@@ -1,6 +1,6 @@
 use Rattle.std.proofs.Common.{ap, ◌∙◌}
 use Rattle.layout.specs.TextLayouts.{further}
-use Rattle.layout.specs.Standing.{path_to}
+use Rattle.layout.specs.VariableSlots.{path_to}
 use Rattle.layout.proofs.StoreLemmas.{written_value, unwritten_value}
 use Rattle.layout.proofs.ValueLemmas.{retained_among, value_told, retention_told}
 use Rattle.layout.proofs.definition_laws.variables_start_as_declared.Goals as goal

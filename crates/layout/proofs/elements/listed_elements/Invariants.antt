@@ -5,7 +5,7 @@ use Rattle.layout.specs.Sites.{listed_elements}
 use Rattle.layout.specs.KeptSites.{given_view}
 use Rattle.layout.proofs.elements.listed_elements.Given as goal
 
--- what is there and what is still to come
+-- the elements so far and those still to come
 abbrev pub invariant-loop-element : goal.invariant-loop-element
 invariant-loop-element l = map given_view l.given.items
     ++ listed_elements (elements_of (map element_view (drop l.element-index l.elements)))

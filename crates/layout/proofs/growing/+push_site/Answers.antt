@@ -10,8 +10,8 @@ use Rattle.layout.specs.KeptSites.{part_view, site_view}
 use Rattle.layout.specs.declared.growing.Growing.{Growing}
 use Rattle.layout.proofs.GrowthLemmas.{Remains, grows_nothing, begun, next, turned, ended, no_room, no_room_itself}
 use Rattle.layout.proofs.GrowthLemmas.{taken_back}
-use Rattle.layout.proofs.PushLemmas.{left_begins}
 use Rattle.layout.proofs.growing.+push_site.Goals as goal
+use Rattle.st_types.proofs.ListLemmas.{drop_next}
 
 pub returns-then-depth-eq0-clause-ok : goal.returns-then-depth-eq0-clause-ok
 returns-then-depth-eq0-clause-ok d c text s serves is sound =
@@ -51,7 +51,7 @@ returns-in_err-push_site-clause-err d c =
     let left = drop (c.loop-part.part-index + 1) c.deref-part-items.result.now in
     rw fault (λ text s serves is sound.
     let m = subst (Remains (c.args.depth - 1) text s c.args.root c.args.grown.now c.loop-part.grown)
-    (left_begins c.deref-part-items.result.now c.loop-part.part-index c.part-item.result (omega arith) c.part-item.is)
+    (drop_next c.deref-part-items.result.now c.loop-part.part-index c.part-item.result (omega arith) c.part-item.is)
     (c.loop-part.invariant.grown text s serves is sound) in
     let x = next (c.args.depth - 1) text s c.args.root c.args.grown.now c.loop-part.grown c.part-item.result left m in
     subst (λ n. Exceeds (length c.args.grown.now.slots.items + size (shape_within n text s.declared))
@@ -82,7 +82,7 @@ loop-part-preserved d c = record {
         trail = c.pop.new.self;
       } in
       let m = subst (Remains (c.args.depth - 1) text s c.args.root c.args.grown.now c.loop-part.grown)
-      (left_begins c.deref-part-items.result.now c.loop-part.part-index c.part-item.result (omega arith)
+      (drop_next c.deref-part-items.result.now c.loop-part.part-index c.part-item.result (omega arith)
       c.part-item.is)
       (c.loop-part.invariant.grown text s serves is sound) in
       let x = next (c.args.depth - 1) text s c.args.root c.args.grown.now c.loop-part.grown c.part-item.result left m in

@@ -5,8 +5,8 @@ use Rattle.layout.specs.Instances.{instance_view, variables_of_programs}
 use Rattle.layout.specs.Slots.{owner_view}
 use Rattle.layout.specs.Variables.{variable_view}
 use Rattle.layout.proofs.LayoutLemmas.{Left, no_room_left, first_sound, left_after}
-use Rattle.layout.proofs.PushLemmas.{left_begins}
 use Rattle.layout.proofs.layout_slots.push_programs.Goals as goal
+use Rattle.st_types.proofs.ListLemmas.{drop_next}
 
 pub returns-in_err-push_variables-clause-err : goal.returns-in_err-push_variables-clause-err
 returns-in_err-push_variables-clause-err c =
@@ -22,7 +22,7 @@ returns-in_err-push_variables-clause-err c =
     ∙ ap (λ u. map (owned_variable (Some (owner_view c.instance-item.result.owner))) (program_sites u))
     (c.unit_named.ensures text serves) in
     let m = subst (Left text all c.args.grown.now c.loop-instance.grown)
-    (ap (λ is. variables_of_programs text (map instance_view is)) (left_begins c.args.instances.now
+    (ap (λ is. variables_of_programs text (map instance_view is)) (drop_next c.args.instances.now
     c.loop-instance.instance-index c.instance-item.result (omega arith) c.instance-item.is)
     ∙ ap (λ vs. vs ++ rest) (sym own)) (c.loop-instance.invariant.left text serves trail h) in
     no_room_left c.leaves_of_shapes.ensures.count text all c.args.grown.now c.loop-instance.grown
@@ -46,7 +46,7 @@ loop-instance-preserved c = record {
       ∙ ap (λ u. map (owned_variable (Some (owner_view c.instance-item.result.owner))) (program_sites u))
       (c.unit_named.ensures text serves) in
       let m = subst (Left text all c.args.grown.now c.loop-instance.grown)
-      (ap (λ is. variables_of_programs text (map instance_view is)) (left_begins c.args.instances.now
+      (ap (λ is. variables_of_programs text (map instance_view is)) (drop_next c.args.instances.now
       c.loop-instance.instance-index c.instance-item.result (omega arith) c.instance-item.is)
       ∙ ap (λ vs. vs ++ rest) (sym own)) (c.loop-instance.invariant.left text serves trail h) in
       left_after text all c.args.grown.now c.loop-instance.grown c.push_variables.new.grown

@@ -1,8 +1,9 @@
 use Rattle.std.proofs.Common.{rules, ◌≡◌, refl, length, true, Err}
+use Rattle.std.proofs.lemmas.Bool.{and_parts}
 use Rattle.layout.specs.Shapes.{is_sound, size, instance_count}
 use Rattle.layout.specs.TextLayouts.{variable_shape}
 use Rattle.layout.specs.Variables.{variable_view}
-use Rattle.layout.proofs.LayoutLemmas.{both_sound, exceeds_one, grows_by_one}
+use Rattle.layout.proofs.LayoutLemmas.{exceeds_one, grows_by_one}
 use Rattle.layout.proofs.KeptSiteLemmas.{kept_alone}
 use Rattle.layout.proofs.layout_slots.push_variable.Goals as goal
 
@@ -17,7 +18,7 @@ returns-in_err-push_site-clause-err c =
     (c.in_err-push_site.ensures.err text v.site serves
     (kept_alone v.site.declared v.site.initial c.is_retained_within.result v.site.retentions
     c.is_retained_within.ensures)
-    (both_sound (is_sound sh) true h).0))
+    (and_parts (is_sound sh) true h).0))
 
 pub returns-clause-ok : goal.returns-clause-ok
 returns-clause-ok c text serves trail h =
@@ -32,4 +33,4 @@ returns-clause-ok c text serves trail h =
     (c.in_ok-push_site.ensures.ok text v.site serves
     (kept_alone v.site.declared v.site.initial c.is_retained_within.result v.site.retentions
     c.is_retained_within.ensures)
-    (both_sound (is_sound sh) true h).0)
+    (and_parts (is_sound sh) true h).0)

@@ -2,7 +2,7 @@ use Rattle.std.proofs.Common.{◌≡◌, ◌++◌, map, drop}
 use Rattle.layout.specs.NamedSites.{named_as, named_site_view}
 use Rattle.layout.proofs.named_sites.push_names.Given as goal
 
--- what is there and what is still to come
+-- the elements so far and those still to come
 abbrev pub invariant-loop-name : goal.invariant-loop-name
 invariant-loop-name l = map named_site_view l.sites.items
     ++ map (named_as (named_site_view l.initial.site)) (drop l.name-index l.names)

@@ -3,17 +3,18 @@ use Rattle.std.proofs.Common.{false, None}
 use Rattle.std.proofs.Math.ListN.{drop_of_length-le}
 use Rattle.st_types.specs.declared.limits.TheConstants.{MAX_PATHS}
 use Rattle.st_meaning.specs.NameTypes.{Declared}
+use Rattle.st_rules.specs.TypeRules.{elements_of_array}
 use Rattle.symbols.specs.PlaceTypes.{place_type_view}
 use Rattle.layout.specs.Types as made
-use Rattle.layout.specs.Types.{composition_of, count_of, is_within_depth}
+use Rattle.layout.specs.Types.{composition_of, is_within_depth}
 use Rattle.layout.specs.Compositions.{ServesTypes, composition_view}
 use Rattle.layout.specs.KeptSites.{part_view}
-use Rattle.layout.specs.Sizes.{IsSized, KnowsSizes, cut}
+use Rattle.layout.specs.Sizes.{IsSized, KnowsSizes, capped_size}
 use Rattle.layout.proofs.SizeLemmas.{SizedSoFar, if_none, if_some, nothing_within, no_elements, own_small}
 use Rattle.layout.proofs.SizeLemmas.{part_too_deep}
 use Rattle.layout.proofs.SizeLemmas.{sized_all, sized_array, sized_first, sized_next, too_deep_array}
-use Rattle.layout.proofs.PushLemmas.{left_begins}
 use Rattle.layout.proofs.sizes.+size_within.Goals as goal
+use Rattle.st_types.proofs.ListLemmas.{drop_next}
 
 pub returns-then-depth-eq0-clause-deep : goal.returns-then-depth-eq0-clause-deep
 returns-then-depth-eq0-clause-deep d c text serves knows =
@@ -34,7 +35,7 @@ returns-in-Elements-clause-known d c text serves knows =
     let sized = sized_array text t c.in-Elements.array.now c.in-Some-2.size
     (sym (c.composition_of-composed.ensures text serves) ∙ ap composition_view c.in-Elements.is)
     (if_some _ c.in_ok-size.field-0 c.in-Some-2.size c.in-Some-2.is c.in_ok-size.ensures.size text serves knows) in
-    let size : cut (count_of c.in-Elements.array.now * c.in-Some-2.size) ≡ c.product-size.result = search rules in
+    let size : capped_size (elements_of_array c.in-Elements.array.now * c.in-Some-2.size) ≡ c.product-size.result = search rules in
     c.in_ok-remember.ensures text (c.in_ok-size.ensures.known text serves knows) (subst (IsSized text t) size sized)
 
 pub returns-in-Elements-clause-size : goal.returns-in-Elements-clause-size
@@ -43,7 +44,7 @@ returns-in-Elements-clause-size d c text serves knows =
     let sized = sized_array text t c.in-Elements.array.now c.in-Some-2.size
     (sym (c.composition_of-composed.ensures text serves) ∙ ap composition_view c.in-Elements.is)
     (if_some _ c.in_ok-size.field-0 c.in-Some-2.size c.in-Some-2.is c.in_ok-size.ensures.size text serves knows) in
-    let size : cut (count_of c.in-Elements.array.now * c.in-Some-2.size) ≡ c.product-size.result = search rules in
+    let size : capped_size (elements_of_array c.in-Elements.array.now * c.in-Some-2.size) ≡ c.product-size.result = search rules in
     subst (IsSized text t) size sized
 
 pub loop-part-init : goal.loop-part-init
@@ -72,7 +73,7 @@ returns-in_default-3 d c = record {
       (no_elements c.composition_of-composed.result c.in_default-composed.not-Elements)
       (ap (map part_view) c.deref-part-items.ensures.value ∙ c.in_ok-parts.ensures s refl)
       (subst (SizedSoFar text c.own_size-total.result c.loop-part.total c.deref-part-items.result.now)
-      (left_begins c.deref-part-items.result.now c.loop-part.part-index c.part-item.result (omega arith)
+      (drop_next c.deref-part-items.result.now c.loop-part.part-index c.part-item.result (omega arith)
       c.part-item.is)
       (c.loop-part.invariant.sized text serves knows))
       (if_none c.in_ok-size-2.field-0 c.in_default-3.is c.in_ok-size-2.ensures.deep text serves
@@ -90,7 +91,7 @@ loop-part-preserved d c = record {
       (sized_next text c.own_size-total.result c.loop-part.total c.deref-part-items.result.now c.part-item.result left
       c.in-Some-3.size
       (subst (SizedSoFar text c.own_size-total.result c.loop-part.total c.deref-part-items.result.now)
-      (left_begins c.deref-part-items.result.now c.loop-part.part-index c.part-item.result (omega arith)
+      (drop_next c.deref-part-items.result.now c.loop-part.part-index c.part-item.result (omega arith)
       c.part-item.is)
       (c.loop-part.invariant.sized text serves knows))
       (if_some _ c.in_ok-size-2.field-0 c.in-Some-3.size c.in-Some-3.is c.in_ok-size-2.ensures.size text serves

@@ -4,7 +4,7 @@ use Rattle.st_types.specs.Paths.{same_path}
 use Rattle.layout.specs.Indexed.{entry_of}
 use Rattle.layout.proofs.slot_index.indexed.Given as goal
 
--- what is there, with what is still to come
+-- the elements so far, with those still to come
 abbrev pub invariant-loop-slot : goal.invariant-loop-slot
 invariant-loop-slot l =
     (insert_all same_path l.index.entries (map entry_of (drop l.slot-index l.slots))

@@ -5,7 +5,7 @@ use Rattle.layout.specs.KeptSites.{kept, kept_part, member_part, part_view, site
 use Rattle.layout.specs.StandardMembers.{standard_member_view}
 use Rattle.layout.proofs.standard_members.push_members.Given as goal
 
--- what is there and what is still to come
+-- the elements so far and those still to come
 abbrev pub invariant-loop-member : goal.invariant-loop-member
 invariant-loop-member l = (s : made.Site) → site_view l.initial.whole ≡ kept s
     → map part_view l.parts.items ++ map kept_part

@@ -4,7 +4,7 @@ use Rattle.layout.specs.LayoutVariables.{variables_of_globals}
 use Rattle.layout.specs.Variables.{variable_view}
 use Rattle.layout.proofs.variables.globals_of.Given as goal
 
--- what is there and what is still to come
+-- the elements so far and those still to come
 abbrev pub invariant-loop-block : goal.invariant-loop-block
 invariant-loop-block l = map (variable_view None) l.variables.items
     ++ variables_of_globals (map global_block_view (drop l.block-index l.blocks))

@@ -4,7 +4,7 @@ use Rattle.layout.specs.LayoutVariables.{variables_of_declarations}
 use Rattle.layout.specs.Variables.{variable_view}
 use Rattle.layout.proofs.variables.push_global_declarations.Given as goal
 
--- what is there and what is still to come
+-- the elements so far and those still to come
 abbrev pub invariant-loop-declaration : goal.invariant-loop-declaration
 invariant-loop-declaration l = map (variable_view None) l.variables.items
     ++ variables_of_declarations l.said (map global_declaration_view (drop l.declaration-index l.declarations))

@@ -4,7 +4,7 @@ use Rattle.layout.specs.NamedSites.{named_as, named_site_view}
 use Rattle.layout.specs.Variables.{variable_view}
 use Rattle.layout.proofs.variables.push_listed.Given as goal
 
--- what is there and what is still to come
+-- the elements so far and those still to come
 abbrev pub invariant-loop-name : goal.invariant-loop-name
 invariant-loop-name l = map (variable_view None) l.variables.items
     ++ map (λ x. owned_variable None (named_as (named_site_view l.initial.site) x)) (drop l.name-index l.names)

@@ -3,7 +3,7 @@ use Rattle.plan.specs.SlotPlaces.{merged}
 use Rattle.plan.proofs.SlotLemmas.{AreNumbered}
 use Rattle.plan.proofs.slots.merged_values.Given as goal
 
--- what is there and what is still to come
+-- the elements so far and those still to come
 abbrev pub invariant-loop-place : goal.invariant-loop-place
 invariant-loop-place l = (v : ℕ) × (i : ℕ) × (v ≤ length l.variables) × (i ≤ length l.inputs)
     × AreNumbered v i (drop l.place-index l.places) (length l.variables) (length l.inputs)

@@ -1,7 +1,7 @@
 use Rattle.std.proofs.Common.{◌≡◌, rules, subst, sym, map}
 use Rattle.std.specs.Vec.{vec_items}
 use Rattle.plan.specs.declared.plan.Plan.{Plan}
-use Rattle.plant_main.specs.Jobs.{IsNoTrace, IsToldBy}
+use Rattle.plant_main.specs.Jobs.{IsNoTrace, IsReportOfTrace}
 use Rattle.source_run.specs.Lives.{counts_of}
 use Rattle.source_run.specs.Reports.{report_text}
 use Rattle.plant_main.proofs.ReplayLemmas.{mapped, no_memory, told_so}
@@ -16,8 +16,8 @@ returns-in-Ok-replay_text-clause-report c =
     let (mode, start, log, is, found) = c.in-Ok-replay_text.ensures.told in
     mapped (λ text. text.items ≡ report_text (counts_of r) (map vec_items c.deref.result.now.enumerations.items)
     c.deref.result.now.variables.items r.values.items)
-    (λ text. IsToldBy c.args.plan.now.value c.args.rows.now c.args.trace.now text.items) c.report_of.result
-    (λ text spelled. subst (λ (p : Plan). IsToldBy p c.args.rows.now c.args.trace.now text.items) plan_is
+    (λ text. IsReportOfTrace c.args.plan.now.value c.args.rows.now c.args.trace.now text.items) c.report_of.result
+    (λ text spelled. subst (λ (p : Plan). IsReportOfTrace p c.args.rows.now c.args.trace.now text.items) plan_is
     (told_so shared c.args.rows.now c.args.trace.now text.items r
     (subst (λ (p : Plan). text.items ≡ report_text (counts_of r) (map vec_items p.enumerations.items)
     p.variables.items r.values.items) (sym plan_is)

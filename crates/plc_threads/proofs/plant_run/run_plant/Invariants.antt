@@ -1,6 +1,6 @@
 use Rattle.std.proofs.Common.{◌++◌, Some, length}
 use Rattle.st_meaning.specs.Logs.{done_count}
-use Rattle.serial_core.specs.Steps.{made}
+use Rattle.serial_core.specs.Steps.{past_in}
 use Rattle.plc_threads.proofs.plant_run.run_plant.Given as goal
 
 abbrev pub ghosts-run_as-J-Run : goal.ghosts-run_as-J-Run
@@ -11,7 +11,7 @@ ghosts-run_as-J-Run g a = record {
   life = Some a.core.state;
   mode = a.core.mode;
   acked = a.core.acked;
-  rows = (made a.core.state).rows ++ a.rows.items;
+  rows = (past_in a.core.state).rows ++ a.rows.items;
 }
 
 abbrev pub ghosts-run_as-J-Ledger : goal.ghosts-run_as-J-Ledger

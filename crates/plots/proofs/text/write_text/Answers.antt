@@ -1,7 +1,8 @@
 use Rattle.std.proofs.Common.{rules, ◌++◌, get_or}
 use Rattle.plots.specs.Texts.{escaped_byte}
-use Rattle.plots.proofs.TextLemmas.{appends_both, more_escaped}
+use Rattle.plots.proofs.TextLemmas.{more_escaped}
 use Rattle.plots.proofs.text.write_text.Goals as goal
+use Rattle.st_print.proofs.AppendLemmas.{appends_both}
 
 pub loop-byte-preserved : goal.loop-byte-preserved
 loop-byte-preserved g c =

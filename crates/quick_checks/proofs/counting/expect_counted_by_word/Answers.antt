@@ -1,6 +1,6 @@
 use Rattle.std.proofs.Common.{◌≡◌, Some, ap, subst}
 use Rattle.std.specs.Prelude.{slice_get}
-use Rattle.quick_code.specs.declared.quick_instr.QuickInstr.TheVariants.{WhenAtMost}
+use Rattle.quick_code.specs.declared.quick_instr.QuickInstr.TheVariants.{JumpIfAtMost}
 use Rattle.quick_trees.specs.Points.{Point}
 use Rattle.quick_checks.proofs.counting.expect_counted_by_word.Goals as goal
 
@@ -13,6 +13,6 @@ returns-clause-counts c =
       ordered = c.in_ok-upper.ensures.ordered now;
       behind = ap (λ (p : Point). p.place) c.in_ok-upper.ensures.next;
       tested = subst (λ u. slice_get c.args.draft.now.code.instrs.items c.expect_ordered.new.at.place
-          ≡ Some (WhenAtMost c.args.count.now.depth u leg.way leg.past)) c.in_ok-upper.ensures.upper
+          ≡ Some (JumpIfAtMost c.args.count.now.depth u leg.way leg.past)) c.in_ok-upper.ensures.upper
           c.in_ok-leg.ensures;
     }

@@ -1,6 +1,6 @@
 use Rattle.std.proofs.Common.{rules, ◌≡◌, ◌+◌, ◌*◌}
 use Rattle.std.specs.Prelude.{Some, slice_get}
-use Rattle.quick_trees.specs.Sites.{HasOwnWord, IsExact, kinds_of}
+use Rattle.quick_trees.specs.UnitValues.{HasOwnWord, IsExact, kinds_of}
 use Rattle.quick_checks.specs.Checking.{frame_of, site_of}
 use Rattle.quick_checks.proofs.Below.{one_more}
 use Rattle.quick_checks.proofs.expressions.read_elements.Goals as goal

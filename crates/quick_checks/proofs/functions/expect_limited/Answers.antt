@@ -1,5 +1,5 @@
 use Rattle.std.proofs.Common.{◌≡◌, rules, subst}
-use Rattle.quick_trees.specs.Functions.{AreThree, IsChosen}
+use Rattle.quick_trees.specs.Functions.{AreThree, IsPicked}
 use Rattle.quick_checks.specs.Checking.{frame_of, kinds_read, point_of, words_read}
 use Rattle.quick_checks.proofs.functions.expect_limited.Goals as goal
 
@@ -21,7 +21,7 @@ returns c =
       chosen = record {
         middle = point_of c.expect_chosen.new.at;
         first = c.in_ok-expect_chosen.ensures now;
-        second = subst (λ d. IsChosen (frame_of c.args.draft.now now) c.args.depth u.word c.args.depth u.word d c.args.to
+        second = subst (λ d. IsPicked (frame_of c.args.draft.now now) c.args.depth u.word c.args.depth u.word d c.args.to
             (point_of c.expect_chosen.new.at) (point_of c.expect_chosen-2.new.at)) c.in_ok-deeper.ensures
             (c.in_ok-expect_chosen-2.ensures now);
       };

@@ -2,7 +2,7 @@ use Rattle.std.proofs.Common.{◌≡◌, ◌<◌, arith, subst, to_z}
 use Rattle.std.specs.Int.{w128}
 use Rattle.std.proofs.lemmas.Int.{to_z_pos}
 use Rattle.st_types.specs.Kinds.{row_of}
-use Rattle.quick_trees.specs.Pieces.{IsNumberAt, Stands}
+use Rattle.quick_trees.specs.Pieces.{IsNumberAt, IsInstr}
 use Rattle.quick_checks.specs.Checking.{frame_of}
 use Rattle.quick_checks.proofs.functions.expect_shifted.Goals as goal
 
@@ -26,7 +26,7 @@ returns c =
           (subst (IsNumberAt (frame_of c.args.draft.now now) count.kind (to_z w128 places)) at
           (c.in_ok-place.ensures now));
       few = subst (λ n. places < n) width less;
-      stands = subst (λ o. Stands (frame_of c.args.draft.now now) o c.args.at.now.place) c.by_bits.ensures
+      stands = subst (λ o. IsInstr (frame_of c.args.draft.now now) o c.args.at.now.place) c.by_bits.ensures
           (c.in_ok-expect_for.ensures.stands now);
       is = c.in_ok-expect_for.ensures.next;
     }

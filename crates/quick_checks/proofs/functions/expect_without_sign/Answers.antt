@@ -1,5 +1,5 @@
 use Rattle.std.proofs.Common.{subst, suc}
-use Rattle.quick_trees.specs.Functions.{IsChosen}
+use Rattle.quick_trees.specs.Functions.{IsPicked}
 use Rattle.quick_checks.specs.Checking.{frame_of, point_of}
 use Rattle.quick_checks.proofs.functions.expect_without_sign.Goals as goal
 
@@ -17,9 +17,9 @@ returns c =
       is_nought = c.in_ok-nought.ensures now;
       stands = first.stands;
       last = point_of c.expect_chosen.new.at;
-      chosen = subst (λ p. IsChosen (frame_of c.args.draft.now now) n x.word x.word c.args.depth (suc c.args.depth) c.args.depth p
+      chosen = subst (λ p. IsPicked (frame_of c.args.draft.now now) n x.word x.word c.args.depth (suc c.args.depth) c.args.depth p
           (point_of c.expect_chosen.new.at)) first.next
-          (subst (λ d. IsChosen (frame_of c.args.draft.now now) n x.word x.word c.args.depth d c.args.depth
+          (subst (λ d. IsPicked (frame_of c.args.draft.now now) n x.word x.word c.args.depth d c.args.depth
           (point_of c.expect.new.at) (point_of c.expect_chosen.new.at)) c.in_ok-deeper.ensures
           (c.in_ok-expect_chosen.ensures now));
       moves = last.moves now;

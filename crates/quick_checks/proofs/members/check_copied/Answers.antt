@@ -1,7 +1,7 @@
 use Rattle.std.proofs.Common.{List, refl, subst, sym, ◌+◌}
 use Rattle.slot_trees.specs.SlotTrees.{SlotArgument}
 use Rattle.quick_trees.specs.Calls.{quick_units}
-use Rattle.quick_trees.specs.Standing.{OutputsCopied}
+use Rattle.quick_trees.specs.TreeCode.{OutputsCopied}
 use Rattle.quick_checks.specs.Checking.{frame_of, point_of, site_of}
 use Rattle.quick_checks.proofs.Instances.{argument_next, arguments_over}
 use Rattle.quick_checks.proofs.members.check_copied.Goals as goal

@@ -1,7 +1,7 @@
 use Rattle.std.proofs.Common.{drop, length, map, ◌-◌}
 use Rattle.slot_trees.specs.StatementViews.{slot_argument_view}
 use Rattle.quick_trees.specs.Points.{Point}
-use Rattle.quick_trees.specs.Standing.{OutputsCopied}
+use Rattle.quick_trees.specs.TreeCode.{OutputsCopied}
 use Rattle.quick_checks.specs.Checking.{Ever, point_of}
 use Rattle.quick_checks.proofs.members.check_copied.Given as goal
 

@@ -1,6 +1,6 @@
 use Rattle.std.proofs.Common.{drop, length, ◌-◌}
 use Rattle.quick_trees.specs.Points.{Point}
-use Rattle.quick_trees.specs.Standing.{InputsGiven}
+use Rattle.quick_trees.specs.TreeCode.{InputsGiven}
 use Rattle.quick_checks.specs.Checking.{Ever, inputs_taken, point_of}
 use Rattle.quick_checks.proofs.members.check_given.Given as goal
 

@@ -1,6 +1,6 @@
 use Rattle.std.proofs.Common.{◌≡◌, ℕ, List, ◌+◌, ◌-◌, ◌≤◌}
 use Rattle.quick_trees.specs.declared.noting.Noting.{Noting}
-use Rattle.quick_trees.specs.Notes.{AllChange, at_look}
+use Rattle.quick_trees.specs.Notes.{NotesChange, at_look}
 use Rattle.quick_checks.specs.Checking.{point_of}
 use Rattle.quick_checks.proofs.members.look_all.Given as goal
 
@@ -9,7 +9,7 @@ invariant-loop-index l = record {
   within : l.index ≤ l.count;
   same : point_of l.at ≡ record (point_of l.fn.at) { noted = l.at.noted.items };
   looks : (k n : ℕ) (after : List Noting) → k ≡ l.first + l.index → n + l.index ≡ l.count
-      → AllChange at_look k n l.at.noted.items after → AllChange at_look l.first l.count l.fn.at.noted.items after;
+      → NotesChange at_look k n l.at.noted.items after → NotesChange at_look l.first l.count l.fn.at.noted.items after;
 }
 
 abbrev pub decreases-loop-index : goal.decreases-loop-index

@@ -2,7 +2,7 @@ use Rattle.std.proofs.Common.{rules, ◌≡◌}
 use Rattle.std.specs.Prelude.{Some, slice_get}
 use Rattle.quick_code.specs.declared.quick_instr.QuickInstr.TheVariants.{Jump}
 use Rattle.quick_checks.specs.Checking.{landing_of}
-use Rattle.quick_checks.proofs.Standings.{landing_is}
+use Rattle.quick_checks.proofs.TreeCodeLemmas.{landing_is}
 use Rattle.quick_checks.proofs.programs.check_program.Goals as goal
 
 pub returns : goal.returns

@@ -1,7 +1,7 @@
 use Rattle.std.proofs.Common.{ℕ, ◌+◌, ◌*◌, arith, map, refl, rules, subst}
 use Rattle.slot_trees.specs.Chains.{subscripts_of}
 use Rattle.slot_trees.specs.ExpressionViews.{subscript_view}
-use Rattle.quick_trees.specs.Pieces.{LeadsBehind}
+use Rattle.quick_trees.specs.Pieces.{IsOffset}
 use Rattle.quick_checks.specs.Checking.{frame_of, site_of}
 use Rattle.quick_checks.specs.Within.{IsReached}
 use Rattle.quick_checks.proofs.Below.{one_more}
@@ -19,7 +19,7 @@ are_reached-requires t c = (omega (arith, c.in-Some.ensures.cases.1), tt)
 
 pub loop-index-preserved : goal.loop-index-preserved
 loop-index-preserved t c = λ now. one_more (λ j. (r : ℕ)
-    → LeadsBehind (subscripts_of (map subscript_view c.in-Some.rest.now)) r
+    → IsOffset (subscripts_of (map subscript_view c.in-Some.rest.now)) r
     → IsReached (frame_of c.args.draft.now now) (site_of c.args.values.now) c.args.at.now.noted.items
     (c.args.array.slot + (c.args.offset + j * c.in-Some.subscript.now.stride + r))
     (c.args.array.word + (c.args.offset + j * c.in-Some.subscript.now.stride + r)) c.args.array.kind) _

@@ -1,7 +1,7 @@
 use Rattle.std.proofs.Common.{◌≡◌, ◌∙◌, ◌-◌, ◌^◌, Some, ap, pos, subst}
 use Rattle.std.specs.Prelude.{slice_get}
 use Rattle.quick_code.specs.declared.quick_instr.QuickInstr.TheVariants.{MultiplyLint}
-use Rattle.quick_trees.specs.Pieces.{IsNumberAt, Stands}
+use Rattle.quick_trees.specs.Pieces.{IsNumberAt, IsInstr}
 use Rattle.quick_trees.specs.Points.{Point, next}
 use Rattle.quick_checks.specs.Checking.{frame_of}
 use Rattle.quick_checks.proofs.turning.expect_moved_up.Goals as goal
@@ -24,7 +24,7 @@ returns c =
       power = c.in_ok-power.power;
       is_power = subst (λ n. IsNumberAt (frame_of c.args.draft.now now) t (pos n) c.in_ok-power.power)
           c.power_of-2.ensures (c.in_ok-power.ensures now);
-      masked = subst (λ o. Stands (frame_of c.args.draft.now now) o c.args.at.now.place) c.by_bits.ensures
+      masked = subst (λ o. IsInstr (frame_of c.args.draft.now now) o c.args.at.now.place) c.by_bits.ensures
           (first.stands now);
       moved = subst (λ (p : Point). slice_get c.args.draft.now.code.instrs.items p.place ≡ Some multiply) first.next
           second.stands;

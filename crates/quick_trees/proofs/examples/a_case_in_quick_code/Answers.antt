@@ -18,10 +18,10 @@ use Rattle.quick_code.specs.Words.{case_of}
 use Rattle.quick_trees.specs.Calls.{quick_units}
 use Rattle.quick_trees.specs.CaseExample.{case_arms, case_frame, case_ways, taken_from}
 use Rattle.quick_trees.specs.Example.{no_units, number, variable, written}
-use Rattle.quick_trees.specs.Pieces.{AreBoth}
+use Rattle.quick_trees.specs.Pieces.{InSequence}
 use Rattle.quick_trees.specs.Points.{along, Joins}
-use Rattle.quick_trees.specs.Sites.{whole}
-use Rattle.quick_trees.specs.Standing.{ChosenStand, Exits, part_by, StmtsStand}
+use Rattle.quick_trees.specs.UnitValues.{whole}
+use Rattle.quick_trees.specs.TreeCode.{IsChosenCode, Exits, part_by, AreStmtsCode}
 use Rattle.quick_trees.proofs.Lists.{some_is}
 use Rattle.quick_trees.proofs.examples.a_case_in_quick_code.Goals as goal
 
@@ -30,18 +30,18 @@ exits_of = record { out = at 9 0 (Exact ∷ Exact ∷ []); back = at 9 0 (Exact 
 
 abbrev Stand : ℕ → Way → Type 0
 Stand n w =
-    AreBoth (StmtsStand case_frame (whole 0) (quick_units case_frame no_units 0) (taken_from (number n)) 2 exits_of)
+    InSequence (AreStmtsCode case_frame (whole 0) (quick_units case_frame no_units 0) (taken_from (number n)) 2 exits_of)
     (Joins case_frame) (along (at 3 0 (Looked ∷ AssignmentAhead ∷ [])) w) (at 9 0 (Looked ∷ Assigned ∷ []))
 
 abbrev Otherwise : Way → Type 0
 Otherwise w =
-    AreBoth (StmtsStand case_frame (whole 0) (quick_units case_frame no_units 0) (taken_from (variable 0)) 2 exits_of)
+    InSequence (AreStmtsCode case_frame (whole 0) (quick_units case_frame no_units 0) (taken_from (variable 0)) 2 exits_of)
     (Joins case_frame) (along (at 3 0 (Looked ∷ AssignmentAhead ∷ [])) w) (at 9 0 (Looked ∷ Assigned ∷ []))
 
 abbrev Chosen : ℤ → Way → Type 0
 Chosen n w =
-    ChosenStand case_frame (whole 0) (quick_units case_frame no_units 0) n case_arms
-    (StmtsStand case_frame (whole 0) (quick_units case_frame no_units 0) (taken_from
+    IsChosenCode case_frame (whole 0) (quick_units case_frame no_units 0) n case_arms
+    (AreStmtsCode case_frame (whole 0) (quick_units case_frame no_units 0) (taken_from
     (variable 0)) 2 exits_of) 2 exits_of
     (along (at 3 0 (Looked ∷ AssignmentAhead ∷ [])) w) (at 9 0 (Looked ∷ Assigned ∷ []))
 
@@ -172,7 +172,7 @@ otherwise = record {
   });
 }
 
--- what no label holds
+-- a number that no label holds
 past_first : (k : ℕ) → list_any (label_holds (pos (suc (suc (suc (suc k)))))) (Single (written 1) ∷ []) ≡ false
 past_first k = grind (arith, ints)
 
@@ -196,18 +196,18 @@ none_chosen : (n : ℤ) → list_any (label_holds n) (Single (written 1) ∷ [])
     → list_any (label_holds n) (Range (written 2) (written 3) ∷ []) ≡ false → Chosen n (way 8 1)
 none_chosen n first second =
     subst (λ t. part_by t
-    (AreBoth (StmtsStand case_frame (whole 0) (quick_units case_frame no_units 0) (taken_from (number 10)) 2 exits_of)
+    (InSequence (AreStmtsCode case_frame (whole 0) (quick_units case_frame no_units 0) (taken_from (number 10)) 2 exits_of)
     (Joins case_frame))
     (part_by (list_any (label_holds n) (Range (written 2) (written 3) ∷ []))
-    (AreBoth (StmtsStand case_frame (whole 0) (quick_units case_frame no_units 0) (taken_from (number 20)) 2 exits_of)
+    (InSequence (AreStmtsCode case_frame (whole 0) (quick_units case_frame no_units 0) (taken_from (number 20)) 2 exits_of)
     (Joins case_frame))
-    (AreBoth (StmtsStand case_frame (whole 0) (quick_units case_frame no_units 0) (taken_from (variable 0)) 2 exits_of)
+    (InSequence (AreStmtsCode case_frame (whole 0) (quick_units case_frame no_units 0) (taken_from (variable 0)) 2 exits_of)
     (Joins case_frame)))
     (along (at 3 0 (Looked ∷ AssignmentAhead ∷ [])) (way 8 1)) (at 9 0 (Looked ∷ Assigned ∷ []))) (sym first)
     (subst (λ t. part_by t
-    (AreBoth (StmtsStand case_frame (whole 0) (quick_units case_frame no_units 0) (taken_from (number 20)) 2 exits_of)
+    (InSequence (AreStmtsCode case_frame (whole 0) (quick_units case_frame no_units 0) (taken_from (number 20)) 2 exits_of)
     (Joins case_frame))
-    (AreBoth (StmtsStand case_frame (whole 0) (quick_units case_frame no_units 0) (taken_from (variable 0)) 2 exits_of)
+    (InSequence (AreStmtsCode case_frame (whole 0) (quick_units case_frame no_units 0) (taken_from (variable 0)) 2 exits_of)
     (Joins case_frame))
     (along (at 3 0 (Looked ∷ AssignmentAhead ∷ [])) (way 8 1)) (at 9 0 (Looked ∷ Assigned ∷ [])))
     (sym second) otherwise)

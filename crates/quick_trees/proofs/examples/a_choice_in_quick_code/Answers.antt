@@ -5,7 +5,7 @@ use Rattle.quick_code.specs.declared.operation.Operation.TheVariants as op
 use Rattle.quick_code.specs.declared.operation.Signed.TheVariants.{Lint}
 use Rattle.quick_code.specs.declared.quick_instr.QuickInstr.TheVariants.{AndBy, XorBy}
 use Rattle.quick_code.specs.QuickSteps.{look}
-use Rattle.quick_code.specs.Words.{made}
+use Rattle.quick_code.specs.Words.{operator_result}
 use Rattle.slot_trees.specs.SlotTrees.{binary, own}
 use Rattle.machine_code.specs.MarkedEvaluation.{marked_truth}
 use Rattle.machine_code.specs.MarkedRuns.{marked_ran, marked_units_within}
@@ -18,7 +18,7 @@ use Rattle.quick_trees.specs.Straight.{AssignsAt}
 use Rattle.quick_trees.proofs.Tellings.{at, each_tells}
 use Rattle.quick_trees.proofs.examples.a_choice_in_quick_code.Goals as goal
 
--- what the first value takes
+-- the instructions for the first value
 turned : (p : ℕ) → 4 ≤ p → p < 5 → AssignsAt choice_frame 2 p
 turned p from below =
     subst (AssignsAt choice_frame 2) (let is : 4 ≡ p = omega arith in is) (record {
@@ -26,7 +26,7 @@ turned p from below =
       at = refl;
       to = 2;
       deep = omega arith;
-      assigns = record { word = λ m. made op.Xor Lint (look m 0) (pos 5); does = λ m b. refl };
+      assigns = record { word = λ m. operator_result op.Xor Lint (look m 0) (pos 5); does = λ m b. refl };
     })
 
 pub returns-clause-stands : goal.returns-clause-stands

@@ -9,7 +9,7 @@ use Rattle.quick_trees.specs.declared.noting.Noting.TheVariants.{Looked, LookedA
 use Rattle.quick_trees.specs.Example.{way}
 use Rattle.quick_trees.specs.Points.{assignment_of, look_of}
 use Rattle.quick_trees.proofs.Tellings.{at, each_tells}
-use Rattle.quick_code.specs.declared.quick_instr.QuickInstr.TheVariants.{AddIntBy, WhenBelow, WhenFrom}
+use Rattle.quick_code.specs.declared.quick_instr.QuickInstr.TheVariants.{AddIntBy, JumpIfLessConst, JumpIfAtLeastConst}
 use Rattle.quick_trees.proofs.examples.a_count_in_quick_code.Goals as goal
 
 pub returns-clause-stands : goal.returns-clause-stands
@@ -48,7 +48,7 @@ returns-clause-stands c = record {
               touches = record { old = LookAhead; there = refl; new = Looked; is = refl; rest = refl };
             };
             number = (refl, refl);
-            stands = record { instr = WhenFrom 0 (pos 10) (way 6 0) 2; is = refl; at = refl };
+            stands = record { instr = JumpIfAtLeastConst 0 (pos 10) (way 6 0) 2; is = refl; at = refl };
           }));
           over = record { place = refl; ahead = refl; noted = each_tells (Looked ∷ []) (Exact ∷ []) (refl, tt) };
           noted = at 4 2 (LookedAssignmentAhead ∷ []);
@@ -139,7 +139,7 @@ returns-clause-stands c = record {
               touches = record { old = Assigned; there = refl; new = Assigned; is = refl; rest = refl };
             };
             number = (refl, refl);
-            stands = record { instr = WhenBelow 0 (pos 10) (way 4 2) 0; is = refl; at = refl };
+            stands = record { instr = JumpIfLessConst 0 (pos 10) (way 4 2) 0; is = refl; at = refl };
           }));
           again = record {
             place = refl;

@@ -15,7 +15,7 @@ use Rattle.quick_code.specs.declared.quick_instr.QuickInstr.TheVariants.{AddInt}
 use Rattle.quick_trees.specs.declared.noting.Noting.{Noting}
 use Rattle.quick_trees.specs.LoopExample.{loop_frame}
 use Rattle.quick_trees.specs.Pieces.{AreElements}
-use Rattle.quick_trees.specs.Sites.{whole}
+use Rattle.quick_trees.specs.UnitValues.{whole}
 use Rattle.quick_trees.proofs.examples.a_loop_in_quick_code.Goals as goal
 
 abbrev magnitude : ℤ → ℕ

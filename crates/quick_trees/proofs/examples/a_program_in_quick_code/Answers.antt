@@ -9,7 +9,7 @@ use Rattle.quick_trees.specs.declared.noting.Noting.TheVariants.{Looked, LookedA
 use Rattle.quick_trees.specs.Example.{int, way}
 use Rattle.quick_trees.specs.Points.{assignment_of, look_of}
 use Rattle.quick_trees.proofs.Tellings.{at, each_tells}
-use Rattle.quick_code.specs.declared.quick_instr.QuickInstr.TheVariants.{AddInt, WhenAtMost, WhenLess}
+use Rattle.quick_code.specs.declared.quick_instr.QuickInstr.TheVariants.{AddInt, JumpIfAtMost, JumpIfLess}
 use Rattle.quick_trees.proofs.examples.a_program_in_quick_code.Goals as goal
 
 pub returns-clause-stands : goal.returns-clause-stands
@@ -54,7 +54,7 @@ returns-clause-stands c = record {
                 record { value = int 10; of_literal = refl; of_type = refl; index = 0; among = refl; place = refl },
               );
             };
-            stands = record { instr = WhenAtMost 2 0 (way 10 0) 1; is = refl; at = refl };
+            stands = record { instr = JumpIfAtMost 2 0 (way 10 0) 1; is = refl; at = refl };
           });
           over = record {
             place = refl;
@@ -134,7 +134,7 @@ returns-clause-stands c = record {
                           touches = record { old = LookAhead; there = refl; new = Looked; is = refl; rest = refl };
                         };
                       };
-                      stands = record { instr = WhenAtMost 1 0 (way 8 2) 2; is = refl; at = refl };
+                      stands = record { instr = JumpIfAtMost 1 0 (way 8 2) 2; is = refl; at = refl };
                     });
                     end = at 7 1 (Assigned ∷ Looked ∷ []);
                     body = record {
@@ -307,7 +307,7 @@ returns-clause-stands c = record {
                 record { value = int 10; of_literal = refl; of_type = refl; index = 0; among = refl; place = refl },
               );
             };
-            stands = record { instr = WhenLess 0 2 (way 5 1) 0; is = refl; at = refl };
+            stands = record { instr = JumpIfLess 0 2 (way 5 1) 0; is = refl; at = refl };
           });
           again = record {
             place = refl;

@@ -10,7 +10,7 @@ use Rattle.quick_trees.specs.Example.{way}
 use Rattle.quick_trees.specs.Points.{assignment_of, look_of}
 use Rattle.quick_trees.proofs.Tellings.{at, each_tells}
 use Rattle.machine_code.specs.MarkedExecution.{marked_until}
-use Rattle.quick_code.specs.declared.quick_instr.QuickInstr.TheVariants.{AddIntBy, WhenAtMost, WhenNotEqualTo}
+use Rattle.quick_code.specs.declared.quick_instr.QuickInstr.TheVariants.{AddIntBy, JumpIfAtMost, JumpIfNotEqualConst}
 use Rattle.quick_trees.proofs.examples.a_repeat_in_quick_code.Goals as goal
 
 pub returns-clause-stands : goal.returns-clause-stands
@@ -149,7 +149,7 @@ returns-clause-stands c = record {
                               };
                             };
                           };
-                          stands = record { instr = WhenAtMost 0 1 (way 7 0) 1; is = refl; at = refl };
+                          stands = record { instr = JumpIfAtMost 0 1 (way 7 0) 1; is = refl; at = refl };
                         });
                         end = at 7 0 (Assigned ∷ Looked ∷ []);
                         body = record {
@@ -213,7 +213,7 @@ returns-clause-stands c = record {
               touches = record { old = Assigned; there = refl; new = Assigned; is = refl; rest = refl };
             };
             number = (refl, refl);
-            stands = record { instr = WhenNotEqualTo 0 (pos 5) (way 4 3) 0; is = refl; at = refl };
+            stands = record { instr = JumpIfNotEqualConst 0 (pos 5) (way 4 3) 0; is = refl; at = refl };
           }));
           again = record {
             place = refl;

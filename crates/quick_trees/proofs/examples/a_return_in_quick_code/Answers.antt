@@ -13,10 +13,10 @@ use Rattle.quick_trees.specs.Points.{assignment_of, look_of}
 use Rattle.quick_trees.proofs.Tellings.{at, each_tells}
 use Rattle.st_types.specs.declared.kind.Kind.{Kind}
 use Rattle.st_types.specs.Values.{Datum}
-use Rattle.quick_code.specs.declared.quick_instr.QuickInstr.TheVariants.{WhenFrom}
+use Rattle.quick_code.specs.declared.quick_instr.QuickInstr.TheVariants.{JumpIfAtLeastConst}
 use Rattle.quick_trees.specs.Calls.{AreInputs, kinds_in, quick_units}
 use Rattle.quick_trees.specs.ReturnExample.{found, return_frame}
-use Rattle.quick_trees.specs.Sites.{HasOwnWord, Seat, called}
+use Rattle.quick_trees.specs.UnitValues.{HasOwnWord, FunctionWord, called}
 use Rattle.quick_trees.proofs.Lists.{some_is}
 use Rattle.quick_trees.proofs.examples.a_return_in_quick_code.Goals as goal
 
@@ -42,14 +42,14 @@ no_input : (k : ℕ) → 0 < k → (i : ℕ) → slice_get found.inputs i ≡ So
 no_input k above zero at = (let is : zero ≡ k = some_is at in omega arith)
 no_input k above (suc i) at = absurd cc
 
-abbrev seats : List Seat
+abbrev seats : List FunctionWord
 seats =
     record { word = 0; is_own = false } ∷ record { word = 5; is_own = true } ∷ record { word = 6; is_own = true }
     ∷ []
 
 -- no value of the function's own has the word of the limit
-other_word : (w : ℕ) (s : Seat) → s.word ≡ w → Some s ≡ Some (record { word = 2; is_own = true }) → w ≡ 2
-other_word w s is e = sym is ∙ ap (λ (s : Seat). s.word) (some_is e)
+other_word : (w : ℕ) (s : FunctionWord) → s.word ≡ w → Some s ≡ Some (record { word = 2; is_own = true }) → w ≡ 2
+other_word w s is e = sym is ∙ ap (λ (s : FunctionWord). s.word) (some_is e)
 
 stays : (j : ℕ) → j < 3 → HasOwnWord return_frame.window (called (kinds_in found) seats) j 2 → ⊥
 stays zero lt own = (let is = other_word 0 (record { word = 0; is_own = false }) refl own in omega arith)
@@ -254,7 +254,7 @@ returns-clause-stands c = record {
                                       };
                                       number = (refl, refl);
                                       stands = record {
-                                        instr = WhenFrom 6 (pos 3) (way 10 0) 2;
+                                        instr = JumpIfAtLeastConst 6 (pos 3) (way 10 0) 2;
                                         is = refl;
                                         at = refl;
                                       };

@@ -13,7 +13,7 @@ use Rattle.quick_trees.specs.VariableStepExample.{variable_step_frame}
 use Rattle.quick_trees.proofs.Tellings.{at, each_tells}
 use Rattle.quick_trees.proofs.examples.a_variable_step_in_quick_code.Goals as goal
 
--- a constant is the word of no slot, and a temporary is none
+-- no constant and no temporary is the word of a slot
 no_constant : (j : ℕ) → slice_get variable_step_frame.window 3 ≡ Some j → ⊥
 no_constant j own = cc
 

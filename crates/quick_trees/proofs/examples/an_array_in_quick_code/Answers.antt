@@ -7,8 +7,8 @@ use Rattle.quick_trees.specs.Example.{way, variable}
 use Rattle.quick_trees.specs.Points.{look_of}
 use Rattle.quick_trees.proofs.Tellings.{at, each_tells}
 use Rattle.quick_trees.specs.ArrayExample.{array_frame}
-use Rattle.quick_trees.specs.Pieces.{AreReached, LeadsBehind}
-use Rattle.quick_trees.specs.Sites.{whole}
+use Rattle.quick_trees.specs.Pieces.{AreReached, IsOffset}
+use Rattle.quick_trees.specs.UnitValues.{whole}
 use Rattle.slot_trees.specs.SlotTrees.{Subscripts, no_subscripts, subscript_then}
 use Rattle.quick_trees.proofs.examples.an_array_in_quick_code.Goals as goal
 
@@ -18,7 +18,7 @@ cells x y z =
     subscript_then (variable x) (pos 1) 2 4
     (subscript_then (variable y) (pos 1) 2 2 (subscript_then (variable z) (pos 1) 2 1 no_subscripts))
 
-few : (x y z o : ℕ) → LeadsBehind (cells x y z) o → o < 8
+few : (x y z o : ℕ) → IsOffset (cells x y z) o → o < 8
 few x y z o (i, (r, (less, ((j, (q, (less_2, ((k, (u, (less_3, (none, is_3)))), is_2)))), is)))) = omega arith
 
 -- eight elements are alike

@@ -9,7 +9,7 @@ use Rattle.quick_trees.specs.Points.{look_of}
 use Rattle.quick_trees.proofs.Tellings.{at, each_tells}
 use Rattle.quick_trees.specs.ShiftExample.{shift_frame}
 use Rattle.quick_trees.specs.Pieces.{AreElements, HasNumbers}
-use Rattle.quick_trees.specs.Sites.{whole}
+use Rattle.quick_trees.specs.UnitValues.{whole}
 use Rattle.quick_trees.proofs.examples.shifted_subscripts_in_quick_code.Goals as goal
 
 -- three elements are alike

@@ -9,6 +9,6 @@ loop-program-preserved c =
     let e = c.sooner_of-first.ensures
     ∙ ap (λ o. sooner_of c.args.schedules.now c.loop-program.first o) c.offered-waiting.ensures in
     subst (λ (o : Option Activation).
-    IsFirst c.args.schedules.now c.args.standings.now c.args.resource (c.loop-program.program + 1) o) (sym e)
-    (IsFirst-step c.args.schedules.now c.args.standings.now c.args.resource c.loop-program.program c.loop-program.first
+    IsFirst c.args.schedules.now c.args.states.now c.args.resource (c.loop-program.program + 1) o) (sym e)
+    (IsFirst-step c.args.schedules.now c.args.states.now c.args.resource c.loop-program.program c.loop-program.first
     c.loop-program.invariant)

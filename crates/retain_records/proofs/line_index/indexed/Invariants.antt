@@ -2,7 +2,7 @@ use Rattle.std.proofs.Common.{◌≡◌, ◌++◌, length, map, vec_items}
 use Rattle.retain_records.specs.Lines.{lines_of}
 use Rattle.retain_records.proofs.line_index.indexed.Given as goal
 
--- what is there and what is still to come
+-- the elements so far and those still to come
 abbrev pub invariant-loop-line : goal.invariant-loop-line
 invariant-loop-line l = map vec_items l.lines.keys ++ lines_of l.rest ≡ lines_of l.layout
 

@@ -1,9 +1,9 @@
 use Rattle.std.proofs.Common.{rules, ◌≡◌, ◌∙◌, ◌∷◌, Bool, ap, arith, length, map, vec_items, vec_capacity, Option, Some, None}
 use Rattle.std.specs.Prelude.{List, ℕ}
 use Rattle.st_types.specs.Values.{Datum}
-use Rattle.retain_records.specs.Told.{lines_in}
+use Rattle.retain_records.specs.ContentLines.{lines_in}
 use Rattle.retain_records.specs.Lines.{line_at}
-use Rattle.retain_records.specs.Marked.{told_rest, given}
+use Rattle.retain_records.specs.Marked.{restored_rest, with_number_at}
 use Rattle.retain_records.proofs.MarkedLemmas.{turn_given, turn_past, turn_end, turn_done, given_long}
 use Rattle.retain_records.proofs.matching.take_lines.Goals as goal
 use Rattle.retain_records.proofs.matching.take_lines.Goals.{in-Some-place_of, in_default-place_of}
@@ -25,16 +25,16 @@ loop-first-preserved c =
     let behind = c.in-Some-line_at.line.behind.now in
     let at : Some (line, behind) ≡ line_at l.text.now = search rules in
     let all : d ∷ ds ≡ l.told.now = search rules in
-    let whole = ap (λ (ts : List Datum). told_rest lines l.marks.items (lines_in l.text.now ts) l.values.items) all
+    let whole = ap (λ (ts : List Datum). restored_rest lines l.marks.items (lines_in l.text.now ts) l.values.items) all
     ∙ l.invariant.0 in
     elim c.match-place_of.branch [
       | in-Some-place_of w ↦
           let place = w.in-Some-place_of.place in
           let values = ap (λ v. v.items) w.values-is ∙ w.give.ensures.values in
           let marks = ap (λ v. v.items) w.marks-is ∙ w.give.ensures.marks in (
-            ap (λ (vs : List Datum). told_rest lines c.match-place_of.marks.items (lines_in behind ds) vs) values
-                ∙ ap (λ (ms : List Bool). told_rest lines ms (lines_in behind ds)
-                (given place d.number l.values.items l.marks.items).values) marks
+            ap (λ (vs : List Datum). restored_rest lines c.match-place_of.marks.items (lines_in behind ds) vs) values
+                ∙ ap (λ (ms : List Bool). restored_rest lines ms (lines_in behind ds)
+                (with_number_at place d.number l.values.items l.marks.items).values) marks
                 ∙ turn_given lines l.marks.items l.values.items l.text.now line behind d ds place at
                 w.in-Some-place_of.ensures.place c.requires.different
                 ∙ whole,
@@ -44,8 +44,8 @@ loop-first-preserved c =
       | in_default-place_of w ↦
           let values = ap (λ v. v.items) w.values-is in
           let marks = ap (λ v. v.items) w.marks-is in (
-            ap (λ (vs : List Datum). told_rest lines c.match-place_of.marks.items (lines_in behind ds) vs) values
-                ∙ ap (λ (ms : List Bool). told_rest lines ms (lines_in behind ds) l.values.items) marks
+            ap (λ (vs : List Datum). restored_rest lines c.match-place_of.marks.items (lines_in behind ds) vs) values
+                ∙ ap (λ (ms : List Bool). restored_rest lines ms (lines_in behind ds) l.values.items) marks
                 ∙ turn_past lines l.marks.items l.values.items l.text.now line behind d ds at
                 w.in_default-place_of.ensures.place
                 ∙ whole,

@@ -1,5 +1,5 @@
 use Rattle.std.proofs.Common.{◌≡◌, length}
-use Rattle.retain_records.specs.Cuts.{parted, names_counted}
+use Rattle.retain_records.specs.Splits.{parted, names_counted}
 use Rattle.retain_records.proofs.NameLemmas.{counted_on}
 use Rattle.retain_records.proofs.names.names_counted.Given as goal
 

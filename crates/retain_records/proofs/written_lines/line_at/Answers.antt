@@ -1,5 +1,5 @@
 use Rattle.std.proofs.Common.{rules, ◌≡◌, Some}
-use Rattle.retain_records.specs.Told.{Words, words_at}
+use Rattle.retain_records.specs.ContentLines.{Words, words_at}
 use Rattle.retain_records.proofs.LineLemmas.{line_is, line_fits, words_cut}
 use Rattle.retain_records.proofs.written_lines.line_at.Goals as goal
 

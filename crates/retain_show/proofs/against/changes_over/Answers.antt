@@ -1,6 +1,6 @@
 use Rattle.std.proofs.Common.{rules, map}
 use Rattle.std.specs.Vec.{vec_items}
-use Rattle.retain_show.specs.Wanted.{record_lines, text_lines}
+use Rattle.retain_show.specs.InitialLines.{record_lines, text_lines}
 use Rattle.retain_show.proofs.StartLemmas.{changes_found}
 use Rattle.retain_show.proofs.against.changes_over.Goals as goal
 

@@ -4,9 +4,9 @@ use Rattle.std.specs.Io.KnownBytes.{Appends}
 use Rattle.st_print.proofs.AppendLemmas.{appends_both}
 use Rattle.retain_show.specs.Shown.{generation_shown, moment_shown}
 use Rattle.retain_show.specs.Against.{saved_shown}
-use Rattle.retain_show.specs.Wanted.{all_shown, record_lines, text_lines}
+use Rattle.retain_show.specs.InitialLines.{all_shown, record_lines, text_lines}
 use Rattle.retain_show.proofs.StartLemmas.{next_written}
-use Rattle.retain_show.proofs.TextLemmas.{behind_part}
+use Rattle.retain_show.proofs.TextLemmas.{after_part}
 use Rattle.retain_show.proofs.against.write_next.Goals as goal
 
 pub returns : goal.returns
@@ -25,7 +25,7 @@ returns g c =
     subst (λ t. OnOk c.write_saved.result (Appends start end t))
     (next_written types vs n last ws lines same c.args.text.now.layout.now (search rules) (search rules) (search rules)
     c.requires.layout)
-    (behind_part c.write_saved.result start at_changes end
+    (after_part c.write_saved.result start at_changes end
     (generation_shown n ++ moment_shown last.moment ++ all_shown types lines ws) (saved_shown same n)
     (appends_both start at_moment at_changes (generation_shown n ++ moment_shown last.moment) (all_shown types lines ws)
     (appends_both start (g.W.Write.contents c.write_generation.new.out) at_moment (generation_shown n)

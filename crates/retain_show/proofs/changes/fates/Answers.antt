@@ -1,5 +1,5 @@
 use Rattle.std.proofs.Common.{rules, ◌≡◌}
-use Rattle.retain_show.specs.Wanted.{line_view, match_view, matched, record_lines}
+use Rattle.retain_show.specs.InitialLines.{line_view, match_view, matched, record_lines}
 use Rattle.retain_show.proofs.AgainstLemmas.{fates_more}
 use Rattle.retain_show.proofs.changes.fates.Goals as goal
 

@@ -1,5 +1,5 @@
 use Rattle.std.proofs.Common.{◌≡◌, ◌++◌, drop, map}
-use Rattle.retain_show.specs.Wanted.{fate_in, line_view, matched, record_lines, text_lines}
+use Rattle.retain_show.specs.InitialLines.{fate_in, line_view, matched, record_lines, text_lines}
 use Rattle.retain_show.proofs.changes.fates.Given as goal
 
 abbrev pub invariant-loop-wanted : goal.invariant-loop-wanted

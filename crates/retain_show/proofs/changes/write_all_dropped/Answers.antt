@@ -2,7 +2,7 @@ use Rattle.std.proofs.Common.{rules, refl, ◌++◌, map}
 use Rattle.std.specs.List.{flat_map}
 use Rattle.st_print.proofs.AppendLemmas.{appends_both, text_more}
 use Rattle.retain_show.specs.Against.{dropped_shown}
-use Rattle.retain_show.specs.Wanted.{line_view}
+use Rattle.retain_show.specs.InitialLines.{line_view}
 use Rattle.retain_show.proofs.changes.write_all_dropped.Goals as goal
 
 pub loop-line-preserved : goal.loop-line-preserved

@@ -2,7 +2,7 @@ use Rattle.std.proofs.Common.{◌≡◌, ◌++◌, ℕ, List, drop, map}
 use Rattle.std.specs.List.{flat_map}
 use Rattle.std.specs.Io.KnownBytes.{Appends}
 use Rattle.retain_show.specs.Against.{dropped_shown}
-use Rattle.retain_show.specs.Wanted.{line_view}
+use Rattle.retain_show.specs.InitialLines.{line_view}
 use Rattle.retain_show.proofs.changes.write_all_dropped.Given as goal
 
 abbrev pub invariant-loop-line : goal.invariant-loop-line

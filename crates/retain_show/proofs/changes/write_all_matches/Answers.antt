@@ -2,7 +2,7 @@ use Rattle.std.proofs.Common.{rules, refl, subst, ◌≡◌, ◌++◌, map}
 use Rattle.std.specs.List.{flat_map}
 use Rattle.std.specs.Io.KnownBytes.{Appends}
 use Rattle.st_print.proofs.AppendLemmas.{appends_both, text_more}
-use Rattle.retain_show.specs.Wanted.{line_view, match_shown, match_view, matched, record_lines, types_of}
+use Rattle.retain_show.specs.InitialLines.{line_view, match_shown, match_view, matched, record_lines, types_of}
 use Rattle.retain_show.proofs.changes.write_all_matches.Goals as goal
 
 pub loop-wanted-preserved : goal.loop-wanted-preserved

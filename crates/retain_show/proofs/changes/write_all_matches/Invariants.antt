@@ -1,7 +1,7 @@
 use Rattle.std.proofs.Common.{◌≡◌, ◌++◌, ℕ, List, drop, map}
 use Rattle.std.specs.List.{flat_map}
 use Rattle.std.specs.Io.KnownBytes.{Appends}
-use Rattle.retain_show.specs.Wanted.{line_view, match_shown, matched, record_lines, text_lines, types_of}
+use Rattle.retain_show.specs.InitialLines.{line_view, match_shown, matched, record_lines, text_lines, types_of}
 use Rattle.retain_show.proofs.changes.write_all_matches.Given as goal
 
 abbrev pub invariant-loop-wanted : goal.invariant-loop-wanted

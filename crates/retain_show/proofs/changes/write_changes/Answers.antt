@@ -3,9 +3,9 @@ use Rattle.std.specs.List.{flat_map}
 use Rattle.std.specs.Io.KnownBytes.{Appends}
 use Rattle.st_print.proofs.AppendLemmas.{appends_both}
 use Rattle.retain_show.specs.Against.{changes_shown, dropped_shown}
-use Rattle.retain_show.specs.Wanted.{line_view, match_shown, matched, record_lines, text_lines, types_of}
+use Rattle.retain_show.specs.InitialLines.{line_view, match_shown, matched, record_lines, text_lines, types_of}
 use Rattle.retain_show.proofs.AgainstLemmas.{all_written}
-use Rattle.retain_show.proofs.TextLemmas.{behind_part}
+use Rattle.retain_show.proofs.TextLemmas.{after_part}
 use Rattle.retain_show.proofs.changes.write_changes.Goals as goal
 
 pub returns : goal.returns
@@ -21,7 +21,7 @@ returns g c =
     let others = flat_map dropped_shown dropped in
     subst (λ t. OnOk c.write.result (Appends start end t))
     (all_written types lines ws dropped changes (search rules) (search rules))
-    (behind_part c.write.result start (g.W.Write.contents c.write_all_dropped.new.out) end (shown ++ others)
+    (after_part c.write.result start (g.W.Write.contents c.write_all_dropped.new.out) end (shown ++ others)
     (changes_shown changes)
     (appends_both start (g.W.Write.contents c.write_all_matches.new.out) (g.W.Write.contents c.write_all_dropped.new.out)
     shown others (search rules) (search rules)) (search rules))

@@ -1,5 +1,5 @@
 use Rattle.std.proofs.Common.{◌≡◌, ◌++◌, length}
-use Rattle.retain_records.specs.Cuts.{parted}
+use Rattle.retain_records.specs.Splits.{parted}
 use Rattle.retain_show.proofs.lines.parts.Given as goal
 
 abbrev pub invariant-loop-name : goal.invariant-loop-name

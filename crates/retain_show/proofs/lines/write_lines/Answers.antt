@@ -1,10 +1,10 @@
 use Rattle.std.proofs.Common.{◌++◌, rules, sym, subst, arith, OnOk}
 use Rattle.std.specs.Io.KnownBytes.{Appends}
-use Rattle.retain_records.specs.Cuts.{parted}
+use Rattle.retain_records.specs.Splits.{parted}
 use Rattle.retain_records.proofs.CutLemmas.{parted_at, parted_at_none}
 use Rattle.st_print.proofs.AppendLemmas.{appends_both}
 use Rattle.retain_show.specs.Shown.{line_shown}
-use Rattle.retain_show.proofs.TextLemmas.{all_lines, behind_part, line_last, line_more}
+use Rattle.retain_show.proofs.TextLemmas.{all_lines, after_part, line_last, line_more}
 use Rattle.retain_show.proofs.lines.write_lines.Goals as goal
 
 pub loop-value-preserved : goal.loop-value-preserved
@@ -25,7 +25,7 @@ returns-in_default g c =
     (parted_at_none 10 l.rest.now (sym c.in_default.ensures)) (search rules) (search rules) so_far in
     subst (λ t. OnOk c.write_line.result
     (Appends (g.W.Write.contents c.args.out.now) (g.W.Write.contents c.write_line.new.out) t)) all
-    (behind_part c.write_line.result (g.W.Write.contents c.args.out.now) (g.W.Write.contents l.out)
+    (after_part c.write_line.result (g.W.Write.contents c.args.out.now) (g.W.Write.contents l.out)
     (g.W.Write.contents c.write_line.new.out) text (line_shown l.rest.now c.value-item.result) wrote (search rules))
 
 pub returns : goal.returns

@@ -1,6 +1,6 @@
 use Rattle.std.proofs.Common.{◌≡◌, ◌++◌, ℕ, List, drop}
 use Rattle.std.specs.Io.KnownBytes.{Appends}
-use Rattle.retain_records.specs.Cuts.{parted}
+use Rattle.retain_records.specs.Splits.{parted}
 use Rattle.retain_show.specs.Shown.{lines_shown}
 use Rattle.retain_show.proofs.lines.write_lines.Given as goal
 

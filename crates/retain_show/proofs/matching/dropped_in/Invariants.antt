@@ -1,5 +1,5 @@
 use Rattle.std.proofs.Common.{◌≡◌, ◌++◌, drop, map, filter}
-use Rattle.retain_show.specs.Wanted.{is_dropped, line_view}
+use Rattle.retain_show.specs.InitialLines.{is_dropped, line_view}
 use Rattle.retain_show.proofs.matching.dropped_in.Given as goal
 
 abbrev pub invariant-loop-line : goal.invariant-loop-line

@@ -1,6 +1,6 @@
 use Rattle.std.proofs.Common.{◌≡◌, drop, map}
 use Rattle.retain_show.specs.Against.{line_with_path}
-use Rattle.retain_show.specs.Wanted.{line_view}
+use Rattle.retain_show.specs.InitialLines.{line_view}
 use Rattle.retain_show.proofs.matching.line_with_path.Given as goal
 
 abbrev pub invariant-loop-line : goal.invariant-loop-line

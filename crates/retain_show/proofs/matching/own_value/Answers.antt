@@ -1,5 +1,5 @@
 use Rattle.std.proofs.Common.{rules}
-use Rattle.retain_show.specs.Wanted.{line_view}
+use Rattle.retain_show.specs.InitialLines.{line_view}
 use Rattle.retain_show.proofs.AgainstLemmas.{own_here, own_not}
 use Rattle.retain_show.proofs.matching.own_value.Goals as goal
 

@@ -1,5 +1,5 @@
 use Rattle.std.proofs.Common.{◌≡◌, drop, map}
-use Rattle.retain_show.specs.Wanted.{line_view, own_line}
+use Rattle.retain_show.specs.InitialLines.{line_view, own_line}
 use Rattle.retain_show.proofs.matching.own_value.Given as goal
 
 abbrev pub invariant-loop-line : goal.invariant-loop-line

@@ -16,7 +16,10 @@ returns-then-len-clause-any_moment g c = λ tells only.
     (λ file same. ap recovered same)
 
 pub returns-then-len-clause-refused : goal.returns-then-len-clause-refused
-returns-then-len-clause-refused g c = λ tells. long_too_long _ (omega (arith, c.in_ok-len.ensures.len tells))
+returns-then-len-clause-refused g c = λ tells. record {
+  applies = long_too_long _ (omega (arith, c.in_ok-len.ensures.len tells));
+  unwritten = c.synced_len.ensures.seen tells;
+}
 
 pub returns-in_err-format-clause-any_moment : goal.returns-in_err-format-clause-any_moment
 returns-in_err-format-clause-any_moment g c = λ tells only.

@@ -13,9 +13,12 @@ use Rattle.retain_store.proofs.loading.recover.Goals as goal
 
 pub returns-in-Ok-Formatted-clause-found : goal.returns-in-Ok-Formatted-clause-found
 returns-in-Ok-Formatted-clause-found g c = λ tells.
-    let short = (subst (λ (l : Loaded). IsLoaded l c.load.new.file (g.D.Disk.seen c.args.disk.now)
-    (g.D.Disk.seen c.load.new.disk)) c.in-Ok-Formatted.field-0-is (c.in-Ok-Formatted.ensures.found tells)).0 in
-    rw c.closed.ensures (sym (short_nothing _ short))
+    let loaded = subst (λ (l : Loaded). IsLoaded l c.load.new.file (g.D.Disk.seen c.args.disk.now)
+    (g.D.Disk.seen c.load.new.disk)) c.in-Ok-Formatted.field-0-is (c.in-Ok-Formatted.ensures.found tells) in
+    rw c.closed.ensures (record {
+      found = sym (short_nothing _ loaded.0);
+      kept = keeps_formatted c.args.last.now _ _ loaded.0 loaded.1;
+    })
 
 pub returns-in-Ok-Formatted-clause-at_rest : goal.returns-in-Ok-Formatted-clause-at_rest
 returns-in-Ok-Formatted-clause-at_rest g c = λ tells.
@@ -27,18 +30,15 @@ returns-in-Ok-Formatted-clause-at_rest g c = λ tells.
           surveyed_closed _ empty.size (shut_area 0 _ empty.first) (shut_area AREA_BYTES _ empty.second);
     })
 
-pub returns-in-Ok-Formatted-clause-kept : goal.returns-in-Ok-Formatted-clause-kept
-returns-in-Ok-Formatted-clause-kept g c = λ tells.
-    let loaded = subst (λ (l : Loaded). IsLoaded l c.load.new.file (g.D.Disk.seen c.args.disk.now)
-    (g.D.Disk.seen c.load.new.disk)) c.in-Ok-Formatted.field-0-is (c.in-Ok-Formatted.ensures.found tells) in
-    rw c.closed.ensures (keeps_formatted c.args.last.now _ _ loaded.0 loaded.1)
-
 pub returns-in-Some-clause-found : goal.returns-in-Some-clause-found
 returns-in-Some-clause-found g c = λ tells.
     let whole = subst
     (λ (l : Loaded). IsLoaded l c.load.new.file (g.D.Disk.seen c.args.disk.now) (g.D.Disk.seen c.load.new.disk))
     c.in-Ok-Whole.field-0-is (c.in-Ok-Whole.ensures.found tells) in
-    sym c.in-Some.ensures.surveyed.last_is ∙ ap recovered whole.1
+    record {
+      found = sym c.in-Some.ensures.surveyed.last_is ∙ ap recovered whole.1;
+      kept = keeps_record _ _ _ whole.0 whole.2;
+    }
 
 pub returns-in-Some-clause-at_rest : goal.returns-in-Some-clause-at_rest
 returns-in-Some-clause-at_rest g c = λ tells.
@@ -57,21 +57,10 @@ returns-in-None-clause-refused g c = λ tells.
     let whole = subst
     (λ (l : Loaded). IsLoaded l c.load.new.file (g.D.Disk.seen c.args.disk.now) (g.D.Disk.seen c.load.new.disk))
     c.in-Ok-Whole.field-0-is (c.in-Ok-Whole.ensures.found tells) in
-    ap recovered (sym whole.1) ∙ c.in-None.ensures.damaged
-
-pub returns-in-None-clause-unwritten : goal.returns-in-None-clause-unwritten
-returns-in-None-clause-unwritten g c = λ tells.
-    let whole = subst
-    (λ (l : Loaded). IsLoaded l c.load.new.file (g.D.Disk.seen c.args.disk.now) (g.D.Disk.seen c.load.new.disk))
-    c.in-Ok-Whole.field-0-is (c.in-Ok-Whole.ensures.found tells) in
-    whole.2
-
-pub returns-in-Some-clause-kept : goal.returns-in-Some-clause-kept
-returns-in-Some-clause-kept g c = λ tells.
-    let whole = subst
-    (λ (l : Loaded). IsLoaded l c.load.new.file (g.D.Disk.seen c.args.disk.now) (g.D.Disk.seen c.load.new.disk))
-    c.in-Ok-Whole.field-0-is (c.in-Ok-Whole.ensures.found tells) in
-    keeps_record _ _ _ whole.0 whole.2
+    record {
+      applies = ap recovered (sym whole.1) ∙ c.in-None.ensures.damaged;
+      unwritten = whole.2;
+    }
 
 pub returns-in-None-clause-serves : goal.returns-in-None-clause-serves
 returns-in-None-clause-serves g c = λ tells serving.

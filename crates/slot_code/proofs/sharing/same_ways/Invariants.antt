@@ -1,7 +1,7 @@
 use Rattle.std.proofs.Common.{◌≡◌, drop, length}
 use Rattle.slot_code.proofs.sharing.same_ways.Given as goal
 
--- the lists are the same where what is left of them is
+-- the lists are the same if the rest of them is
 abbrev pub invariant-loop-i : goal.invariant-loop-i
 invariant-loop-i l =
     (length l.these ≡ length l.those) × (drop l.i l.these ≡ drop l.i l.those → l.these ≡ l.those)

@@ -1,4 +1,4 @@
-use Rattle.std.proofs.Common.{subst, sym, Some}
+use Rattle.std.proofs.Common.{subst, sym, Some, arith}
 use Rattle.st_types.specs.declared.fault.Fault.{Fault}
 use Rattle.st_meaning.specs.Failures.{in_runs}
 use Rattle.machine_code.specs.declared.instr.Instr.TheVariants.{Step}
@@ -11,8 +11,8 @@ use Rattle.slot_machine.proofs.blocks.step_block.Goals as goal
 pub returns-in-Ok : goal.returns-in-Ok
 returns-in-Ok c =
     block_ok c.args.block c.args.now c.args.first c.args.values.now c.args.marks.now c.step.new.slots
-    c.mark_all_seen.new.marks c.mark_all_assigned.new.marks c.member_count-count.result c.there_from.result
-    c.member_count-count.ensures c.there_from.ensures c.mark_all_seen.ensures c.mark_all_assigned.ensures
+    c.mark_all_seen.new.marks c.mark_all_assigned.new.marks _ c.there_from.result
+    (omega (arith, c.member_count-count.ensures.count, c.member_count-count.ensures.few)) c.there_from.ensures c.mark_all_seen.ensures c.mark_all_assigned.ensures
     c.in-Ok.ensures
 
 pub returns-in-Err : goal.returns-in-Err
@@ -22,5 +22,5 @@ returns-in-Err c size p b st next =
     (Step c.args.block c.args.first))
     next p st (tracked c.args.values.now c.args.marks.now) b) in
     subst P (sym c.in-Err.ensures.1) (block_err c.args.block c.args.now c.args.first c.args.values.now
-    c.args.marks.now c.mark_all_seen.new.marks c.member_count-count.result c.there_from.result
-    c.member_count-count.ensures c.there_from.ensures c.mark_all_seen.ensures c.in-Err.ensures.0 size p b st next)
+    c.args.marks.now c.mark_all_seen.new.marks _ c.there_from.result
+    (omega (arith, c.member_count-count.ensures.count, c.member_count-count.ensures.few)) c.there_from.ensures c.mark_all_seen.ensures c.in-Err.ensures.0 size p b st next)

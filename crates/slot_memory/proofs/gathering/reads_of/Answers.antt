@@ -1,6 +1,6 @@
 use Rattle.std.proofs.Common.{arith, rules, ◌+◌, ◌++◌, map, drop, ap, ◌∙◌, slice_get}
 use Rattle.machine_code.specs.Tracking.{are_read}
-use Rattle.slot_memory.specs.Cells.{cut, picked}
+use Rattle.slot_memory.specs.Cells.{cell_view, picked}
 use Rattle.slot_memory.proofs.PickedLemmas.{gathered_more, gathered_same, gathered_all, value_at, cut_more, read_so}
 use Rattle.slot_memory.proofs.gathering.reads_of.Goals.{then-is_read+in_ok-push, else-is_read}
 use Rattle.slot_memory.proofs.gathering.reads_of.Goals as goal
@@ -19,15 +19,15 @@ loop-slot-preserved c =
           let v = w.index-values-slot.result in
           let more = cut_more cells w.push.new.self.items k v w.in_ok-push.ensures.ok in
           rw w.cells-is (ap (λ xs. xs ++ picked (are_read (drop (k + 1) marks)) (k + 1) (drop (k + 1) vs)) more
-          ∙ gathered_more (λ x. x.is_read) marks vs k (map cut cells) all so_far v
+          ∙ gathered_more (λ x. x.is_read) marks vs k (map cell_view cells) all so_far v
           (so ∙ search rules) (value_at vs k v (omega arith) w.index-values-slot.is))
       | else-is_read w ↦ rw w.cells-is
-          (gathered_same (λ x. x.is_read) marks vs k (map cut cells) all so_far
+          (gathered_same (λ x. x.is_read) marks vs k (map cell_view cells) all so_far
           (so ∙ search rules))
     ]
 
 pub returns : goal.returns
 returns c =
     gathered_all (λ x. x.is_read) c.args.marks.now c.args.values.now c.loop-slot.slot
-    (map cut c.loop-slot.cells.items)
+    (map cell_view c.loop-slot.cells.items)
     (picked (are_read c.args.marks.now) 0 c.args.values.now) c.loop-slot.invariant (omega arith)

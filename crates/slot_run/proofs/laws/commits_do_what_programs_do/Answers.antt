@@ -1,7 +1,7 @@
 use Rattle.std.proofs.Common.{not, refl, sym, ap, ◌∙◌}
 use Rattle.std.specs.List.{filter}
 use Rattle.st_meaning.specs.Stores.{shape_of}
-use Rattle.st_meaning.specs.Slots.{inputs_in, variables_in}
+use Rattle.st_meaning.specs.Slots.{inputs_in, variables_with}
 use Rattle.slot_run.specs.Inputs.{is_input_slot}
 use Rattle.slot_run.specs.Commits.{committed}
 use Rattle.slot_run.proofs.CommitLemmas.{inputs_stay, length_written, types_stay}
@@ -14,7 +14,7 @@ returns c = λ code moment budget reads writes outcome layout program vs is mean
     let run = is.run layout program vs means typed agree in
     let us = committed layout vs writes in
     let variables = left_out layout writes vs vs refl refl ∙ sym run.1 in
-    let stay = c.variables_stay.ensures.types program budget (variables_in layout vs) (inputs_in layout vs) moment in
+    let stay = c.variables_stay.ensures.types program budget (variables_with layout vs) (inputs_in layout vs) moment in
     record {
       ends = run.0;
       variables = variables;

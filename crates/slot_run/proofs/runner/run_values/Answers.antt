@@ -1,7 +1,7 @@
 use Rattle.std.proofs.Common.{◌≡◌, rules, map, length, take, drop, ◌∙◌}
 use Rattle.machine_code.specs.Tracking.{tracked, are_read}
 use Rattle.slot_code.specs.Codes.{code_view}
-use Rattle.slot_memory.specs.Cells.{cut, picked, writes_left}
+use Rattle.slot_memory.specs.Cells.{cell_view, picked, writes_left}
 use Rattle.slot_run.specs.Runs.{memory_over}
 use Rattle.slot_memory.proofs.PickedLemmas.{take_front}
 use Rattle.slot_run.proofs.TrueLemmas.{begins, begins_long, is_long, outcome_is, reads_is, writes_is}
@@ -16,8 +16,8 @@ returns c =
     let begun = tracked c.deref_mut.result.now c.deref_mut-2.result.now in
     let n = tracked c.end_of.new.memory c.end_of.new.marks in
     let o = c.in_ok-outcome.outcome in
-    let reads = map cut c.in_ok-reads.reads.items in
-    let writes = map cut c.in_ok-writes.writes.items in
+    let reads = map cell_view c.in_ok-reads.reads.items in
+    let writes = map cell_view c.in_ok-writes.writes.items in
     let memory_is : c.deref_mut.result.now ≡ memory_over us code.extra = search rules in
     let starts = begins us c.deref_mut.result.now code.extra c.deref_mut-2.result.now memory_is (search rules) in
     let ends = c.in_ok-outcome.ensures in

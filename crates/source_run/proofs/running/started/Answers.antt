@@ -5,4 +5,4 @@ use Rattle.source_run.proofs.running.started.Goals as goal
 pub returns-clause-begins : goal.returns-clause-begins
 returns-clause-begins g c =
     begins _ _ c.args.asked c.in_ok-core.core.store.last c.in_ok-core.core.state
-    (λ is. c.in_ok-core.ensures.resumed (c.mode.ensures ∙ is)) (λ is. c.in_ok-core.ensures.cold (c.mode.ensures ∙ is))
+    (λ is. c.in_ok-core.ensures.core.resumed (c.mode.ensures ∙ is)) (λ is. c.in_ok-core.ensures.core.cold (c.mode.ensures ∙ is))

@@ -3,8 +3,9 @@ use Rattle.st_types.specs.Statements.{arms_of, case_arms_of}
 use Rattle.st_types.specs.StatementViews.{stmt_view, stmts_view, arm_view, case_arm_view}
 use Rattle.st_check.specs.Assignments.{assigned_view, assigned_below, assigned_in, assigned_in_arms}
 use Rattle.st_check.specs.Assignments.{assigned_in_case_arms}
-use Rattle.st_check.proofs.FlatLemmas.{chosen, selected, joined}
+use Rattle.st_check.proofs.FlatLemmas.{chosen, selected}
 use Rattle.st_check.proofs.assignments.+push_all.Goals as goal
+use Rattle.st_decl.proofs.FlatLemmas.{joined}
 
 pub push_below-returns-in_ok-push_arms-in-If : goal.push_below-returns-in_ok-push_arms-in-If
 push_below-returns-in_ok-push_arms-in-If t c =

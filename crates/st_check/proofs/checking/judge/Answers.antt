@@ -6,8 +6,8 @@ use Rattle.st_check.proofs.checking.judge.Goals as goal
 pub returns-in-Ok : goal.returns-in-Ok
 returns-in-Ok c =
     let s = source_view c.args.source.now in
-    judges_behind (wrong_declarations s) (wrong_types s) (wrong_starts s) (wrong_bodies s) c.judge_beyond.result
-    c.in-Ok.ensures c.judge_beyond.ensures
+    judges_behind (wrong_declarations s) (wrong_types s) (wrong_starts s) (wrong_bodies s) c.judge_beside_declarations.result
+    c.in-Ok.ensures c.judge_beside_declarations.ensures
 
 pub returns-in-Err : goal.returns-in-Err
 returns-in-Err c =

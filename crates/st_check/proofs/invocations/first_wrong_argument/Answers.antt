@@ -4,9 +4,9 @@ use Rattle.st_types.specs.StatementViews.{argument_view}
 use Rattle.st_meaning.specs.Scopes.{contains_name}
 use Rattle.st_rules.specs.CallRules.{argument_name, wrong_arguments}
 use Rattle.symbols.specs.Found.{found}
-use Rattle.st_typing.proofs.Finding.{left_viewed}
 use Rattle.st_check.proofs.InvocationLemmas.{known_more, argument_passed}
 use Rattle.st_check.proofs.invocations.first_wrong_argument.Goals as goal
+use Rattle.st_types.proofs.ListLemmas.{map_drop_next}
 
 pub loop-argument-preserved : goal.loop-argument-preserved
 loop-argument-preserved c =
@@ -28,7 +28,7 @@ loop-argument-preserved c =
           ∙ ap (λ n. bytes_eq q n || contains_name names q) is_name,
       λ env instance serves is. argument_passed env instance names a rest _
           (ap (wrong_arguments env instance names)
-          (sym (left_viewed argument_view arguments at c.argument-item.result c.loop-argument-test.true
+          (sym (map_drop_next argument_view arguments at c.argument-item.result c.loop-argument-test.true
           c.argument-item.is))
           ∙ c.loop-argument.invariant.2 env instance serves is)
           (sym (c.is_argument.ensures env instance serves is) ∙ own) fresh,

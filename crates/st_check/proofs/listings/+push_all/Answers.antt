@@ -2,8 +2,9 @@ use Rattle.std.proofs.Common.{rules, map}
 use Rattle.st_types.specs.Statements.{arms_of, case_arms_of}
 use Rattle.st_types.specs.StatementViews.{stmt_view, stmts_view, arm_view, case_arm_view}
 use Rattle.st_check.specs.Listings.{listed_view, listed_below, listed_in, listed_in_arms, listed_in_case_arms}
-use Rattle.st_check.proofs.FlatLemmas.{chosen, selected, joined}
+use Rattle.st_check.proofs.FlatLemmas.{chosen, selected}
 use Rattle.st_check.proofs.listings.+push_all.Goals as goal
+use Rattle.st_decl.proofs.FlatLemmas.{joined}
 
 pub push_below-returns-in_ok-push_arms-in-If : goal.push_below-returns-in_ok-push_arms-in-If
 push_below-returns-in_ok-push_arms-in-If t c =

@@ -1,7 +1,7 @@
 use Rattle.std.proofs.Common.{sym, ap, subst, ◌∙◌, map, replicate}
 use Rattle.std.proofs.lemmas.List.{length-map}
 use Rattle.st_decl.specs.declared.depths.Mark.TheVariants.{Unseen}
-use Rattle.st_decl.specs.Walks.{Ends}
+use Rattle.st_decl.specs.Walks.{WalkEnds}
 use Rattle.st_decl.proofs.WalkAll.{walked_none, walked_more}
 use Rattle.st_decl.proofs.depths.walk_all.Goals as goal
 
@@ -13,5 +13,5 @@ pub loop-start-preserved : goal.loop-start-preserved
 loop-start-preserved c =
     let graph = map (λ n. n.items) c.args.graph.now in
     walked_more graph c.loop-start.marks c.walk_once.new.marks c.loop-start.start c.loop-start.invariant
-    (subst (Ends graph c.loop-start.marks c.walk_once.new.marks c.loop-start.start) c.in_default.is
+    (subst (WalkEnds graph c.loop-start.marks c.walk_once.new.marks c.loop-start.start) c.in_default.is
     c.in_ok-node.ensures)

@@ -4,7 +4,7 @@ use Rattle.st_types.specs.Statements.{stmts_of}
 use Rattle.st_types.specs.StatementViews.{stmt_view}
 use Rattle.st_types.specs.UnitViews.{unit_view}
 use Rattle.layout.specs.Libraries.{body_of_unit}
-use Rattle.layout.specs.Sizes.{cut}
+use Rattle.layout.specs.Sizes.{capped_size}
 use Rattle.slot_trees.specs.LinkedStatements.{linked_stmts}
 use Rattle.slot_trees.specs.LinkedTexts.{table_of}
 use Rattle.slot_trees.specs.TextLinks.{linked_block, symbols_of_block}
@@ -22,7 +22,7 @@ use Rattle.st_link.proofs.blocks.link_block.Goals as goal
 pub returns-then-made-gt-MAX_PATHS-clause-linked : goal.returns-then-made-gt-MAX_PATHS-clause-linked
 returns-then-made-gt-MAX_PATHS-clause-linked c text globals layout serves are whole =
     let u = unit_view c.args.unit.now in
-    let slots : c.in_ok-made.made.slots ≡ cut (slots_taken text (variables_of_blocks u.blocks)) =
+    let slots : c.in_ok-made.made.slots ≡ capped_size (slots_taken text (variables_of_blocks u.blocks)) =
     c.in_ok-made.ensures.slots text globals serves whole in
     kept_out (block_fits text u) (linked_block text layout u)
     (block_large text u (cut_large c.in_ok-made.made.slots (slots_taken text (variables_of_blocks u.blocks)) slots
@@ -33,7 +33,7 @@ returns-in_err-link_statements-clause-none c =
     let u = unit_view c.args.unit.now in
     none_then _ c.in_err-link_statements.field-0.0 _ _ c.in_err-link_statements.ensures.none
     (λ h text globals layout serves are whole.
-    let slots : c.in_ok-made.made.slots ≡ cut (slots_taken text (variables_of_blocks u.blocks)) =
+    let slots : c.in_ok-made.made.slots ≡ capped_size (slots_taken text (variables_of_blocks u.blocks)) =
     c.in_ok-made.ensures.slots text globals serves whole in
     let small : slots_taken text (variables_of_blocks u.blocks) ≤ MAX_PATHS =
     cut_small c.in_ok-made.made.slots (slots_taken text (variables_of_blocks u.blocks)) slots
@@ -49,7 +49,7 @@ returns-in_err-link_statements-clause-none c =
 pub returns-clause-linked : goal.returns-clause-linked
 returns-clause-linked c text globals layout serves are whole =
     let u = unit_view c.args.unit.now in
-    let slots : c.in_ok-made.made.slots ≡ cut (slots_taken text (variables_of_blocks u.blocks)) =
+    let slots : c.in_ok-made.made.slots ≡ capped_size (slots_taken text (variables_of_blocks u.blocks)) =
     c.in_ok-made.ensures.slots text globals serves whole in
     let small : slots_taken text (variables_of_blocks u.blocks) ≤ MAX_PATHS =
     cut_small c.in_ok-made.made.slots (slots_taken text (variables_of_blocks u.blocks)) slots

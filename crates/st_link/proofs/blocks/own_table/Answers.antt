@@ -5,7 +5,7 @@ use Rattle.st_types.specs.DeclarationViews.{variable_block_view}
 use Rattle.st_types.specs.UnitViews.{unit_view}
 use Rattle.st_meaning.specs.Bodies.{externals_in}
 use Rattle.st_meaning.specs.NameTypes.{Declared}
-use Rattle.layout.specs.Sizes.{cut}
+use Rattle.layout.specs.Sizes.{capped_size}
 use Rattle.slot_trees.specs.Tables.{Table}
 use Rattle.slot_trees.specs.ExpressionViews.{anchor_view}
 use Rattle.st_link.specs.BodyTables.{ServesBody}
@@ -24,9 +24,9 @@ returns-clause-slots c =
     ∙ ap (λ bs. variables_of_blocks (map variable_block_view bs)) c.deref.ensures.value in
     IfOk-weaker c.unit_table.result _ (λ made. (text : Declared) (globals : List LinkVariable)
     → ServesLinks c.args.tables.now text globals → are_whole text (variables_of_blocks u.blocks) ≡ true
-    → made.slots ≡ cut (slots_taken text (variables_of_blocks u.blocks)))
+    → made.slots ≡ capped_size (slots_taken text (variables_of_blocks u.blocks)))
     (λ made h text globals serves whole. h text globals serves (ap (are_whole text) seen ∙ whole)
-    ∙ ap (λ vs. cut (slots_taken text vs)) seen)
+    ∙ ap (λ vs. capped_size (slots_taken text vs)) seen)
     c.unit_table.ensures.slots
 
 pub returns-clause-serves : goal.returns-clause-serves

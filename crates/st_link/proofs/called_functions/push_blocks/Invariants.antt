@@ -6,7 +6,7 @@ use Rattle.st_link.specs.LinkVariables.{LinkVariable}
 use Rattle.st_link.specs.Reaching.{HasTypes}
 use Rattle.st_link.proofs.called_functions.push_blocks.Given as goal
 
--- what is there and what is still to come
+-- the elements so far and those still to come
 abbrev pub invariant-loop-statement : goal.invariant-loop-statement
 invariant-loop-statement l = (vs : List LinkVariable) → HasTypes l.types vs → map (λ x. x.now) l.names.items
     ++ flat_map (block_called vs) (map (λ s. stmt_view s.now) (drop l.statement-index l.statements))

@@ -1,6 +1,6 @@
 use Rattle.std.proofs.Common.{ap, ◌∙◌, map}
 use Rattle.std.proofs.lemmas.List.{take_all}
-use Rattle.layout.specs.Sizes.{cut}
+use Rattle.layout.specs.Sizes.{capped_size}
 use Rattle.st_link.specs.FirstSlots.{slots_taken}
 use Rattle.st_link.specs.LinkVariables.{variable_view}
 use Rattle.st_link.proofs.SymbolLemmas.{more_taken, slots_more, whole_one}
@@ -26,5 +26,5 @@ loop-variable-preserved c =
 pub returns-clause-slots : goal.returns-clause-slots
 returns-clause-slots c text s whole =
     c.loop-variable.invariant.slots text s whole
-    ∙ ap (λ ys. cut (slots_taken text (map variable_view ys)))
+    ∙ ap (λ ys. capped_size (slots_taken text (map variable_view ys)))
     (take_all c.loop-variable.variable-index c.args.variables.now c.loop-variable-test.false)

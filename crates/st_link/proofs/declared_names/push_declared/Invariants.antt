@@ -3,7 +3,7 @@ use Rattle.st_types.specs.DeclarationViews.{declaration_view}
 use Rattle.st_meaning.specs.Bodies.{declared_names}
 use Rattle.st_link.proofs.declared_names.push_declared.Given as goal
 
--- what is there and what is still to come
+-- the elements so far and those still to come
 abbrev pub invariant-loop-declaration : goal.invariant-loop-declaration
 invariant-loop-declaration l = map (λ x. x.now.name) l.names.items
     ++ declared_names (map declaration_view (drop l.declaration-index l.declarations))

@@ -13,7 +13,6 @@ use Rattle.st_meaning.specs.StandardFunctions.{standard_of}
 use Rattle.symbols.specs.Agreeing.{Agree}
 use Rattle.symbols.specs.PlaceTypes.{place_type_view}
 use Rattle.layout.specs.Types.{shape_of_type}
-use Rattle.layout.proofs.PushLemmas.{left_begins}
 use Rattle.slot_trees.specs.Chains.{exprs_of}
 use Rattle.slot_trees.specs.ExpressionViews.{anchor_view, place_view, slot_expr_view}
 use Rattle.slot_trees.specs.SlotTrees.{SlotExpr, load, binary}
@@ -30,6 +29,7 @@ use Rattle.st_link.proofs.Sequences.{Turned, turned_all, turned_first, turned_mo
 use Rattle.st_link.proofs.SequenceViews.{exprs_linked}
 use Rattle.st_link.proofs.VariableLemmas.{symbol_expanded, symbol_near, symbol_room, variable_linked}
 use Rattle.st_link.proofs.expressions.+link.Goals as goal
+use Rattle.st_types.proofs.ListLemmas.{drop_next}
 
 pub link-returns-in_err-link_variable-in-Variable-clause-none :
     goal.link-returns-in_err-link_variable-in-Variable-clause-none
@@ -213,7 +213,7 @@ link_selectors-loop-selector-preserved n c text t serves expanded room =
     let rest = selectors_of (map selector_view (drop (c.loop-selector.selector-index + 1) xs)) in
     c.in_ok-reached.ensures.linked text t whole rest serves
     (subst (λ ys. LeadsOn text t whole c.loop-selector.reached (selectors_of (map selector_view ys)))
-    (left_begins xs c.loop-selector.selector-index c.selector-item.result c.loop-selector-test.true
+    (drop_next xs c.loop-selector.selector-index c.selector-item.result c.loop-selector-test.true
     c.selector-item.is)
     (c.loop-selector.invariant text t serves expanded room))
 
@@ -227,7 +227,7 @@ link_selectors-returns-in_err-reached-clause-none n c =
     let rest = selectors_of (map selector_view (drop (c.loop-selector.selector-index + 1) xs)) in
     h text t whole rest serves
     (subst (λ ys. LeadsOn text t whole c.loop-selector.reached (selectors_of (map selector_view ys)))
-    (left_begins xs c.loop-selector.selector-index c.selector-item.result c.loop-selector-test.true
+    (drop_next xs c.loop-selector.selector-index c.selector-item.result c.loop-selector-test.true
     c.selector-item.is)
     (c.loop-selector.invariant text t serves expanded room))) (search rules)
 

@@ -15,8 +15,9 @@ use Rattle.st_link.proofs.ErrorLemmas.{none_then}
 use Rattle.st_link.specs.CalledFunctions.{is_called}
 use Rattle.st_link.specs.KeptTexts.{function_fits, is_linked}
 use Rattle.st_link.proofs.FunctionLinks.{function_small, whole_expandable}
-use Rattle.st_link.proofs.UnitLinks.{kept_nowhere, kept_out, kept_there, linked_there, no_room, not_called}
+use Rattle.st_link.proofs.UnitLinks.{kept_nowhere, kept_out, kept_there}
 use Rattle.st_link.proofs.functions.link_function.Goals as goal
+use Rattle.std.proofs.lemmas.Bool.{and_from, and_left, and_right}
 
 pub returns-in_err-link_with-in-Ok-clause-none : goal.returns-in_err-link_with-in-Ok-clause-none
 returns-in_err-link_with-in-Ok-clause-none c =
@@ -34,7 +35,7 @@ returns-in_err-link_with-in-Ok-clause-none c =
     (result_site r u.name.name ∷ sites_of_blocks (map variable_block_view bs)))) c.deref.ensures.value)
     ∙ c.in-Ok.ensures.room text serves.types sound in
     kept_nowhere (is_linked called text r u) (linked_function text r u)
-    (linked_there (called u.name.name) (function_fits text r u) there (ap not few))
+    (and_from (called u.name.name) (function_fits text r u) there (ap not few))
     (h text globals serves whole (function_small text r u few))) (search rules)
 
 pub returns-in_ok-link_with-in-Ok-clause-linked : goal.returns-in_ok-link_with-in-Ok-clause-linked
@@ -55,7 +56,7 @@ returns-in_ok-link_with-in-Ok-clause-linked c text globals serves whole =
     (result_site r u.name.name ∷ sites_of_blocks (map variable_block_view bs)))) c.deref.ensures.value in
     kept_there (is_linked called text r u) (linked_function text r u)
     (slot_function_view c.in_ok-link_with-in-Ok.field-0)
-    (linked_there (called u.name.name) (function_fits text r u) there (ap not few))
+    (and_from (called u.name.name) (function_fits text r u) there (ap not few))
     (c.in_ok-link_with-in-Ok.ensures.linked text globals serves whole (function_small text r u few) fresh)
 
 pub returns-in-Err-TooLarge-clause-linked : goal.returns-in-Err-TooLarge-clause-linked
@@ -74,7 +75,7 @@ returns-in-Err-TooLarge-clause-linked c text globals serves whole =
     ∙ subst (λ e. Exceeds (layout_size text vs) (instances_of text vs) e) c.in-Err-TooLarge.field-0-is
     (c.in-Err-TooLarge.ensures.err text serves.types sound) in
     kept_out (is_linked called text r u) (linked_function text r u)
-    (no_room (called u.name.name) (function_fits text r u) (ap not large))
+    (and_right (called u.name.name) (function_fits text r u) (ap not large))
 
 pub returns-then-not-has-clause-linked : goal.returns-then-not-has-clause-linked
 returns-then-not-has-clause-linked c text globals serves whole =
@@ -82,4 +83,4 @@ returns-then-not-has-clause-linked c text globals serves whole =
     let u = unit_view c.args.unit.now in
     let called = is_called c.args.called.now in
     kept_out (is_linked called text r u) (linked_function text r u)
-    (not_called (called u.name.name) (function_fits text r u) (sym c.has.ensures ∙ c.if-not-has.true))
+    (and_left (called u.name.name) (function_fits text r u) (sym c.has.ensures ∙ c.if-not-has.true))

@@ -4,7 +4,7 @@ use Rattle.st_types.specs.StatementViews.{argument_view}
 use Rattle.symbols.specs.Agreeing.{Agree}
 use Rattle.slot_trees.specs.ExpressionViews.{anchor_view}
 use Rattle.slot_trees.specs.StatementViews.{block_code_view, slot_argument_view}
-use Rattle.slot_trees.specs.LinkedStatements.{code_of}
+use Rattle.slot_trees.specs.LinkedStatements.{block_code_of}
 use Rattle.slot_trees.specs.Tables.{symbol_of}
 use Rattle.st_link.specs.BodyTables.{IsSymbol}
 use Rattle.st_link.proofs.ErrorLemmas.{none_then}
@@ -20,7 +20,7 @@ returns-clause-linked c text t serves =
     let tested : c.has_members.result ≡ true = search rules in
     let some = members_there text s y there
     (λ expanded. sym (c.has_members.ensures text serves.shapes expanded) ∙ tested) in
-    let code : code_of t x ≡ Some (block_code_view c.in-Some-code.code) =
+    let code : block_code_of t x ≡ Some (block_code_view c.in-Some-code.code) =
     sym (c.code.ensures text t serves) ∙ ap (option_map block_code_view) c.in-Some-code.is in
     call_linked t x (map argument_view c.args.arguments.now) (anchor_view s.anchor) some.0
     (block_code_view c.in-Some-code.code) (map slot_argument_view c.in_ok-arguments.arguments.items)
@@ -38,7 +38,7 @@ returns-in_err-arguments-clause-none c =
     let tested : c.has_members.result ≡ true = search rules in
     let some = members_there text s y there
     (λ expanded. sym (c.has_members.ensures text serves.shapes expanded) ∙ tested) in
-    let code : code_of t x ≡ Some (block_code_view c.in-Some-code.code) =
+    let code : block_code_of t x ≡ Some (block_code_view c.in-Some-code.code) =
     sym (c.code.ensures text t serves) ∙ ap (option_map block_code_view) c.in-Some-code.is in
     no_arguments t x (map argument_view c.args.arguments.now) (anchor_view s.anchor) some.0
     (block_code_view c.in-Some-code.code) (instance_there text s y some.0 there c.if-symbol.false some.1) code

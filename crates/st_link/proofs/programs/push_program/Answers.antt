@@ -4,7 +4,7 @@ use Rattle.st_types.specs.declared.limits.TheConstants.{MAX_PATHS}
 use Rattle.st_types.specs.UnitViews.{unit_view}
 use Rattle.st_meaning.specs.NameTypes.{unit_named}
 use Rattle.layout.specs.Instances.{instance_view}
-use Rattle.layout.specs.Sizes.{cut}
+use Rattle.layout.specs.Sizes.{capped_size}
 use Rattle.slot_trees.specs.StatementViews.{slot_stmts_view}
 use Rattle.st_link.proofs.ErrorLemmas.{none_then}
 use Rattle.st_link.specs.FirstSlots.{slots_taken}
@@ -20,7 +20,7 @@ returns-in_default-clause-next c text globals serves whole =
     let none = sym (c.program_named.ensures text globals serves)
     ∙ ap (option_map (λ u. unit_view u.now)) c.in_default.is in
     none_further c.args.first c.requires
-    ∙ ap (λ o. cut (c.args.first + slots_taken text (variables_by o))) (sym none)
+    ∙ ap (λ o. capped_size (c.args.first + slots_taken text (variables_by o))) (sym none)
 
 pub returns-in_default-clause-linked : goal.returns-in_default-clause-linked
 returns-in_default-clause-linked c text globals layout serves are whole room begin =
@@ -53,7 +53,7 @@ returns-clause-next c text globals serves whole =
     c.sum-next.result
     (c.in_ok-program.ensures.slots text globals serves (program_whole text text.units p.1 u is whole))
     c.sum-next.ensures
-    ∙ ap (λ o. cut (c.args.first + slots_taken text (variables_by o))) (sym is)
+    ∙ ap (λ o. capped_size (c.args.first + slots_taken text (variables_by o))) (sym is)
 
 pub returns-clause-linked : goal.returns-clause-linked
 returns-clause-linked c text globals layout serves are whole room begin =

@@ -13,9 +13,12 @@ use Rattle.layout.specs.Types.{is_within_depth}
 use Rattle.layout.specs.LayoutVariables.{variables_of_configuration}
 use Rattle.st_types.specs.declared.declaration.Retention.TheVariants.{Retain}
 use Rattle.layout.specs.LayoutExamples.{plain, adder, adding, adder_configuration, resource, instance}
-use Rattle.layout.proofs.ListLemmas.{same_name, or_false, some_is}
-use Rattle.st_link.specs.Homes.{IsHome, here, environment_of, IsGrounded}
+use Rattle.layout.proofs.ListLemmas.{same_name}
+use Rattle.st_link.specs.Homes.{IsLayoutPart, here, IsGrounded}
 use Rattle.st_link.proofs.run_examples.a_run_of_a_program.Goals as goal
+use Rattle.st_types.proofs.OptionLemmas.{some_is}
+use Rattle.st_types.proofs.TestLemmas.{or_false}
+use Rattle.st_rules.specs.Rules.{environment}
 
 abbrev text : Declared
 text = declared_in adding
@@ -37,8 +40,8 @@ int_within : is_within_depth MAX_TYPE_DEPTH text (plain Int) ≡ true
 unfolding is_within_depth
 int_within = refl
 
-home_of_n : IsHome text (variables_of_configuration text (Some adder_configuration))
-    (is_fixed (section_of (environment_of text adder) (codes "N"))) (unowned (codes "N")) (plain Int)
+home_of_n : IsLayoutPart text (variables_of_configuration text (Some adder_configuration))
+    (is_fixed (section_of (environment text adder) (codes "N"))) (unowned (codes "N")) (plain Int)
 home_of_n = record {
   owner = None;
   name = codes "N";
@@ -63,10 +66,10 @@ grounded = record {
   depths = λ x t h. ap (is_within_depth MAX_TYPE_DEPTH text) (sym (type_of_x x t h)) ∙ int_within;
   externals = λ x t e h.
       let n : codes "N" ≡ x = sym (same_name x (codes "N") (sym (or_false (bytes_eq x (codes "N"))) ∙ e)) in
-      subst (λ t. IsHome text (variables_of_configuration text (Some adder_configuration))
-      (is_fixed (section_of (environment_of text adder) x)) (unowned x) t) (type_of_x x t h)
-      (subst (λ x. IsHome text (variables_of_configuration text (Some adder_configuration))
-      (is_fixed (section_of (environment_of text adder) x)) (unowned x) (plain Int)) n home_of_n);
+      subst (λ t. IsLayoutPart text (variables_of_configuration text (Some adder_configuration))
+      (is_fixed (section_of (environment text adder) x)) (unowned x) t) (type_of_x x t h)
+      (subst (λ x. IsLayoutPart text (variables_of_configuration text (Some adder_configuration))
+      (is_fixed (section_of (environment text adder) x)) (unowned x) (plain Int)) n home_of_n);
 }
 
 pub returns : goal.returns

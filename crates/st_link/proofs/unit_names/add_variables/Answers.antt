@@ -2,7 +2,7 @@ use Rattle.std.proofs.Common.{ap, refl, subst, ◌∙◌, arith, map}
 use Rattle.std.proofs.lemmas.List.{take_all}
 use Rattle.symbols.specs.Agreeing.{Agree}
 use Rattle.symbols.specs.Found.{found, or_found}
-use Rattle.layout.specs.Sizes.{cut}
+use Rattle.layout.specs.Sizes.{capped_size}
 use Rattle.slot_trees.specs.ExpressionViews.{anchor_view}
 use Rattle.st_link.specs.BodyTables.{IsSymbol}
 use Rattle.st_link.specs.declared.body_table.LinkSymbol.{LinkSymbol}
@@ -45,7 +45,7 @@ loop-variable-preserved c =
 pub returns-clause-slots : goal.returns-clause-slots
 returns-clause-slots c text serves whole =
     c.loop-variable.invariant.slots text serves whole
-    ∙ ap (λ ys. cut (slots_taken text (map variable_view ys)))
+    ∙ ap (λ ys. capped_size (slots_taken text (map variable_view ys)))
     (take_all c.loop-variable.variable-index c.args.variables.now c.loop-variable-test.false)
 
 pub returns-clause-added : goal.returns-clause-added

@@ -3,7 +3,7 @@ use Rattle.st_types.specs.declared.limits.TheConstants.{MAX_PATHS}
 use Rattle.st_meaning.specs.NameTypes.{Declared}
 use Rattle.symbols.specs.Agreeing.{Agree}
 use Rattle.symbols.specs.Found.{found, or_found}
-use Rattle.layout.specs.Sizes.{cut}
+use Rattle.layout.specs.Sizes.{capped_size}
 use Rattle.slot_trees.specs.Tables.{Symbol}
 use Rattle.slot_trees.specs.ExpressionViews.{anchor_view}
 use Rattle.st_link.specs.Shapes.{ServesShapes}
@@ -17,7 +17,7 @@ abbrev pub invariant-loop-variable : goal.invariant-loop-variable
 invariant-loop-variable l = record {
   small : l.offset ≤ MAX_PATHS + 1;
   slots : (text : Declared) → ServesShapes l.shapes text → are_whole text (map variable_view l.variables) ≡ true
-      → l.offset ≡ cut (slots_taken text (map variable_view (take l.variable-index l.variables)));
+      → l.offset ≡ capped_size (slots_taken text (map variable_view (take l.variable-index l.variables)));
   added : (text : Declared) (x : List ℕ) (o : Option Symbol) → ServesShapes l.shapes text
       → are_whole text (map variable_view l.variables) ≡ true
       → first_slot (anchor_view l.base) + slots_taken text (map variable_view l.variables) ≤ MAX_PATHS

@@ -3,7 +3,7 @@ use Rattle.st_types.specs.ConfigurationViews.{global_declaration_view}
 use Rattle.st_link.specs.LinkVariables.{variable_view, variables_declared}
 use Rattle.st_link.proofs.variables.push_global_declarations.Given as goal
 
--- what is there and what is still to come
+-- the elements so far and those still to come
 abbrev pub invariant-loop-declaration : goal.invariant-loop-declaration
 invariant-loop-declaration l = map variable_view l.variables.items
     ++ variables_declared (map global_declaration_view (drop l.declaration-index l.declarations))

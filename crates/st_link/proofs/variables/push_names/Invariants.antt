@@ -3,7 +3,7 @@ use Rattle.symbols.specs.PlaceTypes.{place_type_view}
 use Rattle.st_link.specs.LinkVariables.{named_so, variable_view}
 use Rattle.st_link.proofs.variables.push_names.Given as goal
 
--- what is there and what is still to come
+-- the elements so far and those still to come
 abbrev pub invariant-loop-name : goal.invariant-loop-name
 invariant-loop-name l = map variable_view l.variables.items
     ++ map (named_so (place_type_view l.initial.declared)) (drop l.name-index l.names)

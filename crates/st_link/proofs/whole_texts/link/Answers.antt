@@ -6,7 +6,6 @@ use Rattle.st_types.specs.SourceViews.{source_view}
 use Rattle.st_meaning.specs.ResolvedUnits.{resolved_source}
 use Rattle.layout.specs.LayoutVariables.{configuration_of, declared_of, layout_variables}
 use Rattle.layout.specs.TextLayouts.{slots_of_text}
-use Rattle.layout.proofs.ListLemmas.{some_is}
 use Rattle.st_link.specs.declared.link_error.LinkError.{LinkError}
 use Rattle.st_link.specs.declared.link_error.LinkError.TheVariants.{NotThere, OutOfMemory}
 use Rattle.st_link.specs.Accepted.{IsAccepted, IsLinked}
@@ -17,6 +16,7 @@ use Rattle.st_link.specs.Orderly.{IsOrderlySource, kept_of}
 use Rattle.st_link.proofs.AcceptedTexts.{accepted_orderly}
 use Rattle.st_link.proofs.KeptLemmas.{text_kept}
 use Rattle.st_link.proofs.whole_texts.link.Goals as goal
+use Rattle.st_types.proofs.OptionLemmas.{some_is}
 
 pub returns-clause-ok : goal.returns-clause-ok
 returns-clause-ok c =

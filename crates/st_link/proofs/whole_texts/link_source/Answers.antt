@@ -5,7 +5,7 @@ use Rattle.st_types.specs.SourceViews.{source_view}
 use Rattle.st_types.specs.UnitViews.{unit_view}
 use Rattle.st_meaning.specs.NameTypes.{declared_in}
 use Rattle.layout.specs.Instances.{instance_view}
-use Rattle.layout.specs.Sizes.{cut}
+use Rattle.layout.specs.Sizes.{capped_size}
 use Rattle.slot_trees.specs.TextLinks.{linked_programs}
 use Rattle.slot_trees.specs.LibraryViews.{slot_library_view}
 use Rattle.st_link.proofs.ErrorLemmas.{and_none, none_then}
@@ -60,7 +60,7 @@ returns-in_err-programs-clause-none c =
     ap (map instance_view) c.deref-3.ensures.value ∙ c.in_ok-instances.ensures
     ∙ ap instances_of c.only_configuration-configuration.ensures in
     let slots = uncut c.in_ok-tables.tables.global_slots (slots_taken text (globals_in o))
-    (c.in_ok-tables.ensures.slots whole ∙ ap (λ vs. cut (slots_taken text vs)) globals)
+    (c.in_ok-tables.ensures.slots whole ∙ ap (λ vs. capped_size (slots_taken text vs)) globals)
     (globals_room s orderly) in
     let owned = owned_globals o in
     let served = subst (ServesLinks c.in_ok-tables.tables text) (sym (owned_seen o)) serves in
@@ -92,7 +92,7 @@ returns-clause-linked c orderly =
     ap (map instance_view) c.deref-3.ensures.value ∙ c.in_ok-instances.ensures
     ∙ ap instances_of c.only_configuration-configuration.ensures in
     let slots = uncut c.in_ok-tables.tables.global_slots (slots_taken text (globals_in o))
-    (c.in_ok-tables.ensures.slots whole ∙ ap (λ vs. cut (slots_taken text vs)) globals)
+    (c.in_ok-tables.ensures.slots whole ∙ ap (λ vs. capped_size (slots_taken text vs)) globals)
     (globals_room s orderly) in
     let owned = owned_globals o in
     let served = subst (ServesLinks c.in_ok-tables.tables text) (sym (owned_seen o)) serves in

@@ -7,7 +7,7 @@ use Rattle.st_meaning.specs.Resolution.{first_kind, resolved_expr}
 use Rattle.symbols.specs.Tables.{callee_view}
 use Rattle.st_resolved.specs.declared.resolutions.Resolution.{Resolution}
 use Rattle.st_resolved.specs.Calls.{expected_of_call}
-use Rattle.st_resolved.specs.Resolutions.{kind_told, Resolves}
+use Rattle.st_resolved.specs.Resolutions.{resolved_kind, Resolves}
 use Rattle.st_resolved.proofs.CallLemmas.{Places, places_more, places_all}
 use Rattle.st_resolved.proofs.calls.arguments_at_places.Goals as goal
 
@@ -19,7 +19,7 @@ pub loop-part-preserved : goal.loop-part-preserved
 loop-part-preserved c =
     let at = c.loop-part in
     let all = c.args.parts.items in
-    let ks = expected_of_call (option_map callee_view c.args.callee) (map kind_told all) in
+    let ks = expected_of_call (option_map callee_view c.args.callee) (map resolved_kind all) in
     let r = c.in-Some.part in
     let x = c.at_place.result in
     let done = map expr_view at.arguments.items in
@@ -35,7 +35,7 @@ loop-part-preserved c =
           subst (λ l. Places env ks es l left) (sym pushed)
           (places_more env ks es done r left (expr_view x) before (λ e h.
           c.at_place.ensures env e h
-          ∙ ap (λ k. resolved_expr env.text env.unit k e) (c.expected_at-expected.ensures (map kind_told all) common
+          ∙ ap (λ k. resolved_expr env.text env.unit k e) (c.expected_at-expected.ensures (map resolved_kind all) common
           ∙ ap (λ n. first_kind (drop n ks)) count)));
       len = let was = at.invariant.len in let gone = c.in-Some.ensures.steps.1 in let short = ap length steps in omega arith;
     }
@@ -43,7 +43,7 @@ loop-part-preserved c =
 pub returns : goal.returns
 returns c env es resolves common =
     let at = c.loop-part in
-    let ks = expected_of_call (option_map callee_view c.args.callee) (map kind_told c.args.parts.items) in
+    let ks = expected_of_call (option_map callee_view c.args.callee) (map resolved_kind c.args.parts.items) in
     let done = map expr_view at.arguments.items in
     let none = c.in-None.ensures.steps in
     let empty : into_iter_items at.part-iterator ≡ [] = none_left _ (sym at.invariant.len ∙ none.0) in

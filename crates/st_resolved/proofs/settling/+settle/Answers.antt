@@ -3,8 +3,9 @@ use Rattle.st_types.specs.declared.expression.Expr as code_expr
 use Rattle.st_types.specs.Expressions.{parenthesis, unary, binary}
 use Rattle.st_types.specs.ExpressionViews.{expr_view}
 use Rattle.st_meaning.specs.Resolution.{is_untyped, is_joining, resolved_expr}
-use Rattle.st_resolved.proofs.SettleLemmas.{left_untyped, right_untyped, binary_settled}
+use Rattle.st_resolved.proofs.SettleLemmas.{binary_settled}
 use Rattle.st_resolved.proofs.settling.+settle.Goals as goal
+use Rattle.st_typing.proofs.PartLemmas.{left_untyped, right_untyped}
 
 pub returns-in-Parenthesis : goal.returns-in-Parenthesis
 unfolding code_expr.out-Expr denote.Hole.Carrier.out

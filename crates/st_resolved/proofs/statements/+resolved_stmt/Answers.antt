@@ -60,8 +60,8 @@ resolved_stmt-returns-in_ok-otherwise-in-Case t c env serves =
     let resolves = c.in_ok-selector-in-Case.ensures env serves in
     c.select.ensures
     ∙ case_resolved env.text env.unit xs _
-    (rw c.deref-in-Case-2.ensures.value at (c.in_ok-otherwise-in-Case.ensures env serves)) e _ c.kind_told-kind.result arms _
-    (c.kind_told-kind.ensures ∙ resolves.kind) (c.at_place-selector.ensures env e resolves)
+    (rw c.deref-in-Case-2.ensures.value at (c.in_ok-otherwise-in-Case.ensures env serves)) e _ c.resolved_kind-kind.result arms _
+    (c.resolved_kind-kind.ensures ∙ resolves.kind) (c.at_place-selector.ensures env e resolves)
     (rw c.deref-in-Case.ensures.value at (c.in_ok-arms-in-Case.ensures env serves))
     ∙ sym (ap (resolved_stmt env.text env.unit) seen)
 

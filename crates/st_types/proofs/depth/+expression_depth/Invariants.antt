@@ -4,7 +4,7 @@ use Rattle.st_types.specs.ExpressionViews.{expr_view, selector_view}
 use Rattle.st_types.specs.Depths.{deepest, deepest_subscript}
 use Rattle.st_types.proofs.depth.+expression_depth.Given as goal
 
--- the deepest of all is the deeper of what was seen and what is left
+-- the greatest depth of all is the greater one of the parts seen and the parts left
 abbrev pub invariant-deepest_expression-loop-expression : goal.invariant-deepest_expression-loop-expression
 invariant-deepest_expression-loop-expression l =
     (l.depth ≤ 2 ^ 64 - 1) × (min (deepest (exprs_of (map expr_view l.expressions))) (2 ^ 64 - 1)

@@ -4,7 +4,7 @@ use Rattle.st_types.specs.InitialViews.{element_view, member_view}
 use Rattle.st_types.specs.Depths.{deepest_element, deepest_member}
 use Rattle.st_types.proofs.depth.+initial_depth.Given as goal
 
--- the deepest of all is the deeper of what was seen and what is left
+-- the greatest depth of all is the greater one of the parts seen and the parts left
 abbrev pub invariant-deepest_element-loop-element : goal.invariant-deepest_element-loop-element
 invariant-deepest_element-loop-element l =
     (l.depth ≤ 2 ^ 64 - 1) × (min (deepest_element (elements_of (map element_view l.elements))) (2 ^ 64 - 1) ≡ min

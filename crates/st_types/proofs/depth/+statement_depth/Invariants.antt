@@ -4,7 +4,7 @@ use Rattle.st_types.specs.StatementViews.{stmt_view, arm_view, case_arm_view}
 use Rattle.st_types.specs.Depths.{deepest_stmt, deepest_arm, deepest_case_arm}
 use Rattle.st_types.proofs.depth.+statement_depth.Given as goal
 
--- the deepest of all is the deeper of what was seen and what is left
+-- the greatest depth of all is the greater one of the parts seen and the parts left
 abbrev pub invariant-list_depth-loop-statement : goal.invariant-list_depth-loop-statement
 invariant-list_depth-loop-statement l =
     (l.depth ≤ 2 ^ 64 - 1) × (min (deepest_stmt (stmts_of (map stmt_view l.statements))) (2 ^ 64 - 1) ≡ min

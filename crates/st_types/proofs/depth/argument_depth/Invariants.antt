@@ -3,7 +3,7 @@ use Rattle.st_types.specs.StatementViews.{argument_view}
 use Rattle.st_types.specs.Depths.{deepest_argument}
 use Rattle.st_types.proofs.depth.argument_depth.Given as goal
 
--- the deepest of all is the deeper of what was seen and what is left
+-- the greatest depth of all is the greater one of the parts seen and the parts left
 abbrev pub invariant-loop-argument : goal.invariant-loop-argument
 invariant-loop-argument l =
     (l.depth ≤ 2 ^ 64 - 1) × (min (deepest_argument (map argument_view l.arguments)) (2 ^ 64 - 1)

@@ -6,7 +6,7 @@ use Rattle.std.specs.Prelude.{pos, int_le}
 use Rattle.std.proofs.lemmas.Int.{ints, to_z-of_z}
 use Rattle.st_types.specs.declared.kind.Kind.TheVariants.{Int}
 use Rattle.st_types.specs.Kinds.{holds}
-use Rattle.st_types.specs.Values.{Datum, datum_of_truth}
+use Rattle.st_types.specs.Values.{Datum, bool_datum}
 use Rattle.st_meaning.specs.StandardBlocks.{int}
 use Rattle.std_blocks.specs.Members.{all_stored, Leaves}
 use Rattle.std_blocks.proofs.BlockLemmas.{unheld_up_down, same_ten}
@@ -30,10 +30,10 @@ returns c =
     let fits : FitsSigned w128 c.number.result = search (rules, ints) in
     let preset = to_z-of_z w128 c.number.result fits ∙ c.number.ensures.number in
     let e = same_ten i.up i.down i.reset i.load i.preset _ _ _ _ _ _ _ _ _ _
-    (c.truth-up_q.ensures ∙ ap (λ x. datum_of_truth (int_le x (to_z w128 (of_z w128 c.args.count)))) preset
-    ∙ ap (λ x. datum_of_truth (int_le i.preset.number x)) same)
-    (c.truth-down_q.ensures ∙ ap (λ x. datum_of_truth (int_le x (pos 0))) same)
+    (c.from_bool-up_q.ensures ∙ ap (λ x. bool_datum (int_le x (to_z w128 (of_z w128 c.args.count)))) preset
+    ∙ ap (λ x. bool_datum (int_le i.preset.number x)) same)
+    (c.from_bool-down_q.ensures ∙ ap (λ x. bool_datum (int_le x (pos 0))) same)
     (c.in-Ok.ensures.is ∙ ap int same)
-    (c.truth.ensures ∙ ap datum_of_truth c.is_true.ensures)
-    (c.truth-2.ensures ∙ ap datum_of_truth c.is_true-2.ensures) in
+    (c.from_bool.ensures ∙ ap bool_datum c.is_true.ensures)
+    (c.from_bool-2.ensures ∙ ap bool_datum c.is_true-2.ensures) in
     subst P e c.put_all.ensures

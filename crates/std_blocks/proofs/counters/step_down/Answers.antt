@@ -4,7 +4,7 @@ use mir.Val.{to_z, of_z}
 use Rattle.std.specs.Prelude.{pos, int_le}
 use Rattle.std.specs.Int.RustNames.{FitsSigned}
 use Rattle.std.proofs.lemmas.Int.{ints, to_z-of_z}
-use Rattle.st_types.specs.Values.{Datum, datum_of_truth, is_true}
+use Rattle.st_types.specs.Values.{Datum, bool_datum, is_true}
 use Rattle.st_meaning.specs.StandardBlocks.{int, down_count, edge}
 use Rattle.std_blocks.specs.Members.{all_stored, Leaves}
 use Rattle.std_blocks.proofs.BlockLemmas.{down_steps}
@@ -24,9 +24,9 @@ returns c now =
     let s2 = to_z-of_z w128 c.number-2.result f2 in
     let told : z ≡ down_count (is_true m.load) m.preset.number (edge (is_true m.down) (is_true m.memory))
     m.count.number = cc in
-    let same : m.down ∷ m.load ∷ m.preset ∷ datum_of_truth (int_le (to_z w128 (of_z w128 z)) (pos 0))
-    ∷ int (to_z w128 (of_z w128 z)) ∷ datum_of_truth c.is_true-4.result ∷ []
-    ≡ m.down ∷ m.load ∷ m.preset ∷ datum_of_truth (int_le z (pos 0)) ∷ int z ∷ datum_of_truth (is_true m.down)
+    let same : m.down ∷ m.load ∷ m.preset ∷ bool_datum (int_le (to_z w128 (of_z w128 z)) (pos 0))
+    ∷ int (to_z w128 (of_z w128 z)) ∷ bool_datum c.is_true-4.result ∷ []
+    ≡ m.down ∷ m.load ∷ m.preset ∷ bool_datum (int_le z (pos 0)) ∷ int z ∷ bool_datum (is_true m.down)
     ∷ [] = cc in
     down_steps now c.args.at c.args.slots.now c.put_counter.new.slots m.down m.load m.preset m.field-0-3 m.count
     m.memory c.put_counter.result m.ensures.there z told

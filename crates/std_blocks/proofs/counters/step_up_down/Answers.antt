@@ -3,7 +3,7 @@ use mir.Syntax.{w128}
 use Rattle.std.specs.Prelude.{ℤ, pos, int_le}
 use Rattle.std.specs.Int.RustNames.{FitsSigned}
 use Rattle.std.proofs.lemmas.Int.{ints, to_z-of_z}
-use Rattle.st_types.specs.Values.{Datum, datum_of_truth, is_true}
+use Rattle.st_types.specs.Values.{Datum, bool_datum, is_true}
 use Rattle.st_meaning.specs.StandardBlocks.{int, up_down_count, edge}
 use Rattle.std_blocks.specs.Members.{all_stored, Leaves}
 use Rattle.std_blocks.proofs.BlockLemmas.{up_down_steps}
@@ -23,8 +23,8 @@ returns c now =
     let s2 = to_z-of_z w128 c.number-2.result f2 in
     let told : z ≡ up_down_count (is_true m.reset) (is_true m.load) m.preset.number (edge (is_true m.up) (is_true
     m.up_memory)) (edge (is_true m.down) (is_true m.down_memory)) m.count.number = cc in
-    let Q : ℤ → Type 0 = λ y. P (m.up ∷ m.down ∷ m.reset ∷ m.load ∷ m.preset ∷ datum_of_truth (int_le m.preset.number y)
-    ∷ datum_of_truth (int_le y (pos 0)) ∷ int y ∷ datum_of_truth (is_true m.up) ∷ datum_of_truth (is_true m.down)
+    let Q : ℤ → Type 0 = λ y. P (m.up ∷ m.down ∷ m.reset ∷ m.load ∷ m.preset ∷ bool_datum (int_le m.preset.number y)
+    ∷ bool_datum (int_le y (pos 0)) ∷ int y ∷ bool_datum (is_true m.up) ∷ bool_datum (is_true m.down)
     ∷ []) in
     up_down_steps now c.args.at c.args.slots.now c.put_up_down.new.slots m.up m.down m.reset m.load m.preset
     m.field-0-5 m.field-0-6 m.count m.up_memory m.down_memory c.put_up_down.result m.ensures.there z told

@@ -5,8 +5,8 @@ use Rattle.st_meaning.specs.NameTypes.{is_named}
 use Rattle.st_rules.specs.Places.{repeats}
 use Rattle.symbols.specs.Found.{found}
 use Rattle.symbols.proofs.RepeatLemmas.{repeated, not_repeated, parted, more_named}
-use Rattle.symbols.proofs.TextLemmas.{more_mapped}
 use Rattle.symbols.proofs.repeats.first_repeat.Goals as goal
+use Rattle.st_types.proofs.ListLemmas.{map_take_next}
 
 pub returns-then-is_some : goal.returns-then-is_some
 returns-then-is_some c =
@@ -24,7 +24,7 @@ loop-identifier-preserved c =
     let i = c.loop-identifier.identifier-index in
     let y = c.identifier-item.result in
     let before = map (λ x. x.now) (take i xs) in
-    let taken = more_mapped (λ x. x.now) xs i y (search rules) (search rules) in
+    let taken = map_take_next (λ x. x.now) xs i y (search rules) (search rules) in
     let absent : list_any (is_named y.now.name) before ≡ false = search rules in (
       (λ q. more_named before (map (λ x. x.now) (take (i + 1) xs)) y.now q (found c.loop-identifier.seen q)
           (found c.add.new.self q) taken (c.loop-identifier.invariant.0 q) (c.in_ok-add.ensures.added q)),

@@ -3,7 +3,7 @@ use Rattle.plan.specs.declared.task.ProgramInstance.{ProgramInstance}
 use Rattle.plan.specs.declared.plan.Plan.{Plan}
 use Rattle.trace.specs.Texts.{outcome_text}
 use Rattle.trace.proofs.ReadLemmas.{none_some}
-use Rattle.trace.proofs.FirstLemmas.{done_ended, done_grows, first_told, is_done, is_told}
+use Rattle.trace.proofs.FirstLemmas.{done_ended, done_grows, first_resolved_kind, is_done, is_told}
 use Rattle.trace.proofs.entries.replay_done.Goals as goal
 
 pub returns-in-None-clause-refused : goal.returns-in-None-clause-refused
@@ -19,7 +19,7 @@ returns-in-None-ending-clause-refused c = λ other rows more left.
     let programs : c.deref.result.now ≡ c.args.core.now.plan.programs.items =
     c.deref.ensures.value ∙ ap (λ (p : Plan). p.programs.items) c.plan.ensures in
     let (q, at, told) = c.in-Some.ensures.told in
-    let f = first_told c.args.core.now rows c.args.text.now c.in-Some.told.1.now c.in-Some.told.0 q more
+    let f = first_resolved_kind c.args.core.now rows c.args.text.now c.in-Some.told.1.now c.in-Some.told.0 q more
     (ap (λ (ps : List ProgramInstance). slice_get ps c.in-Some.told.0) (sym programs) ∙ at) told left in
     none_some ((f.row, f.outcome), f.rest) (c.in-None-ending.ensures.1 (f.row, f.outcome) f.rest f.small f.told)
 
@@ -28,7 +28,7 @@ returns-then-not-waits_with-clause-refused c = λ other rows more left.
     let programs : c.deref.result.now ≡ c.args.core.now.plan.programs.items =
     c.deref.ensures.value ∙ ap (λ (p : Plan). p.programs.items) c.plan.ensures in
     let (q, at, told) = c.in-Some.ensures.told in
-    let f = first_told c.args.core.now rows c.args.text.now c.in-Some.told.1.now c.in-Some.told.0 q more
+    let f = first_resolved_kind c.args.core.now rows c.args.text.now c.in-Some.told.1.now c.in-Some.told.0 q more
     (ap (λ (ps : List ProgramInstance). slice_get ps c.in-Some.told.0) (sym programs) ∙ at) told left in
     let is = is_told c.args.core.now c.in-Some.told.1.now c.in-Some-ending.told.2.now c.in-Some.told.0
     c.in-Some-ending.told.0 c.in-Some-ending.told.1 f
@@ -52,7 +52,7 @@ returns-else-ended_so-clause-refused c = λ other rows more left.
     let programs : c.deref.result.now ≡ c.args.core.now.plan.programs.items =
     c.deref.ensures.value ∙ ap (λ (p : Plan). p.programs.items) c.plan.ensures in
     let (q, at, told) = c.in-Some.ensures.told in
-    let f = first_told c.args.core.now rows c.args.text.now c.in-Some.told.1.now c.in-Some.told.0 q more
+    let f = first_resolved_kind c.args.core.now rows c.args.text.now c.in-Some.told.1.now c.in-Some.told.0 q more
     (ap (λ (ps : List ProgramInstance). slice_get ps c.in-Some.told.0) (sym programs) ∙ at) told left in
     let is = is_told c.args.core.now c.in-Some.told.1.now c.in-Some-ending.told.2.now c.in-Some.told.0
     c.in-Some-ending.told.0 c.in-Some-ending.told.1 f

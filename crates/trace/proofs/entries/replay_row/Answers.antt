@@ -1,8 +1,8 @@
 use Rattle.std.proofs.Common.{◌≡◌, ◌∙◌, ap, sym, arith, Some, ◌∷◌, length, slice_get, length-append}
-use Rattle.std.proofs.lemmas.Option.{slice_get-get_or}
+use Rattle.std.proofs.lemmas.Option.{slice_get-get_or, some_pair_parts}
 use Rattle.st_types.specs.Rows.{Latch}
-use Rattle.serial_core.specs.Steps.{made}
-use Rattle.trace.proofs.ReadLemmas.{both_are, none_some}
+use Rattle.serial_core.specs.Steps.{past_in}
+use Rattle.trace.proofs.ReadLemmas.{none_some}
 use Rattle.trace.proofs.FirstLemmas.{first_row, latch_refused, row_grows, same_row}
 use Rattle.trace.proofs.entries.replay_row.Goals as goal
 
@@ -14,7 +14,7 @@ returns-in-None-clause-refused c = λ other more left.
 pub returns-then-moment-ge-MOMENT_LIMIT-clause-refused : goal.returns-then-moment-ge-MOMENT_LIMIT-clause-refused
 returns-then-moment-ge-MOMENT_LIMIT-clause-refused c = λ other more left.
     let f = first_row c.args.core.now c.args.rows.now c.args.text.now more left in
-    let one = both_are c.in-Some.told.0 f.row.moment c.in-Some.told.1.now f.rest
+    let one = some_pair_parts c.in-Some.told.0 f.row.moment c.in-Some.told.1.now f.rest
     (c.in-Some.ensures.1 f.row.moment f.rest (omega (arith, f.early)) f.told) in
     absurd (omega (arith, one.0, f.early, c.if-moment-ge-MOMENT_LIMIT.true))
 
@@ -26,14 +26,14 @@ returns-in-None-get-clause-refused c = λ other more left.
       arith,
       past,
       ap length f.rows_are,
-      length-append (made c.args.core.now).rows (f.row ∷ f.behind),
+      length-append (past_in c.args.core.now).rows (f.row ∷ f.behind),
       c.rows.ensures,
     ))
 
 pub returns-then-moment-clause-refused : goal.returns-then-moment-clause-refused
 returns-then-moment-clause-refused c = λ other more left.
     let f = first_row c.args.core.now c.args.rows.now c.args.text.now more left in
-    let one = both_are c.in-Some.told.0 f.row.moment c.in-Some.told.1.now f.rest
+    let one = some_pair_parts c.in-Some.told.0 f.row.moment c.in-Some.told.1.now f.rest
     (c.in-Some.ensures.1 f.row.moment f.rest (omega (arith, f.early)) f.told) in
     let there = c.in-Some-get.ensures.lookup.3 in
     let row = same_row c.args.core.now c.args.rows.now c.args.text.now c.rows.result c.in-Some-get.row.now f
@@ -45,7 +45,7 @@ returns-in-Ok-latch-clause-grows c =
     let (left, rows_are) = c.requires.rows in
     let h = c.in-Ok-latch.ensures in
     let there = c.in-Some-get.ensures.lookup.3 in
-    let at : slice_get c.args.rows.now (length (made c.args.core.now).rows) ≡ Some c.in-Ok.row =
+    let at : slice_get c.args.rows.now (length (past_in c.args.core.now).rows) ≡ Some c.in-Ok.row =
     ap (slice_get c.args.rows.now) (sym c.rows.ensures)
     ∙ slice_get-get_or c.args.rows.now c.rows.result c.in-Some-get.row.now there.0
     ∙ ap Some (sym (there.1 c.in-Some-get.row.now) ∙ sym c.in-Ok.ensures) in

@@ -1,6 +1,6 @@
 use Rattle.std.proofs.Common.{◌≡◌, ◌+◌, ◌-◌, ◌*◌, ◌<◌, ◌^◌, suc, arith, subst, sym, Some, ℕ}
 use Rattle.st_print.specs.Spelling.{hexadecimal}
-use Rattle.trace.specs.Reads.{Spells}
+use Rattle.trace.specs.Reads.{FieldSpells}
 use Rattle.trace.proofs.ValueLemmas.{hexadecimal_more, pow_room}
 use Rattle.trace.proofs.values.+hexadecimal.Goals as goal
 
@@ -19,9 +19,9 @@ overflow_add-result t c =
 pub returns : goal.returns
 returns t c =
     let next : suc (c.args.count - 1) ≡ c.args.count = omega arith in
-    subst (λ n. Spells (λ (m : ℕ). m < 16 ^ n) (hexadecimal n) c.args.field.now
+    subst (λ n. FieldSpells (λ (m : ℕ). m < 16 ^ n) (hexadecimal n) c.args.field.now
     (Some (c.in_ok-number.number * 16 + c.from.result))) next
-    (subst (λ d. Spells (λ (m : ℕ). m < 16 ^ suc (c.args.count - 1)) (hexadecimal (suc (c.args.count - 1)))
+    (subst (λ d. FieldSpells (λ (m : ℕ). m < 16 ^ suc (c.args.count - 1)) (hexadecimal (suc (c.args.count - 1)))
     c.args.field.now (Some (c.in_ok-number.number * 16 + d))) (sym c.from.ensures)
     (hexadecimal_more (c.args.count - 1) c.in_ok-number.number c.in_ok-digit.digit c.in_ok-last.last.now
     c.args.field.now c.in_ok-last.front.now c.in_ok-last.ensures.cases.0 c.in_ok-number.ensures c.in_ok-digit.ensures))

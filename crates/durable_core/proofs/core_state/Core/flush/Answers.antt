@@ -18,7 +18,7 @@ returns-in-Ok-clause-outlives g c = λ tells.
     record {
       during = subst (λ (v : CoreView _). LeavesOnly g.D.Disk.left_since g.D.Disk.may_leave v.store.disk
           c.save_record-saved.new.store.disk (λ file. survives v (recovered file))) c.self.view_is
-          (weakens g.D.Disk.left_since g.D.Disk.may_leave _ _ _ _ (c.save_record-saved.ensures.any_moment tells working)
+          (weakens g.D.Disk.left_since g.D.Disk.may_leave _ _ _ _ ((c.save_record-saved.ensures.stops tells).any_moment working)
           (λ file. survives_either state.plan state.start state.before state.log inside.acked inside.store.last
           (Found (inside.store.generation + 1) (record_now state)) (recovered file) k.last new));
       after = search rules;
@@ -35,7 +35,7 @@ returns-in-Err-clause-outlives g c = λ tells.
     record {
       during = subst (λ (v : CoreView _). LeavesOnly g.D.Disk.left_since g.D.Disk.may_leave v.store.disk
           c.save_record-saved.new.store.disk (λ file. survives v (recovered file))) c.self.view_is
-          (weakens g.D.Disk.left_since g.D.Disk.may_leave _ _ _ _ (c.save_record-saved.ensures.any_moment tells working)
+          (weakens g.D.Disk.left_since g.D.Disk.may_leave _ _ _ _ ((c.save_record-saved.ensures.stops tells).any_moment working)
           (λ file. survives_either state.plan state.start state.before state.log inside.acked inside.store.last
           (Found (inside.store.generation + 1) (record_now state)) (recovered file) k.last new));
       after = search rules;

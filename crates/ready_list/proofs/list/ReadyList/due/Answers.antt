@@ -13,7 +13,7 @@ returns-clause-due c =
       last = c.moment_or-2.result;
       moment = c.args.moment;
     }
-    c.args.samples.now c.copy_from_slice.new.self.items c.mark_all.new.standings.items c.deref.result.now
+    c.args.samples.now c.copy_from_slice.new.self.items c.mark_all.new.states.items c.deref.result.now
     c.deref-2.result.now
     c.copy_from_slice.ensures.items c.deref.ensures.value c.deref-2.ensures.value refl c.moment_or.ensures
     c.moment_or-2.ensures c.mark_all.ensures.marked

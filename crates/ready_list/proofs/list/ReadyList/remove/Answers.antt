@@ -20,7 +20,7 @@ returns-clause-remove c =
     let was = subst (IsReadyOf h) (sym c.self.view_is) is in
     let l = listed-there was c.args.a c.deref.result.now c.deref.ensures.value c.self.invariant.0 c.is_listed.result
     c.is_listed.ensures c.if-not-is_listed.false in
-    let there = c.index.ensures ∙ get_or_default c.self.inside.standings.items c.args.a.program _
+    let there = c.index.ensures ∙ get_or_default c.self.inside.states.items c.args.a.program _
     record { waiting = None; overruns = 0 } (omega (arith, l.0, c.self.invariant.0)) in (
       subst (λ (r : Ready). Waits r.schedules h c.args.a) c.self.view_is (listed-waits was c.args.a l.0 l.1),
       IsReadyOf-run was c.args.a c.index.result.now c.taken.result c.self.invariant.0 l.0 there c.taken.ensures l.1,

@@ -29,9 +29,10 @@ returns-in-Ok-recover-clause-at_rest g c = λ tells file may.
     let at_rest = c.in-Ok-recover.ensures.at_rest tells in
     ap recovered (at_rest.synced file may) ∙ at_rest.surveyed.last_is
 
-pub returns-clause-memory : goal.returns-clause-memory
-returns-clause-memory g c = λ is. absurd (subst IsOfFile is c.in-Err-recover.ensures.faults)
-
 pub returns-clause-faults : goal.returns-clause-faults
 returns-clause-faults g c =
-    (λ is. subst IsOfFile is c.in-Err-recover.ensures.faults, λ is. subst IsOfFile is c.in-Err-recover.ensures.faults)
+    let of_file = c.in-Err-recover.ensures.faults in
+    record {
+      of_opening = (λ is. subst IsOfFile is of_file, λ is. subst IsOfFile is of_file);
+      before_calls = λ is. absurd (subst IsOfFile is of_file);
+    }

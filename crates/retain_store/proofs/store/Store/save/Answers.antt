@@ -33,8 +33,8 @@ write_frame-requires-clause-frame g c =
     let slice : c.deref.result.now ≡ buffer = c.deref.ensures.value ∙ items in
     rw slice c.put_frame-size.ensures.frame
 
-pub returns-in-Ok-clause-any_moment : goal.returns-in-Ok-clause-any_moment
-returns-in-Ok-clause-any_moment g c = λ tells ok.
+pub returns-in-Ok-clause-stops : goal.returns-in-Ok-clause-stops
+returns-in-Ok-clause-stops g c = λ tells.
     let buffer = c.put_frame-size.new.frame in
     let size : length buffer ≡ c.self.inside.frame.len =
     omega (arith, c.put_frame-size.ensures.room, c.deref_mut.ensures.len) in
@@ -48,12 +48,18 @@ returns-in-Ok-clause-any_moment g c = λ tells ok.
     frame_spells content (take c.put_frame-size.result c.deref.result.now) c.requires.sound
     (omega (arith, c.self.invariant.0.greatest)) (ap
     (λ (l : List ℕ). drop HEADER_BYTES (take c.put_frame-size.result l)) slice ∙ c.put_frame-size.ensures.body) in
-    rw (← c.self.view_is)
-    (weakens g.D.Disk.left_since g.D.Disk.may_leave _ _ _ _ (c.write_frame.ensures.any_moment tells content spells)
-    (λ file. ⊎_elim (λ before. inl (before ∙ (c.self.invariant.0.at_rest tells c.in-Working.is).surveyed.last_is)) inr))
+    record {
+      any_moment = λ ok.
+          rw (← c.self.view_is)
+          (weakens g.D.Disk.left_since g.D.Disk.may_leave _ _ _ _ (c.write_frame.ensures.any_moment tells content spells)
+          (λ file. ⊎_elim (λ before. inl (before ∙ (c.self.invariant.0.at_rest tells c.in-Working.is).surveyed.last_is)) inr));
+      at_rest = λ file may.
+          rw (← c.self.view_is)
+          (ap recovered (c.in-Ok.ensures.synced tells file may) ∙ (c.in-Ok.ensures.saved tells content spells).found);
+    }
 
-pub returns-in-Err-clause-any_moment : goal.returns-in-Err-clause-any_moment
-returns-in-Err-clause-any_moment g c = λ tells ok.
+pub returns-in-Err-clause-stops : goal.returns-in-Err-clause-stops
+returns-in-Err-clause-stops g c = λ tells.
     let buffer = c.put_frame-size.new.frame in
     let size : length buffer ≡ c.self.inside.frame.len =
     omega (arith, c.put_frame-size.ensures.room, c.deref_mut.ensures.len) in
@@ -67,41 +73,49 @@ returns-in-Err-clause-any_moment g c = λ tells ok.
     frame_spells content (take c.put_frame-size.result c.deref.result.now) c.requires.sound
     (omega (arith, c.self.invariant.0.greatest)) (ap
     (λ (l : List ℕ). drop HEADER_BYTES (take c.put_frame-size.result l)) slice ∙ c.put_frame-size.ensures.body) in
-    rw (← c.self.view_is)
-    (weakens g.D.Disk.left_since g.D.Disk.may_leave _ _ _ _ (c.write_frame.ensures.any_moment tells content spells)
-    (λ file. ⊎_elim (λ before. inl (before ∙ (c.self.invariant.0.at_rest tells c.in-Working.is).surveyed.last_is)) inr))
-
-pub returns-in-Ok-clause-at_rest : goal.returns-in-Ok-clause-at_rest
-returns-in-Ok-clause-at_rest g c = λ tells file may.
-    let buffer = c.put_frame-size.new.frame in
-    let size : length buffer ≡ c.self.inside.frame.len =
-    omega (arith, c.put_frame-size.ensures.room, c.deref_mut.ensures.len) in
-    let items : take c.self.inside.frame.len (buffer ++ drop (length buffer) c.self.inside.frame.items) ≡ buffer =
-    take_at buffer (drop (length buffer) c.self.inside.frame.items) c.self.inside.frame.len size in
-    let slice : c.deref.result.now ≡ buffer = c.deref.ensures.value ∙ items in
-    let content = content_of c.args.moment c.args.layout.now c.args.values.now in
-    let fits : length (record_bytes content) ≤ length c.self.inside.frame.items - HEADER_BYTES =
-    rw (← c.self.view_is) at c.requires.room in
-    let spells : decoded (drop HEADER_BYTES (take c.put_frame-size.result c.deref.result.now)) ≡ Some content =
-    frame_spells content (take c.put_frame-size.result c.deref.result.now) c.requires.sound
-    (omega (arith, c.self.invariant.0.greatest)) (ap
-    (λ (l : List ℕ). drop HEADER_BYTES (take c.put_frame-size.result l)) slice ∙ c.put_frame-size.ensures.body) in
-    rw (← c.self.view_is)
-    (ap recovered (c.in-Ok.ensures.synced tells file may) ∙ (c.in-Ok.ensures.saved tells content spells).found)
+    record {
+      any_moment = λ ok.
+          rw (← c.self.view_is)
+          (weakens g.D.Disk.left_since g.D.Disk.may_leave _ _ _ _ (c.write_frame.ensures.any_moment tells content spells)
+          (λ file. ⊎_elim (λ before. inl (before ∙ (c.self.invariant.0.at_rest tells c.in-Working.is).surveyed.last_is)) inr));
+      at_rest = tt;
+    }
 
 pub returns-in-Ok-clause-saved : goal.returns-in-Ok-clause-saved
-returns-in-Ok-clause-saved g c = rw (← c.self.view_is) (rw (
-  c.after_save-self-inside.ensures,
-  c.in-Working.is,
-  c.swap.ensures.x_after,
-  c.set.ensures,
-) (refl, held_some _ _ (omega arith), refl, refl))
+returns-in-Ok-clause-saved g c =
+    let buffer = c.put_frame-size.new.frame in
+    let size : length buffer ≡ c.self.inside.frame.len =
+    omega (arith, c.put_frame-size.ensures.room, c.deref_mut.ensures.len) in
+    let items : take c.self.inside.frame.len (buffer ++ drop (length buffer) c.self.inside.frame.items) ≡ buffer =
+    take_at buffer (drop (length buffer) c.self.inside.frame.items) c.self.inside.frame.len size in
+    rw (← c.self.view_is) (rw (
+      c.after_save-self-inside.ensures,
+      c.in-Working.is,
+      c.swap.ensures.x_after,
+      c.set.ensures,
+      items,
+    ) (record {
+      generation_is = refl;
+      last_is = held_some _ _ (omega arith);
+      tried_is = refl;
+      working = refl;
+      room_is = omega (arith, size);
+    }))
 
-pub returns-in-Err-clause-tried : goal.returns-in-Err-clause-tried
-returns-in-Err-clause-tried g c = rw (← c.self.view_is) (rw c.set.ensures refl)
-
-pub returns-in-Err-clause-unchanged : goal.returns-in-Err-clause-unchanged
-returns-in-Err-clause-unchanged g c = rw (← c.self.view_is) (refl, refl, refl)
+pub returns-in-Err-clause-unsaved : goal.returns-in-Err-clause-unsaved
+returns-in-Err-clause-unsaved g c =
+    let buffer = c.put_frame-size.new.frame in
+    let size : length buffer ≡ c.self.inside.frame.len =
+    omega (arith, c.put_frame-size.ensures.room, c.deref_mut.ensures.len) in
+    let items : take c.self.inside.frame.len (buffer ++ drop (length buffer) c.self.inside.frame.items) ≡ buffer =
+    take_at buffer (drop (length buffer) c.self.inside.frame.items) c.self.inside.frame.len size in
+    rw (← c.self.view_is) (rw items (record {
+      generation_is = refl;
+      last_is = refl;
+      tried = rw c.set.ensures refl;
+      failed = refl;
+      room_is = omega (arith, size);
+    }))
 
 pub invariant_of-self-in-Ok : goal.invariant_of-self-in-Ok
 invariant_of-self-in-Ok g c =

@@ -4,10 +4,7 @@ use Rattle.plan.specs.declared.plan.Plan.{Plan}
 use Rattle.serial_core.specs.Steps.{State, code_at, slots_for, waits_in}
 use Rattle.serial_core.proofs.TakeLemmas.{slots_of_code}
 use Rattle.serial_core.proofs.serial.SerialCore.code_for.Goals as goal
-
-ok_weaker : {C E : Type 0} (r : Result C E) (P Q : C → Type 0) → ((x : C) → P x → Q x) → IfOk r P → IfOk r Q
-ok_weaker (Ok x) P Q weaker h = weaker x h
-ok_weaker (Err e) P Q weaker h = tt
+use Rattle.st_types.proofs.OptionLemmas.{ok_weaker}
 
 pub returns-clause-typed : goal.returns-clause-typed
 returns-clause-typed c =

@@ -7,7 +7,7 @@ use Rattle.st_meaning.specs.Due.{History, with_row}
 use Rattle.plan.specs.PlanViews.{plan_view}
 use Rattle.ready_list.specs.Ready.{IsReadyOf}
 use Rattle.serial_core.specs.Samples.{sample_task}
-use Rattle.serial_core.specs.Steps.{State, made, store_in, comes_later, grown}
+use Rattle.serial_core.specs.Steps.{State, past_in, store_in, comes_later, grown}
 use Rattle.serial_core.proofs.LatchLemmas.{kept_latch}
 use Rattle.serial_core.proofs.OutcomeLemmas.{outcomes_kept}
 use Rattle.serial_core.proofs.serial.SerialCore.latch.Goals as goal
@@ -71,7 +71,7 @@ returns c =
       room = c.self.inside.room;
     } in
     subst (λ (st : State). (length st.log < st.room) × (fits (plan_view st.plan) c.args.row ≡ true)
-    × (comes_later st c.args.row ≡ true) × (c.len-number.result ≡ length (made st).rows)
+    × (comes_later st c.args.row ≡ true) × (c.len-number.result ≡ length (past_in st).rows)
     × (seen c.push_reserved-3.new.self.items ≡ grown st (Row c.args.row))) c.self.view_is (
       omega (arith, c.self.inside.log.ok.0),
       ap (λ p. fits (plan_view p) c.args.row) (sym c.deref-plan.ensures) ∙ sym c.fits.ensures ∙ c.if-not-fits.false,

@@ -10,7 +10,7 @@ use Rattle.st_meaning.specs.Plans.{schedules_of}
 use Rattle.plan.specs.declared.plan.Plan.{Plan}
 use Rattle.plan.specs.PlanViews.{plan_view}
 use Rattle.ready_list.specs.Ready.{Ready, IsReadyOf}
-use Rattle.serial_core.specs.Steps.{State, made, store_in}
+use Rattle.serial_core.specs.Steps.{State, past_in, store_in}
 use Rattle.serial_core.specs.Kept.{SerialInvariant}
 use Rattle.serial_core.proofs.serial.SerialCore.overruns.Goals as goal
 
@@ -29,5 +29,5 @@ overruns_told {plan = plan} {start = start} {log = log} {ready = ready} kept p n
 pub returns-clause-overruns : goal.returns-clause-overruns
 returns-clause-overruns c =
     subst (λ (st : State). c.args.program < length st.plan.programs.items → HasOverruns
-    (schedules_of (plan_view st.plan)) (made st).history c.args.program c.overruns.result) c.self.view_is
+    (schedules_of (plan_view st.plan)) (past_in st).history c.args.program c.overruns.result) c.self.view_is
     (overruns_told c.self.invariant.0 c.args.program c.overruns.result c.overruns.ensures.overruns)

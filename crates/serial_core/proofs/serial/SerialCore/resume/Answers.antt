@@ -4,7 +4,7 @@ use Rattle.plan.specs.declared.plan.Plan.{Plan}
 use Rattle.plan.specs.PlanViews.{plan_view}
 use Rattle.serial_core.specs.Steps.{State, store_in}
 use Rattle.core_values.specs.Restored.{restored}
-use Rattle.serial_core.specs.Retained.{retained_kinds, told_by}
+use Rattle.serial_core.specs.Retained.{retained_kinds, kept_from}
 use Rattle.serial_core.proofs.StartLemmas.{kept_again}
 use Rattle.serial_core.proofs.ResumeLemmas.{restarted, kept_values, typed_of, seen_again}
 use Rattle.serial_core.proofs.serial.SerialCore.resume.Goals as goal
@@ -44,7 +44,7 @@ returns-clause-restarted c =
       plan = st.plan;
       start =
           (warm_start (plan_view st.plan)
-          (Some (told_by st.plan c.args.values.now c.args.moment))).store;
+          (Some (kept_from st.plan c.args.values.now c.args.moment))).store;
       before = c.args.moment;
       log = [];
       room = st.room;

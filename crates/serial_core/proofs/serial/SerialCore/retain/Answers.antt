@@ -2,7 +2,7 @@ use Rattle.std.proofs.Common.{◌≡◌, ◌∙◌, map, ap, subst}
 use Rattle.st_meaning.specs.Restarts.{kept}
 use Rattle.plan.specs.declared.plan.Plan.{Plan}
 use Rattle.plan.specs.PlanViews.{plan_view}
-use Rattle.serial_core.specs.Steps.{State, made}
+use Rattle.serial_core.specs.Steps.{State, past_in}
 use Rattle.serial_core.specs.Retained.{retained_values, retained_kinds}
 use Rattle.serial_core.proofs.ResumeLemmas.{retained}
 use Rattle.serial_core.proofs.serial.SerialCore.retain.Goals as goal
@@ -15,7 +15,7 @@ returns-clause-values c =
     (c.deref-3.ensures.value ∙ ap (λ (p : Plan). p.variables.items) c.deref-2.ensures) in
     let r = retained c.self.inside.plan.value c.self.inside.values.items c.retain.new.kept.items _ k.sized k.typed
     k.of_past.variables from in
-    subst (λ (st : State). c.retain.new.kept.items ≡ map (λ e. e.1) (kept (plan_view st.plan) (made st).store))
+    subst (λ (st : State). c.retain.new.kept.items ≡ map (λ e. e.1) (kept (plan_view st.plan) (past_in st).store))
     c.self.view_is r.values
 
 pub returns-clause-kinds : goal.returns-clause-kinds

@@ -1,7 +1,7 @@
 use Rattle.std.proofs.Common.{◌≡◌, ◌∙◌, sym, subst}
 use Rattle.st_meaning.specs.Logs.{past_of, row_at}
 use Rattle.plan.specs.PlanViews.{plan_view}
-use Rattle.serial_core.specs.Steps.{State, made, store_in, waits_in}
+use Rattle.serial_core.specs.Steps.{State, past_in, store_in, waits_in}
 use Rattle.serial_core.proofs.CommitLemmas.{row_found}
 use Rattle.serial_core.proofs.TakeLemmas.{same_row, waits-row}
 use Rattle.serial_core.proofs.serial.SerialCore.row_for.Goals as goal
@@ -22,6 +22,6 @@ row_of-requires c =
 pub returns : goal.returns
 returns c =
     let w = subst (λ (st : State). waits_in st c.args.activation) (sym c.self.view_is) c.requires.waits in
-    subst (λ (st : State). c.row_of.result.now ≡ row_at (made st).rows c.args.activation.row) c.self.view_is
+    subst (λ (st : State). c.row_of.result.now ≡ row_at (past_in st).rows c.args.activation.row) c.self.view_is
     (sym (same_row _ _ (sym (row_found c.self.invariant.0 c.args.activation w)
     ∙ rw (← c.deref.ensures.value, ← c.deref-2.ensures.value) c.row_of.ensures)))

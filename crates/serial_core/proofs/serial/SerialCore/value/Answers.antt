@@ -5,7 +5,7 @@ use Rattle.st_meaning.specs.Scopes.{seen}
 use Rattle.plan.specs.declared.plan.Plan.{Plan}
 use Rattle.plan.specs.declared.slots.SlotPlace.TheVariants.{Input, Variable}
 use Rattle.plan.specs.SlotPlaces.{place_of}
-use Rattle.serial_core.specs.Steps.{State, made, first_image, last_image, inputs_now}
+use Rattle.serial_core.specs.Steps.{State, past_in, first_image, last_image, inputs_now}
 use Rattle.serial_core.proofs.ReadingLemmas.{input_told, is_placed, other_told, variable_told}
 use Rattle.serial_core.proofs.serial.SerialCore.value.Goals as goal
 
@@ -20,9 +20,9 @@ returns-in-Some-Input c =
     let placed = is_placed (position (λ i. same_path path i.path) plan.inputs.items)
     (position (λ v. same_path path v.path) plan.variables.items) (Some (Input number)) at in
     let told = subst (λ (st : State). Some c.input.result
-    ≡ slice_get (last_image (first_image st.plan.inputs.items) (made st).rows) number) (sym c.self.view_is)
+    ≡ slice_get (last_image (first_image st.plan.inputs.items) (past_in st).rows) number) (sym c.self.view_is)
     c.input.ensures in
-    subst (λ (st : State). Some c.input.result ≡ seen (inputs_now st) (made st).store path) c.self.view_is
+    subst (λ (st : State). Some c.input.result ≡ seen (inputs_now st) (past_in st).store path) c.self.view_is
     (input_told c.self.invariant.0 path number c.input.result placed told)
 
 pub returns-in-Some-Variable : goal.returns-in-Some-Variable
@@ -37,7 +37,7 @@ returns-in-Some-Variable c =
     (position (λ v. same_path path v.path) plan.variables.items) (Some (Variable number)) at in
     let told = variable_told c.self.invariant.0 path (Some number) c.value_at.result (sym placed.1)
     (c.value_at.ensures ∙ ap (λ vs. slice_get vs number) c.deref-in-Some-Variable.ensures.value) in
-    subst (λ (st : State). c.value_at.result ≡ seen (inputs_now st) (made st).store path) c.self.view_is
+    subst (λ (st : State). c.value_at.result ≡ seen (inputs_now st) (past_in st).store path) c.self.view_is
     (other_told c.self.invariant.0 path c.value_at.result placed.0 told)
 
 pub returns-in-None : goal.returns-in-None
@@ -50,5 +50,5 @@ returns-in-None c =
     let placed = is_placed (position (λ i. same_path path i.path) plan.inputs.items)
     (position (λ v. same_path path v.path) plan.variables.items) None at in
     let told = variable_told c.self.invariant.0 path None None (sym placed.1) refl in
-    subst (λ (st : State). None ≡ seen (inputs_now st) (made st).store path) c.self.view_is
+    subst (λ (st : State). None ≡ seen (inputs_now st) (past_in st).store path) c.self.view_is
     (other_told c.self.invariant.0 path None placed.0 told)

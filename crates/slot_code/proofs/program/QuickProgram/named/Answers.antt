@@ -3,17 +3,14 @@ use Rattle.std.specs.Prelude.{Result, Ok, Err, IfOk}
 use Rattle.st_types.specs.declared.kind.Kind.{Kind}
 use Rattle.st_types.specs.Values.{Datum}
 use Rattle.quick_trees.specs.Windows.{IsWindow}
-use Rattle.quick_trees.proofs.Lists.{map_long}
 use Rattle.slot_code.specs.Quick.{AreIn, AreTyped, kinds_of}
 use Rattle.slot_code.proofs.Filled.{typed_in}
 use Rattle.slot_code.proofs.program.QuickProgram.named.Goals as goal
-
-weaker : {A E : Type 0} (r : Result A E) (P Q : A → Type 0) → ((x : A) → P x → Q x) → IfOk r P → IfOk r Q
-weaker (Ok x) P Q so h = so x h
-weaker (Err e) P Q so h = tt
+use Rattle.st_types.proofs.OptionLemmas.{ok_weaker}
+use Rattle.st_types.proofs.ListLemmas.{length_map}
 
 as_many : (slots : List Datum) (kinds : List Kind) → kinds_of slots ≡ kinds → length kinds ≡ length slots
-as_many slots kinds e = ap length (sym e) ∙ map_long (λ (v : Datum). v.kind) slots
+as_many slots kinds e = ap length (sym e) ∙ length_map (λ (v : Datum). v.kind) slots
 
 pub values_in-requires : goal.values_in-requires
 values_in-requires c =
@@ -30,6 +27,6 @@ returns c =
     c.values_in.ensures in
     record {
       values = is_in;
-      typed = weaker c.values_in.result _ _ (λ values is. subst (λ ks. AreTyped ks self.window values.items) c.requires
+      typed = ok_weaker c.values_in.result _ _ (λ values is. subst (λ ks. AreTyped ks self.window values.items) c.requires
           (typed_in self.window slots values.items is_window is)) is_in;
     }

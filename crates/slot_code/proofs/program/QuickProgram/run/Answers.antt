@@ -1,9 +1,9 @@
--- Words and notes tell what the instructions leave.
+-- Words and notes encode the values that the instructions leave.
 use Rattle.std.proofs.Common.{rules, ◌≡◌, length, map, take}
 use Rattle.quick_code.specs.QuickRuns.{left}
 use Rattle.quick_machine.specs.Going.{memory}
 use Rattle.slot_code.specs.Quick.{HasEnded, Wherever, frame_of, kinds_of, run_of}
-use Rattle.slot_code.specs.Told.{mark_of, values_of}
+use Rattle.slot_code.specs.WordValues.{mark_of, values_of}
 use Rattle.slot_code.proofs.Ran.{ends}
 use Rattle.slot_code.proofs.program.QuickProgram.run.Goals as goal
 

@@ -6,7 +6,7 @@ use Rattle.quick_code.specs.QuickRuns.{EndsWell, left}
 use Rattle.quick_machine.specs.Going.{memory}
 use Rattle.slot_code.specs.Quick.{AreTyped, HasEnded, QuickView, Wherever, frame_of, kinds_of, run_of}
 use Rattle.slot_code.specs.declared.parts.QuickParts.{QuickParts}
-use Rattle.slot_code.specs.Told.{AreHeld}
+use Rattle.slot_code.specs.WordValues.{AreHeld}
 use Rattle.slot_code.proofs.Words.{words_over}
 use Rattle.slot_code.proofs.Ran.{ended, has_room, notes_there, words_are_held, words_there}
 use Rattle.slot_code.proofs.program.QuickProgram.run_words.Goals as goal

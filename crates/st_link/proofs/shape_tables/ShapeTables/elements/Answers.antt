@@ -26,7 +26,7 @@ returns c text serves expanded =
     let deep = expanded_element text t a (sym made) expanded in
     record {
       shape = elements_shape text t a made expanded
-          ∙ ap₂ (λ l n. array l n (shape_of_type text (element_of a))) (sym lower) (sym c.count_of.ensures);
+          ∙ ap₂ (λ l n. array l n (shape_of_type text (element_of a))) (sym lower) (sym c.elements_of_array.ensures);
       stride = c.size_of_simple.ensures text serves deep;
       expanded = deep;
     }

@@ -4,7 +4,7 @@ use Rattle.st_meaning.specs.StandardBlocks.{block_of}
 use Rattle.symbols.specs.Found.{found}
 use Rattle.symbols.specs.Standard.{block_view}
 use Rattle.layout.specs.Compositions.{named_type}
-use Rattle.st_link.specs.Shapes.{IsWhole, standard_kept}
+use Rattle.st_link.specs.Shapes.{IsAggregate, standard_kept}
 use Rattle.st_link.proofs.UndeclaredLemmas.{undeclared_nothing, undeclared_whole}
 use Rattle.st_link.proofs.shape_tables.ShapeTables.kept.Goals as goal
 
@@ -23,7 +23,7 @@ returns-in-Some-standard_block c text at serves expanded =
     sym c.get.ensures ∙ ap (option_map (λ v. v.now)) c.in_default.is in
     let block : block_of x ≡ Some (block_view b) =
     sym c.standard_block.ensures ∙ ap (option_map block_view) c.in-Some-standard_block.is in
-    subst (IsWhole text (named_type x at)) (sym c.whole.ensures)
+    subst (IsAggregate text (named_type x at)) (sym c.aggregate.ensures)
     (undeclared_whole text x at (block_view b) (standard_kept c.args.self.now.standards b) (serves.all x absent) block
     expanded (serves.standards b text))
 

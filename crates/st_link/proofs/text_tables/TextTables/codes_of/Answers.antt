@@ -23,8 +23,8 @@ loop-variable-preserved c text globals x serves =
     let before = found c.loop-variable.codes x in
     let whole = sym (ap (map variable_view) (more_taken xs i v c.loop-variable-test.true c.variable-item.is)
     ∙ map-append variable_view (take i xs) (v ∷ [])) in
-    let code = c.block_behind.ensures text globals serves in
-    elim c.match-block_behind.branch [
+    let code = c.block_of_type.ensures text globals serves in
+    elim c.match-block_of_type.branch [
       | in-Some+in_ok-add w ↦
           subst (λ t. CodesFound text (map variable_view (take (i + 1) xs)) x (found t x)) (sym w.codes-is)
           (subst (λ vs. CodesFound text vs x (found w.add.new.self x)) whole

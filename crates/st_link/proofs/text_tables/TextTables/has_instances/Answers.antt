@@ -7,14 +7,14 @@ use Rattle.st_link.proofs.text_tables.TextTables.has_instances.Goals as goal
 
 pub returns-then-is_some : goal.returns-then-is_some
 returns-then-is_some c text globals serves =
-    some_there text c.args.variables.now c.loop-variable.variable-index c.variable-item.result c.block_behind.result
-    c.is_some.result c.loop-variable-test.true c.variable-item.is (c.block_behind.ensures text globals serves)
+    some_there text c.args.variables.now c.loop-variable.variable-index c.variable-item.result c.block_of_type.result
+    c.is_some.result c.loop-variable-test.true c.variable-item.is (c.block_of_type.ensures text globals serves)
     c.is_some.ensures c.if-is_some.true
 
 pub loop-variable-preserved : goal.loop-variable-preserved
 loop-variable-preserved c text globals serves =
-    none_more text c.args.variables.now c.loop-variable.variable-index c.variable-item.result c.block_behind.result
-    c.is_some.result c.loop-variable-test.true c.variable-item.is (c.block_behind.ensures text globals serves)
+    none_more text c.args.variables.now c.loop-variable.variable-index c.variable-item.result c.block_of_type.result
+    c.is_some.result c.loop-variable-test.true c.variable-item.is (c.block_of_type.ensures text globals serves)
     c.is_some.ensures c.if-is_some.false (c.loop-variable.invariant text globals serves)
 
 pub returns : goal.returns

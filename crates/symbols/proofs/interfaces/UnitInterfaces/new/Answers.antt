@@ -8,8 +8,9 @@ use Rattle.symbols.specs.Found.{found}
 use Rattle.symbols.specs.Agreeing.{Agree}
 use Rattle.symbols.specs.Interfaces.{IsInterface}
 use Rattle.symbols.proofs.AgreeLemmas.{agree_more}
-use Rattle.symbols.proofs.TextLemmas.{more_mapped, unit_named_append}
+use Rattle.symbols.proofs.TextLemmas.{unit_named_append}
 use Rattle.symbols.proofs.interfaces.UnitInterfaces.new.Goals as goal
+use Rattle.st_types.proofs.ListLemmas.{map_take_next}
 
 pub loop-unit-preserved : goal.loop-unit-preserved
 loop-unit-preserved c text has x =
@@ -22,7 +23,7 @@ loop-unit-preserved c text has x =
     agree_more (IsInterface text) (found c.loop-unit.interfaces x) (found c.add.new.self x) (unit_named before x)
     (unit_named (map (λ v. unit_view v.now) (take (i + 1) us)) x) _ (unit_view u.now) (bytes_eq x u.now.name.name)
     (c.in_ok-add.ensures.added x)
-    (ap (λ vs. unit_named vs x) (more_mapped (λ v. unit_view v.now) us i u lt is)
+    (ap (λ vs. unit_named vs x) (map_take_next (λ v. unit_view v.now) us i u lt is)
     ∙ unit_named_append before (unit_view u.now ∷ []) x)
     (c.in_ok-interface.ensures text has) (c.loop-unit.invariant text has x)
 

@@ -6,10 +6,11 @@ use Rattle.st_types.specs.SourceViews.{element_view}
 use Rattle.st_meaning.specs.NameTypes.{types_in, units_in, type_named}
 use Rattle.symbols.specs.Found.{found, or_found}
 use Rattle.symbols.specs.Texts.{type_found, unit_found}
-use Rattle.symbols.proofs.TextLemmas.{types_more, units_more, unit_added, or_none, append_none}
+use Rattle.symbols.proofs.TextLemmas.{types_more, units_more, unit_added, or_none}
 use Rattle.symbols.proofs.texts.TextNames.new.Goals as goal
 use Rattle.symbols.proofs.texts.TextNames.new.Goals.{in-Types+in_ok-add_types-in-Types, in-Unit+in_ok-add-in-Unit}
 use Rattle.symbols.proofs.texts.TextNames.new.Goals.{in-Configuration}
+use Rattle.std.proofs.lemmas.List.{append-nil}
 
 pub loop-element-preserved : goal.loop-element-preserved
 loop-element-preserved c =
@@ -27,7 +28,7 @@ loop-element-preserved c =
       | in-Types+in_ok-add_types-in-Types w ↦ (
         (λ q. types_more es i x q (type_found types_before q) (type_found types_now q)
             (map type_declaration_view w.in-Types.declared.items) lt is (inv.0 q)
-            (ap (λ e. types_in (element_view e ∷ [])) w.in-Types.is ∙ append_none _)
+            (ap (λ e. types_in (element_view e ∷ [])) w.in-Types.is ∙ append-nil _)
             (ap (λ t. type_found t q) w.types-is ∙ w.in_ok-add_types-in-Types.ensures q
             ∙ ap (λ ts. or_found (type_found types_before q) (type_named (map type_declaration_view ts) q))
             w.deref.ensures.value)),

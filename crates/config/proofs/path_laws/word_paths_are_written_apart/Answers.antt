@@ -1,5 +1,0 @@
-use Rattle.config.proofs.OnePath.{one_path}
-use Rattle.config.proofs.path_laws.word_paths_are_written_apart.Goals as goal
-
-pub returns : goal.returns
-returns c = one_path

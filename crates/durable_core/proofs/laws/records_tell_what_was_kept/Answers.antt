@@ -1,5 +1,0 @@
-use Rattle.durable_core.proofs.GivenBack.{told_again}
-use Rattle.durable_core.proofs.laws.records_tell_what_was_kept.Goals as goal
-
-pub returns : goal.returns
-returns c = told_again

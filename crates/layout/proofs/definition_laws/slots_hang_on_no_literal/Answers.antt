@@ -1,5 +1,0 @@
-use Rattle.layout.proofs.ResolvedLemmas.{slots_taken}
-use Rattle.layout.proofs.definition_laws.slots_hang_on_no_literal.Goals as goal
-
-pub returns : goal.returns
-returns c = slots_taken

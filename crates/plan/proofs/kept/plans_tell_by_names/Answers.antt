@@ -1,7 +1,0 @@
-use Rattle.plan.proofs.kept.plans_tell_by_names.Goals as goal
-
-pub returns-clause-instances : goal.returns-clause-instances
-returns-clause-instances c plan = plan.sound.instances
-
-pub returns-clause-values : goal.returns-clause-values
-returns-clause-values c plan = plan.sound.values

@@ -1,5 +1,0 @@
-use Rattle.source_run.proofs.CodeLemmas.{told_apart}
-use Rattle.source_run.proofs.code.codes_are_told_apart.Goals as goal
-
-pub returns : goal.returns
-returns c = told_apart

@@ -1,5 +1,0 @@
-use Rattle.st_link.proofs.UnitHomeLemmas.{block_homes}
-use Rattle.st_link.proofs.homes.blocks_stand_in_their_instances.Goals as goal
-
-pub returns : goal.returns
-returns c = block_homes

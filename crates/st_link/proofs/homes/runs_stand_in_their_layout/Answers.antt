@@ -1,5 +1,0 @@
-use Rattle.st_link.proofs.WellTypedRunLaw.{runs_stand}
-use Rattle.st_link.proofs.homes.runs_stand_in_their_layout.Goals as goal
-
-pub returns : goal.returns
-returns c = runs_stand
