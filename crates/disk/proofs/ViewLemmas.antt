@@ -225,7 +225,7 @@ module _ (bytes new torn : List ℕ) (touched : List Bool) (len synced wanted si
     kept = λ i low synced_there. at_place i low ∙ kept i (sym (flag_at i low) ∙ synced_there) ∙ sym (byte_at i low);
   }
 
--- the same of a slice that kept its length
+-- the same for a slice that kept its length
 pub same_items_of : {X : Type 0} (old new : List X) (n : ℕ) → length old ≡ n → length new ≡ length old
     → take n (new ++ drop (length new) old) ≡ new
 same_items_of old new n long same = same_items old new n long (same ∙ long)

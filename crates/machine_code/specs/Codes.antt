@@ -196,7 +196,7 @@ module _ (units : CodeUnits) (site : UnitFrame) where
         let rest = arms_code arms w to c in
         expr_code e (stmts_code body w (rest ◂ Jump to) ◂ JumpIfFalse (length rest))
 
-    -- the same of lists of labels; the selector is on the stack until statements are chosen
+    -- the same for lists of labels; the selector is on the stack until statements are chosen
     pub case_code : SlotCaseArms → JumpTargets → ℕ → Code → Code
     case_code no_case_arms w to c = c
     case_code (case_arm_then labels body arms) w to c =

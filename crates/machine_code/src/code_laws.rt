@@ -24,7 +24,7 @@ pub fn code_does_what_its_program_does()
         (runs plain stuck_faults now code (length code) [] (vs ++ rest) budget) }
 {}
 
-/// The same of the machine that marks, beside the program over marked slots: if it ends well, it has also the marks of the
+/// The same for the machine that marks, beside the program over marked slots: if it ends well, it has also the marks of the
 /// program's slots, whatever marks follow them.
 pub fn marked_code_does_what_its_program_does()
     ensures { (stuck_faults : StuckFaults) (library : SlotLibrary) (base : ℕ) (body : SlotStmts) (now n depth memory : ℕ)

@@ -31,7 +31,7 @@ asks_for_reads plan n p snapshot there code effect k l of at nobody read =
     (subst (λ x. IsOnlyLookedUp x.instrs.value.items k) (sym code) (kept.reads.looked_up k l at nobody))
     (ap (list_any (λ c. c.0 == k)) (sym of.reads) ∙ read) nobody
 
--- The same of a quick snapshot, over values of all slots that agree with those it has for the names of the code.
+-- The same for a quick snapshot, over values of all slots that agree with those it has for the names of the code.
 pub asks_for_quick_reads : (plan : Plan) (n : ℕ) (p : ProgramInstance) (slots : List Datum) (quick : QuickSnapshot)
     → slice_get plan.programs.items n ≡ Some p → quick.code.value ≡ p.code.value
     → kinds_of slots ≡ quick.code.value.kinds.value.items

@@ -33,7 +33,7 @@ abbrev pub ReadsAreAskedFor : Plan → Snapshot → Type 0
 ReadsAreAskedFor plan snapshot = (p : ProgramInstance)
     → slice_get plan.programs.items snapshot.activation.program ≡ Some p → AsksForReads plan p snapshot
 
--- The same of an execution of a quick snapshot, over the variables and inputs with these values of all slots.
+-- The same for an execution of a quick snapshot, over the variables and inputs with these values of all slots.
 abbrev pub AsksForQuickReads : Plan → ProgramInstance → List Datum → QuickSnapshot → Type 0
 AsksForQuickReads plan p slots quick = (effect : Effect) (k : ℕ) (l : Slot) → IsQuickEffectOf quick effect
     → slice_get (slots_of_plan plan) k ≡ Some l → l.path.owner ≡ None → Reads effect k

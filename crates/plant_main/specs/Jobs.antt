@@ -94,7 +94,7 @@ file_shown sights.Last file = shown_text (recovered file)
 file_shown sights.Both file = areas_shown file
 file_shown (sights.Against plan) file = against_shown plan (recovered file)
 
--- the same of the bytes of some file
+-- the same for the bytes of some file
 abbrev pub IsSeen : Sight → List ℕ → Type 0
 IsSeen sight told = (file : List ℕ) × (told ≡ file_shown sight file)
 

@@ -82,7 +82,7 @@ fn check_inputs(
     Ok(inputs)
 }
 
-/// The same of an argument, after the inputs before it: from which depth on temporaries are free then.
+/// The same for an argument, after the inputs before it: from which depth on temporaries are free then.
 #[cycle(check)]
 fn check_argument(
     draft: &QuickDraft,
@@ -164,7 +164,7 @@ fn check_block(
     }
 }
 
-/// The same of a block of the text: its body takes the place of the call, with calls one less deep, and RETURN leads to the
+/// The same for a block of the text: its body takes the place of the call, with calls one less deep, and RETURN leads to the
 /// code after it.
 #[cycle(check)]
 fn check_own(

@@ -126,7 +126,7 @@ pub fn check_case(
     Ok(())
 }
 
-/// The same of all arms.
+/// The same for all arms.
 #[cycle(check)]
 fn check_case_arms(
     draft: &QuickDraft,

@@ -58,7 +58,7 @@ pub fn check_test(
     }
 }
 
-/// The same of a BOOL that is read.
+/// The same for a BOOL that is read.
 #[cycle(check)]
 fn check_bool(
     draft: &QuickDraft,
@@ -91,7 +91,7 @@ fn bool_tested(draft: &QuickDraft, at: &Cursor, when: bool, word: u16) -> Result
     Ok(leg)
 }
 
-/// The same of an operator on two expressions.
+/// The same for an operator on two expressions.
 #[cycle(check)]
 fn check_compared(
     draft: &QuickDraft,

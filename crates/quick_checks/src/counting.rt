@@ -596,15 +596,9 @@ pub fn check_for(
     }
     let free = deeper(below)?;
     let pace = check_pace(draft, library, scope, target.kind, step, free, at)?;
-    expect(
-        draft,
-        at,
-        QuickInstr::Move {
-            from: from.word,
-            to: target.word,
-        },
-    )?;
-    assign(&scope.values, at, target.word)?;
+    let (from, to) = (from.word, target.word);
+    expect(draft, at, QuickInstr::Move { from, to })?;
+    assign(&scope.values, at, to)?;
     let within = inside(pace, depth)?;
     let count = Count {
         control: target,

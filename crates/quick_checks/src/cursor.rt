@@ -340,7 +340,7 @@ fn note_look(at: &mut Cursor, word: u16) -> Result<(), Refusal>
     step(at)
 }
 
-/// The same of an assignment.
+/// The same for an assignment.
 fn note_assignment(at: &mut Cursor, word: u16) -> Result<(), Refusal>
     ensures next { OnOk result (point_of at.new ≡ record (next (point_of at.old)) { noted = at.new.noted.items }) }
     ensures changes { OnOk result

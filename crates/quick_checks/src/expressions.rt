@@ -215,7 +215,7 @@ pub fn expect_load(
     Ok(())
 }
 
-/// The same of the instruction that assigns to an element.
+/// The same for the instruction that assigns to an element.
 pub fn expect_store(
     draft: &QuickDraft,
     at: &mut Cursor,

@@ -154,7 +154,7 @@ pub fn check_copied(
     Ok(())
 }
 
-/// The same of an argument, before others.
+/// The same for an argument, before others.
 fn check_output(
     draft: &QuickDraft,
     values: &Values,

@@ -38,7 +38,7 @@ pub fn constant_of(draft: &QuickDraft, kind: Kind, number: i128) -> Result<u16, 
     Err(Refusal::Other)
 }
 
-/// The same of a number without a sign.
+/// The same for a number without a sign.
 pub fn natural_of(draft: &QuickDraft, kind: Kind, number: u64) -> Result<u16, Refusal>
     ensures { IfOk result (λ k. (now : ℕ) → IsNumberAt (frame_of draft.now now) kind (pos number) k) }
 {

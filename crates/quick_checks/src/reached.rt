@@ -67,7 +67,7 @@ pub fn expect_located(
     Ok(())
 }
 
-/// The same of an element of an array that is already at an offset.
+/// The same for an element of an array that is already at an offset.
 pub fn expect_located_nested(
     draft: &QuickDraft,
     at: &mut Cursor,
@@ -97,7 +97,7 @@ pub fn expect_located_nested(
     Ok(())
 }
 
-/// The same of the instruction that loads such an element, or assigns to it.
+/// The same for the instruction that loads such an element, or assigns to it.
 pub fn expect_access(
     draft: &QuickDraft,
     at: &mut Cursor,

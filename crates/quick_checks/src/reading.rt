@@ -90,7 +90,7 @@ pub fn check_read(
     }
 }
 
-/// The same of a conversion to a wider type.
+/// The same for a conversion to a wider type.
 #[cycle(check)]
 fn check_converted(
     draft: &QuickDraft,
@@ -185,7 +185,7 @@ pub fn check_made(
     }
 }
 
-/// The same of an operator on two expressions.
+/// The same for an operator on two expressions.
 #[cycle(check)]
 pub fn check_binary(
     draft: &QuickDraft,
@@ -237,7 +237,7 @@ pub fn check_binary(
     Ok(left.kind)
 }
 
-/// The same of an element of an array.
+/// The same for an element of an array.
 #[cycle(check)]
 pub fn check_fetched(
     draft: &QuickDraft,
@@ -293,7 +293,7 @@ fn set_here(
     }
 }
 
-/// The same of a constant.
+/// The same for a constant.
 fn made_constant(
     draft: &QuickDraft,
     expression: &SlotExpr,

@@ -69,7 +69,7 @@ fn read_notes_before(
     }
 }
 
-/// The same of a statement.
+/// The same for a statement.
 #[cycle(check)]
 fn check_stmt(
     draft: &QuickDraft,
@@ -151,7 +151,7 @@ fn check_stmt(
     Ok(())
 }
 
-/// The same of an assignment to a variable without subscripts, but for its tick.
+/// The same for an assignment to a variable without subscripts, but for its tick.
 #[cycle(check)]
 fn check_assigned(
     draft: &QuickDraft,
@@ -174,7 +174,7 @@ fn check_assigned(
     Ok(())
 }
 
-/// The same of an assignment to an element.
+/// The same for an assignment to an element.
 #[cycle(check)]
 fn check_stored(
     draft: &QuickDraft,
@@ -201,7 +201,7 @@ fn check_stored(
     Ok(())
 }
 
-/// The same of the arms of an IF, and of the statements that run if no condition holds.
+/// The same for the arms of an IF, and of the statements that run if no condition holds.
 #[cycle(check)]
 fn check_if(
     draft: &QuickDraft,
@@ -241,7 +241,7 @@ fn check_if(
     Ok(())
 }
 
-/// The same of a WHILE.
+/// The same for a WHILE.
 #[cycle(check)]
 fn check_while(
     draft: &QuickDraft,
@@ -277,7 +277,7 @@ fn check_while(
     Ok(())
 }
 
-/// The same of a REPEAT.
+/// The same for a REPEAT.
 #[cycle(check)]
 fn check_repeat(
     draft: &QuickDraft,

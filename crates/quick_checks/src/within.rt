@@ -171,7 +171,7 @@ fn check_led(
     Ok(())
 }
 
-/// The same of further subscripts.
+/// The same for further subscripts.
 #[cycle(check)]
 fn check_led_on(
     draft: &QuickDraft,

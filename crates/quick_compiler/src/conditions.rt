@@ -61,7 +61,7 @@ pub fn put_test(
     }
 }
 
-/// The same of a comparison.
+/// The same for a comparison.
 #[cycle(draft)]
 fn put_compared(
     unit: Unit,

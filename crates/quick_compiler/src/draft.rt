@@ -191,7 +191,7 @@ impl Draft {
         Ok(())
     }
 
-    /// The same of an assignment.
+    /// The same for an assignment.
     pub fn note_assignment(&mut self, word: u16) -> Result<(), Stop> {
         if let Some(noting) = self.known.at(word as usize)?.with_assignment_ahead() {
             self.sheet.put(QuickInstr::NoteWritten { word })?;

@@ -64,7 +64,7 @@ pub fn put_small_by(
     Ok(true)
 }
 
-/// The same of two numbers.
+/// The same for two numbers.
 pub fn put_small(
     unit: Unit,
     draft: &mut Draft,

@@ -212,7 +212,7 @@ fn put_if(
     draft.keep_here(landing)
 }
 
-/// The same of statements that are one way of several. The last one goes on to their common end.
+/// The same for statements that are one way of several. The last one goes on to their common end.
 #[cycle(draft)]
 fn put_arm(
     unit: Unit,

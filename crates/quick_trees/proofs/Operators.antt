@@ -141,7 +141,7 @@ kept_is s z w e = by_test (holds (kind_of s) z) refl e
         }
     by_test false h e = absurd cc
 
--- the same of a quotient
+-- the same for a quotient
 divided_is : (s : Signed) (x y w : ℤ) → divided y (kept s (int_div x y)) ≡ Some w
     → IsResult (quotient (kind_of s) x y) (kind_of s) w
 divided_is s x y w e = by_test (int_eq y (pos 0)) e
@@ -205,7 +205,7 @@ remainder_typed s x y w h e = by_test (int_eq y (pos 0)) refl e
         let same = kept_same signed.Lint r w (holds (kind_of signed.Lint) r) e in
         ap (λ t. if t then Some r else None) (remainder_held s x y h (unequal y z)) ∙ ap (λ n. Some n) same
 
--- the same of a remainder
+-- the same for a remainder
 remainder_by : (s : Signed) (x y w : ℤ) (t : Bool) → int_eq y (pos 0) ≡ t
     → (if t then None else kept s (int_rem x y)) ≡ Some w → IsResult (in_range (kind_of s) (remainder x y)) (kind_of s)
     w

@@ -40,7 +40,7 @@ CountsUp f t k n limit w past p =
     ((t ≡ Int) × (slice_get f.code p ≡ Some (CountUpInt k n limit w past)))
     ⊎ ((t ≡ Dint) × (slice_get f.code p ≡ Some (CountUpDint k n limit w past)))
 
--- the same of a step below 0
+-- the same for a step below 0
 abbrev pub CountsDown : Frame → Kind → ℕ → ℤ → ℕ → Way → ℕ → ℕ → Type 0
 CountsDown f t k n limit w past p =
     ((t ≡ Int) × (slice_get f.code p ≡ Some (CountDownInt k n limit w past)))

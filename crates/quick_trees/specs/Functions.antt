@@ -186,7 +186,7 @@ pub record IsComputedWithin (f : Frame) (Left Right : Reading) (op : BinaryOpera
   pub moves : IsMovedWithin f t d to (suc last.place)
   pub is : q ≡ next (next last)
 
--- The same of a number and a constant.
+-- The same for a number and a constant.
 pub record IsComputedByWithin (f : Frame) (Left : Reading) (op : BinaryOperator) (t : Kind) (r : SlotExpr) (d to : ℕ)
     (p q : Point) : Type 0 where
   pub left : ℕ

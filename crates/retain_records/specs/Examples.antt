@@ -31,7 +31,7 @@ dint z = record { kind = Dint; number = z }
 abbrev pub at : List ℕ → Datum → Store
 at name d = (unowned name, d) ∷ []
 
--- `n : INT` retained; the same of DINT; not retained; and with a retained `k : INT := 7` before it
+-- `n : INT` retained; the same for DINT; not retained; and with a retained `k : INT := 7` before it
 abbrev pub of_int : Plan
 of_int = of_globals [] (global (codes "N") (int (pos 0)) true ∷ [])
 

@@ -190,7 +190,7 @@ fn changes_over(alloc: Global, text: &Text<'_>, last: &Record) -> io::Result<Opt
     Ok(Some(changes))
 }
 
-/// The same of the bytes of a file.
+/// The same for the bytes of a file.
 fn text_changes(
     alloc: Global,
     text: &Text<'_>,

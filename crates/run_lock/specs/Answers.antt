@@ -10,7 +10,7 @@ committed_by (Ok (Committed n)) = 1
 committed_by (Ok Stale) = 0
 committed_by (Err refusal) = 0
 
--- the same of a commit in one step
+-- the same for a commit in one step
 abbrev pub committed_here : Result (Option ℕ) Refusal → ℕ
 committed_here (Ok (Some n)) = 1
 committed_here (Ok None) = 0

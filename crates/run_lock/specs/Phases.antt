@@ -46,7 +46,7 @@ IsCauseIn (Refused (Serial NoMemory)) core = Unit {0}
 IsCauseIn NotStarted core = Unit {0}
 IsCauseIn NotSettled core = Unit {0}
 
--- the same of a run that may go on, or that has come to its end
+-- the same for a run that may go on, or that has come to its end
 abbrev pub IsStoppedFor : {D : Type 0} → Phase → CoreView D → Type 0
 IsStoppedFor Running core = Unit {0}
 IsStoppedFor Ended core = Unit {0}

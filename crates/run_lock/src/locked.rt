@@ -113,7 +113,7 @@ pub fn count_of(answer: &Result<Answer, Refusal>) -> u64
     }
 }
 
-/// The same of a commit in one step.
+/// The same for a commit in one step.
 pub fn count_here(answer: &Result<Option<usize>, Refusal>) -> u64
     ensures counts { result ≡ committed_here answer.now }
     ensures small { result ≤ 1 }

@@ -14,7 +14,7 @@ pushed_turn f g xs i x all now next h is before more =
     ∙ append_assoc now (f (g x)) (flat_map f (map g (drop (i + 1) xs)))
     ∙ ap (λ ys. now ++ flat_map f ys) (sym (map_drop_next g xs i x h is)) ∙ before
 
--- the same of a tree that is made of a list
+-- the same for a tree that is made of a list
 pub tree_turn : {A B C T : Type 0} (f : T → List C) (tree : List B → T) (of : B → List C) (g : A → B)
     → ((y : B) (ys : List B) → f (tree (y ∷ ys)) ≡ of y ++ f (tree ys))
     → (xs : List A) (i : ℕ) (x : A) (all now next : List C) → i < length xs → x ≡ slice_index_or xs i x

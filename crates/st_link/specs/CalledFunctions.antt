@@ -81,7 +81,7 @@ if_room n = if nat_lt MAX_PATHS n then 0 else n
 abbrev pub values_of_call : Declared → SimpleType → OrganisationUnit → ℕ
 values_of_call text t u = if_room (slots_taken text (result_of u.name.name t ∷ variables_of_blocks u.blocks))
 
--- the same of a unit that is a function and called
+-- the same for a unit that is a function and called
 abbrev pub values_by : (Name → Bool) → Declared → UnitSort → OrganisationUnit → ℕ
 values_by called text (Function t) u = if called u.name.name then values_of_call text t u else 0
 values_by called text FunctionBlock u = 0

@@ -31,7 +31,7 @@ abbrev pub take : {A : Type 0} → Result A Fault → Run A
 take (Ok a) = give a
 take (Err e) = fault e
 
--- the same of a part that may fail in a way that no well-typed text meets
+-- the same for a part that may fail in a way that no well-typed text meets
 abbrev pub attempt : {A : Type 0} → StuckFaults → Result A Failure → Run A
 attempt stuck_faults (Ok a) = give a
 attempt stuck_faults (Err e) = fault (fault_for stuck_faults e)

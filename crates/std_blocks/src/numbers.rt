@@ -52,7 +52,7 @@ pub fn bits(a: Value) -> u64
     if word < 0 { 0 } else { word as u64 }
 }
 
-/// The same of any type.
+/// The same for any type.
 fn bits_of_number(a: Value) -> u64
     ensures { result ≡ natural a.number }
 {

@@ -32,9 +32,9 @@
 //!
 //! - `sim: write 5 \09\09, sync, read 0 2, len`: calls of a simulated disk with the file; how many have failed, and the
 //!   file that is left
-//! - `real: len`, `slow: len`, `deaf: len`, `broken: len`: the same of a file of the system; of one that moves a byte a
+//! - `real: len`, `slow: len`, `deaf: len`, `broken: len`: the same for a file of the system; of one that moves a byte a
 //!   call, that can be neither read nor written, or all of whose calls fail
-//! - `new: len`, `folderless`: the same of a file of the system that isn't there; one in a folder that isn't there
+//! - `new: len`, `folderless`: the same for a file of the system that isn't there; one in a folder that isn't there
 //! - `plant t,S\0A0,1\0A`: the rows of a recorded plant, or its refusal; with `fails 8` its reader fails when 8 bytes
 //!   are left
 //! - `rows 10000`: how many are read of a plant with that number of rows

@@ -82,7 +82,7 @@ instance_text (Some p) = p.owner.resource ++ codes "/" ++ p.owner.instance
 abbrev pub ending_text : ℕ → Option Outcome → List ℕ
 ending_text row outcome = line (codes " " ++ decimal row ++ codes " " ++ outcome_text outcome)
 
--- the same of a row and an outcome, without the space before them
+-- the same for a row and an outcome, without the space before them
 abbrev pub row_outcome_text : ℕ × Outcome → List ℕ
 row_outcome_text told = (decimal told.0 ++ 32 ∷ []) ++ line (outcome_text (Some told.1))
 
