@@ -164,7 +164,7 @@ def rows_of(page, title):
     """The rows of all tables under a title of the page, by their cells."""
     part = page.split(f"\n## {title}\n")[1].split("\n## ")[0]
     cells = [[cell.strip() for cell in line.strip("|").split(" | ")] for line in part.splitlines() if line.startswith("| ")]
-    return [row for row in cells if re.fullmatch(r"[A-Z]\d+", row[0])]
+    return [row for row in cells if re.fullmatch(r"[A-Z]\d+", row[0])] or fail(f"no code under {title}")
 
 
 def main():
