@@ -9,5 +9,5 @@ save-saved-requires-clause-room c =
       body_fits c.moment.result c.layout-layout.result.now c.values-values.result.now,
       c.if-values-gt-VALUES.false,
       c.if-layout-values.false,
-      c.in-Ok.ensures.room,
+      c.in-Ok.ensures.opened.room_is,
     )
