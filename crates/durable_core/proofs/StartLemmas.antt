@@ -1,10 +1,10 @@
 -- Starting a core.
-use Rattle.std.proofs.Common.{◌≡◌, ℕ, ◌+◌, List, [], map, Option, Some, None, inl, inr, refl, sym, ap, subst, ◌∙◌}
-use Rattle.std.proofs.Common.{arith}
+use Rattle.std.proofs.Common.{◌≡◌, ℕ, ◌+◌, ◌-◌, ◌^◌, ◌≤◌, List, [], length, map, Option, Some, None, inl, inr}
+use Rattle.std.proofs.Common.{refl, sym, ap, subst, ◌∙◌, arith, false}
 use Rattle.st_meaning.specs.Stores.{Store}
 use Rattle.st_meaning.specs.Restarts.{Kept, kept, warm_start}
 use Rattle.retain_records.specs.Records.{Content}
-use Rattle.retain_store.specs.Recovered.{Recovered, TooLong, Refused, Nothing, Found}
+use Rattle.retain_store.specs.Recovered.{Recovered, TooLong, Refused, Nothing, Found, recovered}
 use Rattle.retain_store.specs.Kept.{record_in, IsLast}
 use Rattle.plan.specs.declared.plan.Plan.{Plan}
 use Rattle.plan.specs.PlanViews.{plan_view}
@@ -16,12 +16,20 @@ use Rattle.retain_records.specs.ContentLines.{kept_in}
 use Rattle.durable_core.proofs.RecordedLemmas.{typed}
 use Rattle.durable_core.proofs.RecordLemmas.{known_kinds, told_in_order}
 use Rattle.durable_core.specs.Restart.{IsOfPlan, Survives, fresh_state, layout_text_of, record_now, warm}
-use Rattle.durable_core.specs.Starting.{CanStart, HasOtherLayout, LeftByStart, StartKeeps, RefusesStart, Saves, IsLastGeneration}
+use Rattle.durable_core.specs.Starting.{CanStart, HasOtherLayout, IsLeftByStart, LeftByStart, StartKeeps, RefusesStart}
+use Rattle.durable_core.specs.Starting.{Saves, WritesOver, WritesOrStays, IsLastGeneration}
 use Rattle.durable_core.specs.Starting.{IsStart, IsOutOfMemory, next_generation, start_in, start_of, start_record, started}
 use Rattle.durable_core.specs.declared.refusal.StartFault.{StartFault}
 use Rattle.durable_core.specs.declared.refusal.StartFault.TheVariants as faults
 use Rattle.retain_store.specs.declared.fault.StoreFault.TheVariants as stores
-use Rattle.retain_store.specs.Opening.{KeepsRecord}
+use Rattle.retain_store.specs.declared.fault.StoreFault.{StoreFault}
+use Rattle.retain_store.specs.declared.shape.TheConstants.{FILE_BYTES}
+use Rattle.retain_store.specs.Opening.{IsLeftByOpening, KeepsRecord, KeepsUnlessShort}
+use Rattle.retain_store.specs.Stores.{IsUnsaved, RefusesSave}
+use Rattle.retain_store.specs.Kept.{StoreView}
+use Rattle.retain_store.proofs.Formats.{long_too_long}
+use Rattle.disk.specs.Runs.{LeavesOnly, weakens}
+use Rattle.std.proofs.lemmas.Bool.{cases_eq}
 use Rattle.durable_core.specs.declared.starting.StartMode.{StartMode}
 use Rattle.durable_core.specs.declared.starting.StartMode.TheVariants.{Warm}
 use Rattle.retain_store.specs.Areas.{IsEither}
@@ -166,28 +174,145 @@ last_kept Refused first old h kept = absurd h
 last_kept Nothing first old h kept = absurd h
 last_kept (Found generation content) first old h kept = kept
 
-saved_keeps : (mode : StartMode) (plan : Plan) (last : Recovered) (generation : ℕ) (fault : StartFault) (first old new : List ℕ)
-    → IsLast generation last → KeepsRecord last first old → RefusesStart mode plan last fault
-    → (IsOutOfMemory fault → ⊥) → StartKeeps fault old new → StartKeeps fault first new
-saved_keeps mode plan last generation (faults.Store stores.TooLong) first old new is kept h full same =
-    absurd (subst (λ (r : Recovered). IsLast generation r) h is)
-saved_keeps mode plan last generation (faults.Store stores.Damaged) first old new is kept h full same =
-    absurd (subst (λ (r : Recovered). IsLast generation r) h is)
-saved_keeps mode plan last generation (faults.Store stores.Device) first old new is kept h full same = tt
-saved_keeps mode plan last generation (faults.Store stores.Generations) first old new is kept h full same =
-    same ∙ last_kept last first old h.1 kept
-saved_keeps mode plan last generation (faults.Store stores.NoMemory) first old new is kept h full same =
-    absurd (full (inr refl))
-saved_keeps mode plan last generation (faults.Store stores.Failed) first old new is kept h full same = absurd h
-saved_keeps mode plan last generation faults.NoMemory first old new is kept h full same = absurd (full (inl refl))
+-- a start that writes over a record has a generation left
+used_up : (mode : StartMode) (plan : Plan) (last : Recovered) → WritesOver mode plan last → IsLastGeneration last → ⊥
+used_up mode plan TooLong writes h = h
+used_up mode plan Refused writes h = h
+used_up mode plan Nothing writes h = h
+used_up mode plan (Found generation content) writes h = writes.1 writes.0 h
 
-pub saved_unwritten : {C D : Type 0} (r : Result C (StartFault × D)) (seen : D → List ℕ) (P : C → Type 0) (mode : StartMode) (plan : Plan)
-    (last : Recovered) (generation : ℕ) (first old : List ℕ) → IsLast generation last → KeepsRecord last first old
-    → MatchResult r P (λ e. RefusesStart mode plan last e.0) → IfErr r (λ e. IsOutOfMemory e.0 → ⊥)
-    → IfErr r (λ e. StartKeeps e.0 old (seen e.1)) → IfErr r (λ e. StartKeeps e.0 first (seen e.1))
-saved_unwritten (Ok x) seen P mode plan last generation first old is kept h full same = tt
-saved_unwritten (Err e) seen P mode plan last generation first old is kept h full same =
-    saved_keeps mode plan last generation e.0 first old (seen e.1) is kept h full same
+-- an opened file is as it was, unless it was too short
+opened_kept : (last : Recovered) (generation : ℕ) (first old : List ℕ) → IsLast generation last → last ≡ recovered first
+    → KeepsRecord last first old → FILE_BYTES ≤ length first → old ≡ first
+opened_kept TooLong generation first old is found kept whole = absurd is
+opened_kept Refused generation first old is found kept whole = absurd is
+opened_kept (Found g content) generation first old is found kept whole = kept
+opened_kept Nothing generation first old is found kept whole = elim (cases_eq (length first) FILE_BYTES) [
+  | inl same ↦ kept.0 same
+  | inr other ↦ let long : recovered first ≡ TooLong = long_too_long first (omega arith) in
+      let no : Nothing ≡ TooLong = found ∙ long in cc
+]
+
+-- the start that was refused after the store was opened
+module _ {D : Type 0} (seen : D → List ℕ) (mode : StartMode) (plan : Plan) (last : Recovered) (generation : ℕ)
+    (first : List ℕ) (opened : D) (is : IsLast generation last) (found : last ≡ recovered first)
+    (kept : KeepsRecord last first (seen opened)) where
+  saved_keeps : (fault : StartFault) (new : D) → RefusesStart mode plan last fault → (IsOutOfMemory fault → ⊥)
+      → WritesOrStays mode plan last opened new → StartKeeps mode plan fault first (seen new)
+  saved_keeps (faults.Store stores.TooLong) new h full w = absurd (subst (λ (r : Recovered). IsLast generation r) h is)
+  saved_keeps (faults.Store stores.Damaged) new h full w = absurd (subst (λ (r : Recovered). IsLast generation r) h is)
+  saved_keeps (faults.Store stores.Device) new h full (inl writes) =
+      λ whole no. absurd (no (subst (WritesOver mode plan) found writes))
+  saved_keeps (faults.Store stores.Device) new h full (inr stays) =
+      λ whole no. ap seen stays ∙ opened_kept last generation first (seen opened) is found kept whole
+  saved_keeps (faults.Store stores.Generations) new h full (inl writes) = absurd (used_up mode plan last writes h.1)
+  saved_keeps (faults.Store stores.Generations) new h full (inr stays) =
+      ap seen stays ∙ last_kept last first (seen opened) h.1 kept
+  saved_keeps (faults.Store stores.NoMemory) new h full w = absurd (full (inr refl))
+  saved_keeps (faults.Store stores.Failed) new h full w = absurd h
+  saved_keeps faults.NoMemory new h full w = absurd (full (inl refl))
+
+  pub saved_unwritten : {C : Type 0} (r : Result C (StartFault × D)) (P Q : C → Type 0)
+      → MatchResult r P (λ e. RefusesStart mode plan last e.0) → IfErr r (λ e. IsOutOfMemory e.0 → ⊥)
+      → MatchResult r Q (λ e. WritesOrStays mode plan last opened e.1)
+      → IfErr r (λ e. StartKeeps mode plan e.0 first (seen e.1))
+  saved_unwritten (Ok x) P Q h full w = tt
+  saved_unwritten (Err e) P Q h full w = saved_keeps e.0 e.1 h full w
+
+-- a refusal of opening is one of the start
+pub open_unwritten : (mode : StartMode) (plan : Plan) (fault : StoreFault) (old new : List ℕ)
+    → KeepsUnlessShort fault old new → StartKeeps mode plan (faults.Store fault) old new
+open_unwritten mode plan stores.TooLong old new same = same
+open_unwritten mode plan stores.Damaged old new same = same
+open_unwritten mode plan stores.Device old new same = λ whole no. same whole
+open_unwritten mode plan stores.Generations old new same = same
+open_unwritten mode plan stores.NoMemory old new same = same
+open_unwritten mode plan stores.Failed old new same = same
+
+-- a save that failed in the device had a generation left
+can_save : (mode : StartMode) (plan : Plan) (last : Recovered) (generation : ℕ) → IsLast generation last
+    → (generation ≡ 2 ^ 64 - 1 → ⊥) → CanStart mode plan last
+can_save mode plan TooLong generation is left = absurd is
+can_save mode plan Refused generation is left = absurd is
+can_save mode plan Nothing generation is left = tt
+can_save mode plan (Found g content) generation is left = λ saves at_end. left (sym is.0 ∙ at_end)
+
+-- a save that failed made no call of the disk, or it had a generation left
+pub save_writes_or_stays : {D : Type 0} (mode : StartMode) (plan : Plan) (fault : StoreFault) (content : Content)
+    (old new : StoreView D) → IsUnsaved fault content old new → RefusesSave (Err fault) old → old.failed ≡ false
+    → IsLast old.generation old.last → Saves mode plan old.last
+    → WritesOrStays mode plan old.last old.disk new.disk
+save_writes_or_stays mode plan stores.TooLong content old new un refused ok is saves = absurd un.tried
+save_writes_or_stays mode plan stores.Damaged content old new un refused ok is saves = absurd un.tried
+save_writes_or_stays mode plan stores.Device content old new un refused ok is saves =
+    inl (
+      saves,
+      can_save mode plan old.last old.generation is (λ at_end.
+          let no : ◌≡◌ {A = Result (Unit {0}) StoreFault} (Err stores.Device) (Err stores.Generations) =
+          refused.used_up.1 (ok, at_end) in cc),
+    )
+save_writes_or_stays mode plan stores.Generations content old new un refused ok is saves = inr un.tried.1
+save_writes_or_stays mode plan stores.NoMemory content old new un refused ok is saves = absurd un.tried
+save_writes_or_stays mode plan stores.Failed content old new un refused ok is saves =
+    inr (ap (λ (s : StoreView _). s.disk) un.tried)
+
+-- the same plan over the same file
+writes_same : (mode : StartMode) (plan own : Plan) (before last : Recovered) → own ≡ plan → last ≡ before
+    → WritesOver mode own last → WritesOver mode plan before
+writes_same mode plan own before last one same writes =
+    subst (λ (q : Plan). WritesOver mode q before) one (subst (λ (f : Recovered). WritesOver mode own f) same writes)
+
+pub stays_same : {D : Type 0} (mode : StartMode) (plan own : Plan) (before last : Recovered) (old new : D) → own ≡ plan
+    → last ≡ before → WritesOrStays mode own last old new → WritesOrStays mode plan before old new
+stays_same mode plan own before last old new one same (inl writes) =
+    inl (writes_same mode plan own before last one same writes)
+stays_same mode plan own before last old new one same (inr stays) = inr stays
+
+-- a start that saves first, and could
+pub writes_or_stays : {C D : Type 0} (r : Result C (StartFault × D)) (disk : C → D) (mode : StartMode) (plan : Plan)
+    (last : Recovered) (opened : D) (R : StartFault × D → Type 0) → Saves mode plan last
+    → MatchResult r (λ _. CanStart mode plan last) R → IfErr r (λ e. WritesOrStays mode plan last opened e.1)
+    → MatchResult r (λ core. WritesOrStays mode plan last opened (disk core))
+    (λ e. WritesOrStays mode plan last opened e.1)
+writes_or_stays (Ok core) disk mode plan last opened R saves can w = inl (saves, can)
+writes_or_stays (Err e) disk mode plan last opened R saves can w = w
+
+-- the file while it was opened is one during a start
+pub left_by_opening : (mode : StartMode) (plan : Plan) (bytes file : List ℕ) → IsLeftByOpening bytes file
+    → IsLeftByStart mode plan bytes file
+left_by_opening mode plan bytes file is = record { content = inl is.same; kept = λ whole no. is.kept whole }
+
+-- the files that a stop may leave during a start, by those while the file is opened
+left_by_start : {D : Type 0} (left_since : D → D → List ℕ → Type 0) (may_leave : D → List ℕ → Type 0)
+    (mode : StartMode) (plan : Plan) (bytes : List ℕ) (old mid new : D)
+    → LeavesOnly left_since may_leave old mid (IsLeftByOpening bytes)
+    → WritesOrStays mode plan (recovered bytes) mid new
+    → LeavesOnly left_since may_leave old new (λ file. LeftByStart mode plan (recovered bytes) (recovered file))
+    → LeavesOnly left_since may_leave old new (IsLeftByStart mode plan bytes)
+left_by_start left_since may_leave mode plan bytes old mid new opened (inl writes) left =
+    weakens left_since may_leave old new _ _ left (λ file content. record {
+      content = content;
+      kept = λ whole no. absurd (no writes);
+    })
+left_by_start left_since may_leave mode plan bytes old mid new opened (inr stays) left =
+    subst (λ d. LeavesOnly left_since may_leave old d (IsLeftByStart mode plan bytes)) (sym stays)
+    (weakens left_since may_leave old mid _ _ opened (left_by_opening mode plan bytes))
+
+pub all_left_by_start : {C D : Type 0} (left_since : D → D → List ℕ → Type 0) (may_leave : D → List ℕ → Type 0)
+    (mode : StartMode) (plan : Plan) (bytes : List ℕ) (old mid : D) (r : Result C (StartFault × D)) (disk : C → D)
+    → LeavesOnly left_since may_leave old mid (IsLeftByOpening bytes)
+    → MatchResult r (λ core. WritesOrStays mode plan (recovered bytes) mid (disk core))
+    (λ e. WritesOrStays mode plan (recovered bytes) mid e.1)
+    → MatchResult r
+    (λ core. LeavesOnly left_since may_leave old (disk core)
+    (λ file. LeftByStart mode plan (recovered bytes) (recovered file)))
+    (λ e. LeavesOnly left_since may_leave old e.1 (λ file. LeftByStart mode plan (recovered bytes) (recovered file)))
+    → MatchResult r (λ core. LeavesOnly left_since may_leave old (disk core) (IsLeftByStart mode plan bytes))
+    (λ e. LeavesOnly left_since may_leave old e.1 (IsLeftByStart mode plan bytes))
+all_left_by_start left_since may_leave mode plan bytes old mid (Ok core) disk opened w left =
+    left_by_start left_since may_leave mode plan bytes old mid (disk core) opened w left
+all_left_by_start left_since may_leave mode plan bytes old mid (Err e) disk opened w left =
+    left_by_start left_since may_leave mode plan bytes old mid e.1 opened w left
 
 pub ok_both : {C E : Type 0} (r : Result C E) (P Q R : C → Type 0) → ((x : C) → P x → Q x → R x) → IfOk r P → IfOk r Q
     → IfOk r R

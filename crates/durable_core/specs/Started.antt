@@ -11,20 +11,22 @@ use Rattle.durable_core.specs.Restart.{fresh_state, record_now, warm}
 use Rattle.durable_core.specs.Cores.{CoreView, survives}
 use Rattle.durable_core.specs.Starting.{IsNew, Saves, next_generation, start_of, start_record, started}
 
--- A core of the plan in its first state: its log is empty, nothing is acknowledged, and no save has failed. A cold one has
--- the initial values, and a warm one goes on from the last record of its store.
+-- A core of the plan in its first state: its log is empty, nothing is acknowledged, and no save has failed. A cold one
+-- has the initial values, and has saved their record. A warm one goes on from the last record of its store.
 pub record IsStarted {D : Type 0} (core : CoreView D) (plan : Plan) (mode : StartMode) (room : ℕ) : Type 0 where
   pub mode_is : core.mode ≡ mode
   pub is_new : IsNew core.state plan room
   pub unacknowledged : core.acked ≡ 0
   pub working : core.failed ≡ None
   pub cold : mode ≡ Cold → core.state ≡ fresh_state plan room
+  pub saved : mode ≡ Cold → core.store.last ≡ Found core.store.generation (record_now core.state)
   pub resumed : mode ≡ Warm → core.state ≡ started plan room (warm plan core.store.last)
   pub last_is : IsLast core.store.generation core.store.last
 
--- The core starts from the content that the file is recovered to. If the start saves nothing, that is the last record, and
--- the file is as it was, except that a shorter one has two closed areas now; else the last record is that of the start, with
--- the next generation. Every file that a stop may leave survives.
+-- A warm core goes on from the content that the file is recovered to, a cold one has the initial values. If the start
+-- saves nothing, that content is the last record, and the file is as it was, except that a shorter one is whole now and
+-- all zero bytes; else the last record is that of the start, with the next generation. Every file that a stop may leave
+-- survives.
 pub record StartsFrom {D : Type 0} (seen : D → List ℕ) (may_leave : D → List ℕ → Type 0) (file : List ℕ) (plan : Plan)
     (mode : StartMode) (room : ℕ) (core : CoreView D) : Type 0 where
   pub state_is : core.state ≡ started plan room (start_of mode plan (recovered file))

@@ -1,10 +1,11 @@
 -- Starting a core.
-use Rattle.std.specs.Prelude.{◌≡◌, ◌≢◌, ◌⊎◌, ◌+◌, ◌-◌, ◌^◌, ℕ, List, [], Option}
+use Rattle.std.specs.Prelude.{◌≡◌, ◌≢◌, ◌⊎◌, ◌+◌, ◌-◌, ◌^◌, ◌≤◌, ℕ, List, [], length, Option}
 use Rattle.st_meaning.specs.Restarts.{Kept, Start, cold_start, warm_start}
 use Rattle.retain_store.specs.declared.fault.StoreFault.TheVariants as stores
 use Rattle.retain_records.specs.Records.{Content}
-use Rattle.retain_store.specs.Recovered.{Recovered, TooLong, Refused, Nothing, Found}
-use Rattle.retain_store.specs.Opening.{CountsFault, KeepsFile}
+use Rattle.retain_store.specs.declared.shape.TheConstants.{FILE_BYTES}
+use Rattle.retain_store.specs.Recovered.{Recovered, TooLong, Refused, Nothing, Found, recovered}
+use Rattle.retain_store.specs.Opening.{CountsFault}
 use Rattle.plan.specs.declared.plan.Plan.{Plan}
 use Rattle.plan.specs.PlanViews.{plan_view}
 use Rattle.serial_core.specs.Steps.{State}
@@ -56,6 +57,14 @@ CanStart mode plan Nothing = Unit {0}
 CanStart mode plan (Found generation content) =
     Saves mode plan (Found generation content) → generation ≢ 2 ^ 64 - 1
 
+-- a start that writes over this content: it can succeed, and saves
+abbrev pub WritesOver : StartMode → Plan → Recovered → Type 0
+WritesOver mode plan file = Saves mode plan file × CanStart mode plan file
+
+-- what follows the opening of a store: the start writes over its last record, or there is no call of the disk
+abbrev pub WritesOrStays : {D : Type 0} → StartMode → Plan → Recovered → D → D → Type 0
+WritesOrStays mode plan last old new = WritesOver mode plan last ⊎ (new ≡ old)
+
 -- the generations are used up
 abbrev pub IsLastGeneration : Recovered → Type 0
 IsLastGeneration (Found generation content) = generation ≡ 2 ^ 64 - 1
@@ -76,10 +85,12 @@ abbrev pub CountsStart : StartFault → ℕ → ℕ → Type 0
 CountsStart (faults.Store fault) old new = CountsFault fault old new
 CountsStart faults.NoMemory old new = new ≡ old
 
--- A start that is refused leaves the file as it was. A device that fails may have written in part.
-abbrev pub StartKeeps : StartFault → List ℕ → List ℕ → Type 0
-StartKeeps (faults.Store fault) old new = KeepsFile fault old new
-StartKeeps faults.NoMemory old new = new ≡ old
+-- A start that is refused leaves the file as it was. Only if the device failed may it differ: one that was too short,
+-- or one over whose content the start writes.
+abbrev pub StartKeeps : StartMode → Plan → StartFault → List ℕ → List ℕ → Type 0
+StartKeeps mode plan (faults.Store stores.Device) old new =
+    FILE_BYTES ≤ length old → (WritesOver mode plan (recovered old) → ⊥) → new ≡ old
+StartKeeps mode plan other old new = new ≡ old
 
 -- the generation of the record that is saved next
 abbrev pub next_generation : Recovered → ℕ
@@ -95,9 +106,15 @@ abbrev pub IsSavedByStart : StartMode → Plan → Recovered → Recovered → T
 IsSavedByStart mode plan before file =
     Saves mode plan before × (file ≡ Found (next_generation before) (start_record mode plan before))
 
--- the file after a stop during a start: the content that was recovered before, or the record of the start
+-- the content after a stop during a start: what was recovered before, or the record of the start
 abbrev pub LeftByStart : StartMode → Plan → Recovered → Recovered → Type 0
 LeftByStart mode plan before file = (file ≡ before) ⊎ IsSavedByStart mode plan before file
+
+-- The file after a stop during a start over this one. Its content is one of these two. It is as it was, unless it was
+-- too short or the start writes over its content.
+pub record IsLeftByStart (mode : StartMode) (plan : Plan) (old file : List ℕ) : Type 0 where
+  pub content : LeftByStart mode plan (recovered old) (recovered file)
+  pub kept : FILE_BYTES ≤ length old → (WritesOver mode plan (recovered old) → ⊥) → file ≡ old
 
 -- out of memory
 abbrev pub IsOutOfMemory : StartFault → Type 0

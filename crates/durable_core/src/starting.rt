@@ -14,7 +14,7 @@ ghost use Rattle.durable_core.specs.Restart.{Survives, IsOfPlan, fresh_state, la
 ghost use Rattle.durable_core.specs.Cores.{survives};
 ghost use Rattle.durable_core.specs.Starting.{IsStart, start_in, started, HasOtherLayout, Saves};
 ghost use Rattle.durable_core.specs.Starting.{CanStart, RefusesStart, CountsStart, LeftByStart, IsOutOfMemory};
-ghost use Rattle.durable_core.specs.Starting.{StartKeeps};
+ghost use Rattle.durable_core.specs.Starting.{IsLeftByStart, StartKeeps, WritesOrStays};
 ghost use Rattle.durable_core.specs.Started.{IsResumed, IsSavedFirst, IsStarted, StartsFrom};
 
 use crate::core_state::Core;
@@ -88,7 +88,7 @@ fn saved_first<D: Disk>(
     requires saves { Saves mode parts.serial.plan store.last }
 
     ensures core { IfOk result (λ core. IsSavedFirst store parts.serial mode core) }
-    ensures unwritten { D.tells → IfErr result (λ e. StartKeeps e.0 (D.seen store.disk) (D.seen e.1)) }
+    ensures unwritten { IfErr result (λ e. WritesOrStays mode parts.serial.plan store.last store.disk e.1) }
     ensures serves { D.serves store.disk FILE_BYTES → MatchResult result
         (λ core. D.serves core.store.disk FILE_BYTES)
         (λ e. (e.0 ≢ StartFault.Store StoreFault.Device) × D.serves e.1 FILE_BYTES) }
@@ -180,7 +180,9 @@ fn warm<D: Disk>(parts: Parts, store: Store<D>) -> Result<Core<D>, (StartFault, 
     requires room { store.room ≡ MAX_RECORD_BODY }
 
     ensures core { IfOk result (λ core. IsResumed store parts.serial.plan parts.serial.room core) }
-    ensures unwritten { D.tells → IfErr result (λ e. StartKeeps e.0 (D.seen store.disk) (D.seen e.1)) }
+    ensures unwritten { MatchResult result
+        (λ core. WritesOrStays StartMode.Warm parts.serial.plan store.last store.disk core.store.disk)
+        (λ e. WritesOrStays StartMode.Warm parts.serial.plan store.last store.disk e.1) }
     ensures serves { D.serves store.disk FILE_BYTES → MatchResult result
         (λ core. D.serves core.store.disk FILE_BYTES)
         (λ e. (e.0 ≢ StartFault.Store StoreFault.Device) × D.serves e.1 FILE_BYTES) }
@@ -210,7 +212,7 @@ fn warm<D: Disk>(parts: Parts, store: Store<D>) -> Result<Core<D>, (StartFault, 
 }
 
 impl<D: Disk> Core<D> {
-    /// Starts a life of the plan over this disk, with room for `log_room` entries of its log, 1 to 65,536. It allocates
+    /// Starts a life of the plan over this disk, with room for `log_room` entries of its log, 0 to 65,536. It allocates
     /// its memory before the first device call. A cold start, and a warm one over a record of another layout text,
     /// saves the record of the start before it answers.
     ///
@@ -231,8 +233,10 @@ impl<D: Disk> Core<D> {
         ensures file { D.tells → IfOk result
             (λ core. StartsFrom D.seen D.may_leave (D.seen disk) plan.value mode log_room core) }
 
-        // A start that is refused has written nothing.
-        ensures unwritten { D.tells → IfErr result (λ e. StartKeeps e.0 (D.seen disk) (D.seen e.1)) }
+        // A start that is refused leaves the file as it was. After S3 it may differ if it was too short, or if the
+        // start writes over its content.
+        ensures unwritten { D.tells → IfErr result
+            (λ e. StartKeeps mode plan.value e.0 (D.seen disk) (D.seen e.1)) }
 
         // All memory is allocated before the first device call.
         ensures memory { IfErr result (λ e. IsOutOfMemory e.0 → e.1 ≡ disk) }
@@ -254,12 +258,12 @@ impl<D: Disk> Core<D> {
             (λ e. (e.0 ≢ StartFault.Store StoreFault.Device) × D.serves e.1 FILE_BYTES) }
 
         // On a disk with nothing unsynced, a stop at any moment leaves the content that was recovered before, or, if
-        // the start saves it, the record of the start.
+        // the start saves it, the record of the start. It leaves the file as it was, unless that was too short or the
+        // start writes over its content.
         ensures any_moment { D.tells → Only (D.seen disk) (D.may_leave disk) → MatchResult result
             (λ core. LeavesOnly D.left_since D.may_leave disk core.store.disk
-            (λ file. LeftByStart mode plan.value (recovered (D.seen disk)) (recovered file)))
-            (λ e. LeavesOnly D.left_since D.may_leave disk e.1
-            (λ file. LeftByStart mode plan.value (recovered (D.seen disk)) (recovered file))) }
+            (IsLeftByStart mode plan.value (D.seen disk)))
+            (λ e. LeavesOnly D.left_since D.may_leave disk e.1 (IsLeftByStart mode plan.value (D.seen disk))) }
     {
         let Ok(parts) = Parts::new(alloc, plan, log_room) else {
             return Err((StartFault::NoMemory, disk));

@@ -12,9 +12,10 @@ use Rattle.retain_store.specs.declared.area.Half.TheVariants.{First, Second}
 use Rattle.retain_store.specs.declared.store.Saves.{Saves}
 use Rattle.retain_store.specs.declared.store.Saves.TheVariants as saves
 use Rattle.retain_records.specs.Records.{Content}
-use Rattle.retain_store.specs.Recovered.{Recovered, Open, TooLong, Refused, Nothing, Found, area, recovered}
-use Rattle.retain_store.specs.Areas.{alone, at_of, other_of, IsEmpty, IsOlder, IsOpen, GateIs, IsReady, IsEither, IsSaved}
-use Rattle.retain_store.specs.Areas.{IsSurveyed, areas_after_save}
+use Rattle.retain_store.specs.Recovered.{Area, Closed, Damaged, Open, Recovered, TooLong, Refused, Nothing, Found, area}
+use Rattle.retain_store.specs.Recovered.{recovered}
+use Rattle.retain_store.specs.Areas.{alone, at_of, other_of, HoldsRecord, IsOlder, IsOpen, GateIs, IsReady, IsEither}
+use Rattle.retain_store.specs.Areas.{IsSaved, IsSurveyed, IsZeros, areas_after_save}
 use Rattle.retain_store.specs.Surveys.{held}
 use Rattle.retain_store.specs.Opening.{IsAtRest, KeepsRecord}
 use Rattle.retain_store.specs.Kept.{StoreInvariant, IsLast}
@@ -40,14 +41,15 @@ held_last generation content = elim (cases_eq generation 0) [
 -- by the offsets of the halves
 surveyed_at : (file : List ℕ) (target : Half) (gate other_gate : Gate) (generation : ℕ) (last : Recovered) (n : ℕ)
     → at_of target ≡ n → IsReady (generation + 1) n file → GateIs gate n file → GateIs other_gate (AREA_BYTES - n) file
-    → recovered file ≡ last
+    → recovered file ≡ last → (last ≡ Nothing → target ≡ First)
     → IsSurveyed file (record { target = target; target_gate = gate; other_gate = other_gate; generation = generation })
     last
-surveyed_at file target gate other_gate generation last n is ready gate_is other_is last_is = record {
+surveyed_at file target gate other_gate generation last n is ready gate_is other_is last_is none = record {
   ready = subst (λ (k : ℕ). IsReady (generation + 1) k file) (sym is) ready;
   gate = subst (λ (k : ℕ). GateIs gate k file) (sym is) gate_is;
   other_gate = subst (λ (k : ℕ). GateIs other_gate (AREA_BYTES - k) file) (sym is) other_is;
   last_is = last_is;
+  first = none;
 }
 
 surveyed_next : (first file : List ℕ) (areas : Areas) (last : Recovered) (content : Content)
@@ -69,6 +71,45 @@ surveyed_next first file areas last content surveyed saved =
     (gate_moves areas.other_gate (AREA_BYTES - at) file first saved.other_gate surveyed.other_gate)
     (subst (λ (n : ℕ). IsOpen n file) (sym (twice at half)) saved.gate)
     saved.found
+    (λ none. let no : Found generation content ≡ Nothing = none in cc)
+
+-- the area of a record that is the last, if the other one is closed
+alone_found : (a : Area) (generation : ℕ) (content : Content) → alone a ≡ Found generation content
+    → a ≡ Open generation content
+alone_found Closed generation content is = let no : Nothing ≡ Found generation content = is in cc
+alone_found Damaged generation content is = let no : Refused ≡ Found generation content = is in cc
+alone_found (Open g c) generation content is = let same : Found g c ≡ Found generation content = is in cc
+
+-- after a save the record before it is still in the other area
+pub before_stays : (first file : List ℕ) (areas : Areas) (last : Recovered) (content : Content) (g : ℕ) (c : Content)
+    → IsSurveyed first areas last → IsSaved (areas.generation + 1) (at_of areas.target) content first file
+    → last ≡ Found g c → HoldsRecord g c file
+before_stays first file areas last content g c surveyed saved is =
+    let at = at_of areas.target in
+    let was : alone (area (AREA_BYTES - at) first) ≡ Found g c =
+    sym surveyed.ready.spare.last ∙ surveyed.last_is ∙ is in
+    let stays : area (AREA_BYTES - at) file ≡ Open g c =
+    saved.other ∙ alone_found (area (AREA_BYTES - at) first) g c was in (
+      other_of areas.target,
+      subst (λ (n : ℕ). area n file ≡ Open g c) (sym (other_at areas.target)) stays,
+    )
+
+no_generation : (generation : ℕ) (content : Content) → held generation content ≡ Nothing → generation ≡ 0
+no_generation generation content is = elim (cases_eq generation 0) [
+  | inl none ↦ none
+  | inr some ↦
+      let found : held generation content ≡ Found generation content = grind (arith, nat_tests) in
+      let no : Found generation content ≡ Nothing = sym found ∙ is in cc
+]
+
+-- the first record of a file is in the first area
+pub first_in_first : (first file : List ℕ) (areas : Areas) (last content : Content)
+    → IsSurveyed first areas (held areas.generation last)
+    → IsSaved (areas.generation + 1) (at_of areas.target) content first file
+    → held areas.generation last ≡ Nothing → area 0 file ≡ Open 1 content
+first_in_first first file areas last content surveyed saved none =
+    subst (λ (n : ℕ). area n file ≡ Open 1 content) (ap at_of (surveyed.first none))
+    (saved.saved ∙ ap (λ (n : ℕ). Open (n + 1) content) (no_generation areas.generation last none))
 
 -- after a save that succeeded
 pub kept_ok : (tells : Type 0) (first file : List ℕ) (files files' : List ℕ → Type 0) (areas : Areas) (met : Saves)
@@ -127,7 +168,7 @@ kept_used_up tells file files areas last tried size kept = record {
 
 -- a whole file that is as it was
 whole_kept : (old new : List ℕ) → length old ≡ FILE_BYTES → new ≡ old
-    → (length old ≡ FILE_BYTES → new ≡ old) × (length old < FILE_BYTES → IsEmpty new)
+    → (length old ≡ FILE_BYTES → new ≡ old) × (length old < FILE_BYTES → IsZeros FILE_BYTES new)
 whole_kept old new whole same = (λ _. same, λ short. absurd (omega (arith, whole, short)))
 
 pub keeps_record : (found : Recovered) (old new : List ℕ) → length old ≡ FILE_BYTES → new ≡ old
@@ -137,7 +178,7 @@ keeps_record Refused old new whole same = whole_kept old new whole same
 keeps_record Nothing old new whole same = whole_kept old new whole same
 keeps_record (Found generation content) old new whole same = same
 
--- a shorter file that has two closed areas now has no record
-pub keeps_formatted : (content : Content) (old new : List ℕ) → length old < FILE_BYTES → IsEmpty new
+-- a shorter file that is all zero bytes now has no record
+pub keeps_formatted : (content : Content) (old new : List ℕ) → length old < FILE_BYTES → IsZeros FILE_BYTES new
     → KeepsRecord (held 0 content) old new
-keeps_formatted content old new short empty = (λ whole. absurd (omega (arith, whole, short)), λ _. empty)
+keeps_formatted content old new short zeros = (λ whole. absurd (omega (arith, whole, short)), λ _. zeros)

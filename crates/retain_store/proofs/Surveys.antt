@@ -199,6 +199,7 @@ surveyed_closed file size first second =
       gate = closed_shut 0 file first;
       other_gate = closed_shut AREA_BYTES file second;
       last_is = none;
+      first = λ _. refl;
     }
 
 -- The other area holds the last record.
@@ -229,4 +230,6 @@ surveyed_one target gate file size generation content holds older gate_is =
       other_gate = not_closed_open (AREA_BYTES - at) file
           (λ closed. let no : Open generation content ≡ Closed = sym holds ∙ closed in cc);
       last_is = found ∙ sym (held_some generation content some);
+      first = λ none.
+          let no : Found generation content ≡ Nothing = sym (held_some generation content some) ∙ none in cc;
     }

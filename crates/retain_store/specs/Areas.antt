@@ -86,24 +86,23 @@ pub record IsFrame (generation : ℕ) (frame : List ℕ) : Type 0 where
   pub head : take 8 frame ≡ to_be_bytes w64 generation
   pub length_is : take 4 (drop 8 frame) ≡ to_be_bytes w32 (length frame - HEADER_BYTES)
 
--- all of a file but its last byte, as zero bytes
-pub record IsZeros (bytes : List ℕ) : Type 0 where
-  pub size : length bytes ≡ FILE_BYTES - 1
+-- this many bytes, each of them zero
+pub record IsZeros (size : ℕ) (bytes : List ℕ) : Type 0 where
+  pub size_is : length bytes ≡ size
   pub all : (i : ℕ) → slice_index bytes i ≡ 0
 
--- two closed areas
-pub record IsEmpty (file : List ℕ) : Type 0 where
-  pub size : length file ≡ FILE_BYTES
-  pub first : IsShut 0 file
-  pub second : IsShut AREA_BYTES file
+-- one of the two areas is open and holds this record
+abbrev pub HoldsRecord : ℕ → Content → List ℕ → Type 0
+HoldsRecord generation content file = (half : Half) × (area (at_of half) file ≡ Open generation content)
 
--- The state of the areas of a whole file: the place of the next record, whose generation is one more than the last one's,
--- both gates, and the last record.
+-- The state of the areas of a whole file: the place of the next record, whose generation is one more than the last
+-- one's, both gates, and the last record. Without a record the next one goes into the first area.
 pub record IsSurveyed (file : List ℕ) (areas : Areas) (last : Recovered) : Type 0 where
   pub ready : IsReady (areas.generation + 1) (at_of areas.target) file
   pub gate : GateIs areas.target_gate (at_of areas.target) file
   pub other_gate : GateIs areas.other_gate (AREA_BYTES - at_of areas.target) file
   pub last_is : recovered file ≡ last
+  pub first : last ≡ Nothing → areas.target ≡ First
 
 abbrev pub closed_areas : Areas
 closed_areas = record { target = First; target_gate = gates.Closed; other_gate = gates.Closed; generation = 0 }

@@ -51,16 +51,17 @@ has_failed saves.Working = false
 has_failed saves.Broken = true
 has_failed saves.UsedUp = true
 
--- After a failure of the device the record that was to be saved was tried; a save that was refused makes no device
--- call.
+-- A save fails only with S3, S4 or S6. After a failure of the device (S3) the record that was to be saved was tried. If
+-- the generations are used up (S4) there is no call of the disk, and if a save has failed before (S6) nothing changes.
 abbrev pub IsTriedAfter : {D : Type 0} → StoreFault → Content → StoreView D → StoreView D → Type 0
 IsTriedAfter faults.Device content old new = new.tried ≡ Found (old.generation + 1) content
 IsTriedAfter faults.Generations content old new = (new.tried ≡ old.last) × (new.disk ≡ old.disk)
 IsTriedAfter faults.Failed content old new = new ≡ old
 IsTriedAfter other content old new = ⊥
 
--- Each file that a stop now may leave is recovered to the last record or to a failed save's; if no save has failed, the file
--- is synced and the areas are known. The frame has room for a header and a body.
+-- Each file that a stop now may leave is recovered to the last record or to a failed save's. If no save has failed, the
+-- file is synced and the areas are known; so the first record of all goes into the first area. The frame has room for a
+-- header and a body.
 pub record StoreInvariant (tells : Type 0) (file : List ℕ) (files : List ℕ → Type 0) (areas : Areas) (met : Saves)
     (last tried : Recovered) (size : ℕ) : Type 0 where
   pub left : tells → (c : List ℕ) → files c → IsEither last tried (recovered c)

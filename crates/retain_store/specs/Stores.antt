@@ -4,8 +4,8 @@ use Rattle.disk.specs.Runs.{LeavesOnly}
 use Rattle.retain_records.specs.Records.{Content}
 use Rattle.retain_store.specs.declared.fault.StoreFault.{StoreFault}
 use Rattle.retain_store.specs.declared.fault.StoreFault.TheVariants as faults
-use Rattle.retain_store.specs.Recovered.{Recovered, Found, recovered}
-use Rattle.retain_store.specs.Areas.{IsEither}
+use Rattle.retain_store.specs.Recovered.{Recovered, Open, Nothing, Found, area, recovered}
+use Rattle.retain_store.specs.Areas.{HoldsRecord, IsEither}
 use Rattle.retain_store.specs.Kept.{StoreView, IsLast, IsTriedAfter}
 
 -- an opened store with room for a body of this many bytes, before its first save
@@ -36,10 +36,15 @@ pub record RefusesSave {D : Type 0} (result : Result (Unit {0}) StoreFault) (old
   pub again : IsErrOf result faults.Failed ↔ (old.failed ≡ true)
   pub used_up : IsErrOf result faults.Generations ↔ ((old.failed ≡ false) × (old.generation ≡ 2 ^ 64 - 1))
 
--- A stop at any moment of a save leaves the last record or the new one, and after Ok the new one.
+-- If no save has failed before, a stop at any moment of a save leaves the last record or the new one. After Ok it
+-- leaves the new one, and the record before it is still in the other area. The first record goes into the first area.
 pub record LeavesEither {D : Type 0} (left_since : D → D → List ℕ → Type 0) (may_leave : D → List ℕ → Type 0)
     (result : Result (Unit {0}) StoreFault) (content : Content) (old new : StoreView D) : Type 0 where
   pub any_moment : old.failed ≡ false → LeavesOnly left_since may_leave old.disk new.disk
       (λ file. IsEither old.last (Found (old.generation + 1) content) (recovered file))
   pub at_rest : OnOk result ((file : List ℕ) → may_leave new.disk file
       → recovered file ≡ Found (old.generation + 1) content)
+  pub before : OnOk result ((generation : ℕ) (last : Content) → old.last ≡ Found generation last
+      → (file : List ℕ) → may_leave new.disk file → HoldsRecord generation last file)
+  pub first : old.last ≡ Nothing → OnOk result ((file : List ℕ) → may_leave new.disk file
+      → area 0 file ≡ Open 1 content)

@@ -9,7 +9,7 @@ ghost use Rattle.retain_records.specs.Reading.{decoded};
 ghost use Rattle.retain_store.specs.Recovered.{recovered, Found, Nothing};
 ghost use Rattle.retain_store.specs.Areas.{at_of, other_of, closed_areas, areas_after_save};
 ghost use Rattle.retain_store.specs.Areas.{IsHalf, IsOpen, IsShut, GateIs, IsSpare, IsReady, IsClosedNow};
-ghost use Rattle.retain_store.specs.Areas.{IsFrame, IsSaved, IsEither, IsZeros, IsEmpty};
+ghost use Rattle.retain_store.specs.Areas.{IsFrame, IsSaved, IsEither, IsZeros};
 
 use crate::shape::{AREA_BYTES, CLOSED_GATE, FILE_BYTES, OPEN_GATE};
 use disk::{Disk, DiskError};
@@ -215,14 +215,16 @@ pub fn write_frame<D: Disk>(
     }
 }
 
-/// Makes a file that is too short one of two closed areas. The zeros are all of it except the last byte.
+/// Makes a file that is too short one of zero bytes, so of two closed areas. The zeros given are all but the last byte.
 pub fn format<D: Disk>(disk: &mut D, zeros: &[u8]) -> Result<(), DiskError>
-    requires zeros { IsZeros zeros.now }
+    requires zeros { IsZeros (FILE_BYTES - 1) zeros.now }
     requires short { D.tells → length (D.seen disk.old) < FILE_BYTES }
     requires synced { D.tells → Only (D.seen disk.old) (D.may_leave disk.old) }
 
     ensures serves { D.serves disk.old FILE_BYTES → IsOk result × D.serves disk.new FILE_BYTES }
-    ensures empty { D.tells → OnOk result (IsEmpty (D.seen disk.new)) }
+
+    // No byte of the shorter file stays.
+    ensures zeros { D.tells → OnOk result (IsZeros FILE_BYTES (D.seen disk.new)) }
     ensures synced { D.tells → OnOk result (Only (D.seen disk.new) (D.may_leave disk.new)) }
 
     // A stop at any moment leaves a file without a record.

@@ -3,10 +3,10 @@
 ghost use Rattle.std.specs.Prelude.{◌≡◌, ◌≢◌, ◌-◌, length, take, IfOk, IfErr, IsOk, OnOk, MatchResult};
 ghost use Rattle.disk.specs.Disk.{Only, Counts};
 ghost use Rattle.disk.specs.Runs.{LeavesOnly};
-ghost use Rattle.retain_store.specs.Recovered.{recovered};
 ghost use Rattle.retain_store.specs.Areas.{IsZeros};
 ghost use Rattle.retain_store.specs.Surveys.{held, IsRecordableAt};
-ghost use Rattle.retain_store.specs.Opening.{CountsFault, IsAtRest, IsFoundIn, IsLoaded, IsOfFile, IsRefusal};
+ghost use Rattle.retain_store.specs.Opening.{CountsFault, IsAtRest, IsFoundIn, IsLeftByOpening, IsLoaded, IsOfFile};
+ghost use Rattle.retain_store.specs.Opening.{IsRefusal};
 
 use crate::area::{Areas, format};
 use crate::fault::StoreFault;
@@ -59,7 +59,7 @@ fn read_areas<D: Disk>(disk: &mut D, file: &mut [u8]) -> Result<(), DiskError>
 /// The state of a file that is not too long.
 #[derive(Clone, Copy)]
 enum Loaded {
-    /// It was too short, and has two closed areas now.
+    /// It was too short, and is all zero bytes now.
     Formatted,
     /// It is whole, and was read.
     Whole,
@@ -68,7 +68,7 @@ enum Loaded {
 /// Brings the file to its two areas, and reads it if it had them.
 fn load<D: Disk>(disk: &mut D, file: &mut [u8]) -> Result<Loaded, StoreFault>
     requires room { length file.old ≡ FILE_BYTES }
-    requires zeros { IsZeros (take (FILE_BYTES - 1) file.old) }
+    requires zeros { IsZeros (FILE_BYTES - 1) (take (FILE_BYTES - 1) file.old) }
 
     ensures length { length file.new ≡ FILE_BYTES }
 
@@ -81,9 +81,10 @@ fn load<D: Disk>(disk: &mut D, file: &mut [u8]) -> Result<Loaded, StoreFault>
     ensures faults { IfErr result IsOfFile }
     ensures refused { D.tells → IfErr result (λ fault. IsRefusal fault (D.seen disk.old) (D.seen disk.new)) }
 
-    // On a disk with nothing unsynced a stop at any moment leaves a file that is recovered as the file before.
+    // On a disk with nothing unsynced a stop at any moment leaves the file as it was. Only one that was too short may
+    // differ, and is recovered as before.
     ensures any_moment { D.tells → Only (D.seen disk.old) (D.may_leave disk.old)
-        → LeavesOnly D.left_since D.may_leave disk.old disk.new (λ file. recovered file ≡ recovered (D.seen disk.old)) }
+        → LeavesOnly D.left_since D.may_leave disk.old disk.new (IsLeftByOpening (D.seen disk.old)) }
     ensures count { MatchResult result (λ _. D.failure_count disk.new ≡ D.failure_count disk.old)
         (λ fault. CountsFault fault (D.failure_count disk.old) (D.failure_count disk.new)) }
 {
@@ -108,7 +109,7 @@ pub(crate) fn recover<D: Disk>(
     lines: &mut LineRoom,
 ) -> Result<Areas, StoreFault>
     requires room { length file.old ≡ FILE_BYTES }
-    requires zeros { IsZeros (take (FILE_BYTES - 1) file.old) }
+    requires zeros { IsZeros (FILE_BYTES - 1) (take (FILE_BYTES - 1) file.old) }
 
     // A disk that serves a whole file doesn't fail.
     ensures serves { D.tells → D.serves disk.old FILE_BYTES
@@ -122,9 +123,10 @@ pub(crate) fn recover<D: Disk>(
     ensures faults { IfErr result IsOfFile }
     ensures refused { D.tells → IfErr result (λ fault. IsRefusal fault (D.seen disk.old) (D.seen disk.new)) }
 
-    // On a disk with nothing unsynced a stop at any moment leaves a file that is recovered as the file before.
+    // On a disk with nothing unsynced a stop at any moment leaves the file as it was. Only one that was too short may
+    // differ, and is recovered as before.
     ensures any_moment { D.tells → Only (D.seen disk.old) (D.may_leave disk.old)
-        → LeavesOnly D.left_since D.may_leave disk.old disk.new (λ file. recovered file ≡ recovered (D.seen disk.old)) }
+        → LeavesOnly D.left_since D.may_leave disk.old disk.new (IsLeftByOpening (D.seen disk.old)) }
     ensures count { MatchResult result (λ _. D.failure_count disk.new ≡ D.failure_count disk.old)
         (λ fault. CountsFault fault (D.failure_count disk.old) (D.failure_count disk.new)) }
 {

@@ -9,7 +9,8 @@ ghost use Rattle.disk.specs.Runs.{LeavesOnly};
 ghost use Rattle.retain_records.specs.Records.{IsRecordable, record_bytes};
 ghost use Rattle.retain_store.specs.Recovered.{recovered, Found};
 ghost use Rattle.retain_store.specs.Areas.{IsEither, IsZeros};
-ghost use Rattle.retain_store.specs.Opening.{CountsFault, IsFoundIn, IsOpenFault, IsRefusal, KeepsFile};
+ghost use Rattle.retain_store.specs.Opening.{CountsFault, IsFoundIn, IsLeftByOpening, IsOpenFault, IsRefusal};
+ghost use Rattle.retain_store.specs.Opening.{KeepsFile};
 ghost use Rattle.retain_store.specs.Kept.{content_of, record_in, IsLast};
 ghost use Rattle.retain_store.specs.Stores.{IsOpened, IsSavedAs, IsUnsaved, LeavesEither, RefusesSave};
 
@@ -102,7 +103,7 @@ impl Room {
     fn new(alloc: Global, room: usize) -> Result<Room, AllocError>
         requires { room ≤ MAX_RECORD_BODY }
         ensures file { IfOk result (λ r. length r.file.items ≡ FILE_BYTES) }
-        ensures zeros { IfOk result (λ r. IsZeros (take (FILE_BYTES - 1) r.file.items)) }
+        ensures zeros { IfOk result (λ r. IsZeros (FILE_BYTES - 1) (take (FILE_BYTES - 1) r.file.items)) }
         ensures frame { IfOk result (λ r. length r.frame.items ≡ room + HEADER_BYTES) }
     {
         let file = vec![in alloc; 0; FILE_BYTES]?;
@@ -128,12 +129,13 @@ impl<D: Disk> Store<D> {
     pub fn open(alloc: Global, disk: D, room: usize) -> Result<Store<D>, (StoreFault, D)>
         requires room { room ≤ MAX_RECORD_BODY }
 
-        // The last record is the one recovered from the file that a read gives. A file with a record is as it was, and so
-        // is a whole one without: the bytes after its closed gates stay. Only a shorter one is formatted.
+        // The last record is the one recovered from the file that a read gives. A file with a record is as it was, and
+        // so is a whole one without: the bytes after its closed gates stay. Only a shorter one is formatted: it is
+        // whole now, and all its bytes are zero.
         ensures found { D.tells → IfOk result (λ store. IsFoundIn (D.seen disk) (D.seen store.disk) store.last) }
         ensures opened { IfOk result (λ store. IsOpened store room) }
 
-        // A file that is refused is as it was.
+        // A file that is refused is as it was. So is one after S3, unless it was too short.
         ensures refused { D.tells → IfErr result (λ e. IsRefusal e.0 (D.seen disk) (D.seen e.1)) }
         ensures faults { IfErr result (λ e. IsOpenFault e.0 disk e.1) }
 
@@ -151,12 +153,11 @@ impl<D: Disk> Store<D> {
             (λ store. D.serves store.disk FILE_BYTES)
             (λ e. (e.0 ≢ StoreFault.Device) × D.serves e.1 FILE_BYTES) }
 
-        // On a disk with nothing unsynced, a stop at any moment leaves a file that is recovered as the file before.
+        // On a disk with nothing unsynced, a stop at any moment leaves the file as it was. Only one that was too short
+        // may differ, and is recovered as before.
         ensures any_moment { D.tells → Only (D.seen disk) (D.may_leave disk) → MatchResult result
-            (λ store. LeavesOnly D.left_since D.may_leave disk store.disk
-            (λ file. recovered file ≡ recovered (D.seen disk)))
-            (λ e. LeavesOnly D.left_since D.may_leave disk e.1
-            (λ file. recovered file ≡ recovered (D.seen disk))) }
+            (λ store. LeavesOnly D.left_since D.may_leave disk store.disk (IsLeftByOpening (D.seen disk)))
+            (λ e. LeavesOnly D.left_since D.may_leave disk e.1 (IsLeftByOpening (D.seen disk))) }
     {
         let mut disk = disk;
         let Room {
@@ -203,7 +204,7 @@ impl<D: Disk> Store<D> {
     /// Saves a record. After `Ok` it is the last, and a stop leaves it. The call takes no memory.
     ///
     /// S3 if the device failed, S4 before any device call if the generations are used up; after one of these S6, until the
-    /// disk is opened again. An error leaves the last record as it was.
+    /// disk is opened again. No other fault comes. An error leaves the last record as it was.
     pub fn save(
         &mut self,
         moment: Option<u64>,
@@ -219,7 +220,8 @@ impl<D: Disk> Store<D> {
             (λ fault. IsUnsaved fault (content_of moment layout.now values.now) self.old self.new) }
         ensures refused { RefusesSave result self.old }
 
-        // A stop at any moment leaves the last record or the new one, and after Ok the new one.
+        // A stop at any moment leaves the last record or the new one, and after Ok the new one. Then the record before
+        // it is still in the other area, and the first record of a file is in the first one.
         ensures stops { D.tells → LeavesEither D.left_since D.may_leave result
             (content_of moment layout.now values.now) self.old self.new }
 

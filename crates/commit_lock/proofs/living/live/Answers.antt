@@ -1,10 +1,10 @@
 use Rattle.std.proofs.Common.{rules, ◌≡◌, ◌∙◌, ℕ, List, ap, subst, sym}
 use Rattle.disk.specs.Disk.{Only}
 use Rattle.disk.specs.Medium.{MayLeave}
-use Rattle.disk.specs.Runs.{LeavesOnly}
+use Rattle.disk.specs.Runs.{LeavesOnly, weakens}
 use Rattle.disk.specs.Simulated.{SimView}
 use Rattle.retain_store.specs.Recovered.{recovered}
-use Rattle.durable_core.specs.Starting.{CanStart, LeftByStart, RefusesStart, start_of, started}
+use Rattle.durable_core.specs.Starting.{CanStart, IsLeftByStart, LeftByStart, RefusesStart, start_of, started}
 use Rattle.commit_lock.specs.Lives.{IsFirst, IsStoreBegun}
 use Rattle.commit_lock.proofs.LifeLemmas.{life_is}
 use Rattle.commit_lock.proofs.living.live.Goals as goal
@@ -21,7 +21,10 @@ returns-in-Ok c =
     let of : disk.medium.file ≡ file = ap (λ (d : SimView). d.medium.file) begun in
     let only : Only disk.medium.file (MayLeave disk.medium) =
     subst (λ (f : List ℕ). Only f (MayLeave disk.medium)) (sym of) c.in_ok-disk.ensures.synced in
-    let left = rw same at (c.in-Ok.ensures.any_moment tt only) in
+    let told = rw same at (c.in-Ok.ensures.any_moment tt only) in
+    let left = weakens (λ _ (x : SimView). MayLeave x.medium) (λ (x : SimView). MayLeave x.medium) disk core.store.disk
+    (IsLeftByStart life.mode plan disk.medium.file)
+    (λ f. LeftByStart life.mode plan (recovered disk.medium.file) (recovered f)) told (λ f is. is.content) in
     let first : IsFirst plan file life core = record {
       mode = c.in-Ok.ensures.core.mode_is;
       state = rw same at ((c.in-Ok.ensures.file tt).state_is)
@@ -62,6 +65,6 @@ returns-in-Err c =
       acked = tt;
       survives = tt;
       refused = subst (λ (f : List ℕ). LeftByStart life.mode plan (recovered f) (recovered c.left.result.items)) of
-          (left.now c.left.result.items c.left.ensures.may_be_left);
+          ((left.now c.left.result.items c.left.ensures.may_be_left).content);
       cause = λ stop fails. (c.in-Err.ensures.serves tt (c.in_ok-disk.ensures.reliable stop fails)).0;
     }

@@ -1,8 +1,15 @@
 use Rattle.std.proofs.Common.{◌+◌, ◌∙◌, sym, subst, arith}
 use Rattle.retain_store.specs.Recovered.{Recovered}
 use Rattle.durable_core.specs.Restart.{Survives}
+use Rattle.durable_core.proofs.StartLemmas.{save_writes_or_stays}
 use Rattle.durable_core.proofs.SurvivalLemmas.{survives_now}
 use Rattle.durable_core.proofs.starting.saved_first.Goals as goal
+
+pub returns-in-Err-clause-unwritten : goal.returns-in-Err-clause-unwritten
+returns-in-Err-clause-unwritten g c =
+    rw c.into_disk.ensures.disk (save_writes_or_stays c.args.mode c.args.parts.serial.plan c.in-Err.fault _ c.args.store
+    c.save_record.new.store c.in-Err.ensures.unsaved c.in-Err.ensures.refused c.requires.fresh c.requires.last
+    c.requires.saves)
 
 pub invariant_of-core : goal.invariant_of-core
 invariant_of-core g c =

@@ -1,12 +1,14 @@
-use Rattle.std.proofs.Common.{rules, ◌≡◌, ◌∙◌, false, refl, sym, ap, subst, inl}
+use Rattle.std.proofs.Common.{rules, ◌≡◌, ◌∙◌, false, refl, sym, ap, subst, inl, inr}
 use Rattle.disk.specs.Runs.{LeavesOnly, started, weakens}
 use Rattle.retain_store.specs.Recovered.{Recovered, recovered, Found}
 use Rattle.serial_core.specs.Steps.{State}
 use Rattle.durable_core.specs.Restart.{record_now, warm}
 use Rattle.durable_core.specs.Cores.{CoreView}
-use Rattle.durable_core.specs.Starting.{LeftByStart, started as started_so}
+use Rattle.durable_core.specs.Starting.{LeftByStart, Saves, started as started_so}
+use Rattle.plan.specs.declared.plan.Plan.{Plan}
 use Rattle.durable_core.specs.declared.starting.StartMode.TheVariants.{Warm}
-use Rattle.durable_core.proofs.StartLemmas.{either_is, left_saved, match_both, of_plan_not_other, record_started, started_warm}
+use Rattle.durable_core.proofs.StartLemmas.{either_is, left_saved, match_both, of_plan_not_other, record_started}
+use Rattle.durable_core.proofs.StartLemmas.{started_warm, stays_same, writes_or_stays}
 use Rattle.st_types.proofs.OptionLemmas.{ok_weaker}
 use Rattle.durable_core.proofs.starting.warm.Goals as goal
 
@@ -29,6 +31,24 @@ returns-then-is_same-clause-any_moment g c = λ tells.
     (sym (ap (λ (core : CoreView _). core.store.disk) c.gone_on.ensures.core))
     (started g.D.Disk.left_since g.D.Disk.may_leave _ _ (λ file left. g.met.D.Disk.only_now _ file tells left)
     (λ file left. inl (either_is store.last store.tried (recovered file) c.requires.tried (kept file left))))
+
+pub returns-then-is_same-clause-unwritten : goal.returns-then-is_same-clause-unwritten
+returns-then-is_same-clause-unwritten g c = inr (ap (λ (core : CoreView _). core.store.disk) c.gone_on.ensures.core)
+
+pub returns-else-is_same-clause-unwritten : goal.returns-else-is_same-clause-unwritten
+returns-else-is_same-clause-unwritten g c =
+    let plan = c.args.parts.serial.plan in
+    let store = c.args.store in
+    let own = c.resume_from-is_same.new.parts.serial.plan in
+    let no : c.resume_from-is_same.result ≡ false = search rules in
+    let one : own ≡ plan = ap (λ (s : State). s.plan) c.resume_from-is_same.ensures.resumed in
+    let saves : Saves Warm own store.last =
+    subst (λ (q : Plan). Saves Warm q store.last) (sym one) (c.resume_from-is_same.ensures.other no) in
+    match_both c.saved_first.result _ _ _ _
+    (λ core. stays_same Warm plan own store.last store.last store.disk core.store.disk one refl)
+    (λ e. stays_same Warm plan own store.last store.last store.disk e.1 one refl)
+    (writes_or_stays c.saved_first.result (λ core. core.store.disk) Warm own store.last store.disk _ saves
+    c.saved_first.ensures.answers c.saved_first.ensures.unwritten)
 
 pub returns-then-is_same-clause-core : goal.returns-then-is_same-clause-core
 returns-then-is_same-clause-core g c = rw c.gone_on.ensures.core (record {

@@ -1,9 +1,9 @@
 use Rattle.std.proofs.Common.{◌-◌, ◌∙◌, ap, subst, sym, List, ℕ, [], ◌∷◌}
 use Rattle.retain_store.specs.declared.shape.TheConstants.{FILE_BYTES}
 use Rattle.disk.specs.Disk.{Torn, overwritten}
-use Rattle.retain_store.specs.Areas.{IsEmpty}
+use Rattle.retain_store.specs.Areas.{IsZeros}
 use Rattle.disk.specs.Runs.{weakens, joins}
-use Rattle.retain_store.proofs.Formats.{torn_zeros, second_is, third_is, empty_third, torn_last}
+use Rattle.retain_store.proofs.Formats.{torn_zeros, second_is, third_is, zeros_third, torn_last}
 use Rattle.retain_store.proofs.area.format.Goals as goal
 
 pub returns-in_err-write_synced-clause-any_moment : goal.returns-in_err-write_synced-clause-any_moment
@@ -29,10 +29,10 @@ returns-clause-any_moment g c = λ tells.
     torn_last c.args.zeros.now file c.requires.zeros (subst (λ (f : List ℕ). Torn (FILE_BYTES - 1) 1 f file)
     (c.in_ok-write_synced.ensures.written tells ∙ second_is _ _ (c.requires.short tells) c.requires.zeros) torn))
 
-pub returns-clause-empty : goal.returns-clause-empty
-returns-clause-empty g c = λ tells.
+pub returns-clause-zeros : goal.returns-clause-zeros
+returns-clause-zeros g c = λ tells.
     let second = c.in_ok-write_synced.ensures.written tells ∙ second_is _ _ (c.requires.short tells) c.requires.zeros in
     let third = c.in_ok-write_synced-2.ensures.written tells
     ∙ ap (λ (f : List ℕ). overwritten f (FILE_BYTES - 1) (0 ∷ [])) second
     ∙ third_is c.args.zeros.now c.requires.zeros in
-    subst IsEmpty (sym third) (empty_third c.args.zeros.now c.requires.zeros)
+    subst (IsZeros FILE_BYTES) (sym third) (zeros_third c.args.zeros.now c.requires.zeros)

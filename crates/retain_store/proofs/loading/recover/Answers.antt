@@ -6,7 +6,7 @@ use Rattle.retain_store.specs.Recovered.{recovered}
 use Rattle.retain_store.specs.Areas.{IsSurveyed}
 use Rattle.retain_store.specs.Surveys.{held}
 use Rattle.retain_store.proofs.AreaLemmas.{shut_area}
-use Rattle.retain_store.proofs.Formats.{short_nothing}
+use Rattle.retain_store.proofs.Formats.{short_nothing, zeros_empty}
 use Rattle.retain_store.proofs.Surveys.{surveyed_closed}
 use Rattle.retain_store.proofs.Keeps.{keeps_record, keeps_formatted}
 use Rattle.retain_store.proofs.loading.recover.Goals as goal
@@ -22,7 +22,7 @@ returns-in-Ok-Formatted-clause-found g c = λ tells.
 
 pub returns-in-Ok-Formatted-clause-at_rest : goal.returns-in-Ok-Formatted-clause-at_rest
 returns-in-Ok-Formatted-clause-at_rest g c = λ tells.
-    let empty = (subst (λ (l : Loaded). IsLoaded l c.load.new.file (g.D.Disk.seen c.args.disk.now)
+    let empty = zeros_empty _ (subst (λ (l : Loaded). IsLoaded l c.load.new.file (g.D.Disk.seen c.args.disk.now)
     (g.D.Disk.seen c.load.new.disk)) c.in-Ok-Formatted.field-0-is (c.in-Ok-Formatted.ensures.found tells)).1 in
     rw c.closed.ensures (record {
       synced = c.in-Ok-Formatted.ensures.synced tells;

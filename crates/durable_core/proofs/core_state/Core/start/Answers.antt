@@ -5,65 +5,95 @@ use Rattle.retain_store.specs.Kept.{StoreView}
 use Rattle.retain_store.specs.Opening.{KeepsRecord}
 use Rattle.serial_core.specs.Steps.{State}
 use Rattle.durable_core.specs.Restart.{fresh_state, record_now, warm}
-use Rattle.durable_core.specs.Starting.{IsNew, started}
+use Rattle.durable_core.specs.Starting.{IsNew, StartKeeps, started}
+use Rattle.plan.specs.declared.plan.Plan.{Plan}
+use Rattle.std.specs.Prelude.{IfErr}
 use Rattle.durable_core.specs.declared.starting.StartMode.TheVariants.{Warm, Cold}
 use Rattle.durable_core.proofs.StartLemmas.{match_both, left_same, left_saved, saved_unwritten, saved_next, saves_same}
-use Rattle.durable_core.proofs.StartLemmas.{record_started, ok_both}
+use Rattle.durable_core.proofs.StartLemmas.{all_left_by_start, ok_both, record_started, stays_same, writes_or_stays}
 use Rattle.durable_core.proofs.core_state.Core.start.Goals as goal
 use Rattle.st_types.proofs.OptionLemmas.{ok_weaker}
 
 pub returns-in-Cold-clause-any_moment : goal.returns-in-Cold-clause-any_moment
 returns-in-Cold-clause-any_moment g c = λ tells only.
+    let store = c.in-Ok-open.store in
     let found = (c.in-Ok-open.ensures.found tells).found in
     let opened = c.in-Ok-open.ensures.any_moment tells only in
-    let before = recovered (g.D.Disk.seen c.args.disk) in
+    let bytes = g.D.Disk.seen c.args.disk in
+    let before = recovered bytes in
     let plan = c.args.plan.value in
-    let room = c.args.log_room in
-    let kept = record_started Cold plan room c.in-Ok.parts.serial before c.in-Ok.ensures.serial in
-    rw c.in-Cold.is
+    let serial = c.in-Ok.parts.serial in
+    let one = ap (λ (s : State). s.plan) c.in-Ok.ensures.serial in
+    let kept = record_started Cold plan c.args.log_room serial before c.in-Ok.ensures.serial in
+    rw c.in-Cold.is (all_left_by_start g.D.Disk.left_since g.D.Disk.may_leave Cold plan bytes c.args.disk store.disk
+    c.saved_first.result (λ core. core.store.disk) opened
+    (match_both c.saved_first.result _ _ _ _
+    (λ core. stays_same Cold plan serial.plan before store.last store.disk core.store.disk one found)
+    (λ e. stays_same Cold plan serial.plan before store.last store.disk e.1 one found)
+    (writes_or_stays c.saved_first.result (λ core. core.store.disk) Cold serial.plan store.last store.disk _ tt
+    c.saved_first.ensures.answers c.saved_first.ensures.unwritten))
     (match_both c.saved_first.result _ _ _ _
     (λ core save. joins g.D.Disk.left_since g.D.Disk.may_leave _ _ _ _ _
-    (weakens g.D.Disk.left_since g.D.Disk.may_leave _ _ _ _ opened (λ file. inl)) save (λ file. left_saved Cold plan
-    (record_now c.in-Ok.parts.serial) before c.in-Ok-open.store.last (recovered file) c.in-Ok-open.store.generation tt
+    (weakens g.D.Disk.left_since g.D.Disk.may_leave _ _ _ _ opened (λ file left. inl left.same)) save
+    (λ file. left_saved Cold plan (record_now serial) before store.last (recovered file) store.generation tt
     c.in-Ok-open.ensures.opened.last_is found kept))
     (λ e save. joins g.D.Disk.left_since g.D.Disk.may_leave _ _ _ _ _
-    (weakens g.D.Disk.left_since g.D.Disk.may_leave _ _ _ _ opened (λ file. inl)) save (λ file. left_saved Cold plan
-    (record_now c.in-Ok.parts.serial) before c.in-Ok-open.store.last (recovered file) c.in-Ok-open.store.generation tt
+    (weakens g.D.Disk.left_since g.D.Disk.may_leave _ _ _ _ opened (λ file left. inl left.same)) save
+    (λ file. left_saved Cold plan (record_now serial) before store.last (recovered file) store.generation tt
     c.in-Ok-open.ensures.opened.last_is found kept))
-    (c.saved_first.ensures.any_moment tells))
+    (c.saved_first.ensures.any_moment tells)))
 
 pub returns-in-Cold-clause-unwritten : goal.returns-in-Cold-clause-unwritten
 returns-in-Cold-clause-unwritten g c = λ tells.
-    saved_unwritten c.saved_first.result g.D.Disk.seen _ Cold c.in-Ok.parts.serial.plan c.in-Ok-open.store.last
-    c.in-Ok-open.store.generation (g.D.Disk.seen c.args.disk) (g.D.Disk.seen c.in-Ok-open.store.disk)
-    c.in-Ok-open.ensures.opened.last_is (c.in-Ok-open.ensures.found tells).kept c.saved_first.ensures.answers
-    c.saved_first.ensures.memory (c.saved_first.ensures.unwritten tells)
+    let store = c.in-Ok-open.store in
+    let file = c.in-Ok-open.ensures.found tells in
+    let serial = c.in-Ok.parts.serial in
+    let one = ap (λ (s : State). s.plan) c.in-Ok.ensures.serial in
+    rw c.in-Cold.is (subst
+    (λ (q : Plan). IfErr c.saved_first.result
+    (λ e. StartKeeps Cold q e.0 (g.D.Disk.seen c.args.disk) (g.D.Disk.seen e.1))) one
+    (saved_unwritten g.D.Disk.seen Cold serial.plan store.last store.generation (g.D.Disk.seen c.args.disk) store.disk
+    c.in-Ok-open.ensures.opened.last_is file.found file.kept c.saved_first.result _ _ c.saved_first.ensures.answers
+    c.saved_first.ensures.memory
+    (writes_or_stays c.saved_first.result (λ core. core.store.disk) Cold serial.plan store.last store.disk _ tt
+    c.saved_first.ensures.answers c.saved_first.ensures.unwritten)))
 
 pub returns-in-Warm-clause-unwritten : goal.returns-in-Warm-clause-unwritten
 returns-in-Warm-clause-unwritten g c = λ tells.
-    saved_unwritten c.warm.result g.D.Disk.seen _ Warm c.in-Ok.parts.serial.plan c.in-Ok-open.store.last
-    c.in-Ok-open.store.generation (g.D.Disk.seen c.args.disk) (g.D.Disk.seen c.in-Ok-open.store.disk)
-    c.in-Ok-open.ensures.opened.last_is (c.in-Ok-open.ensures.found tells).kept c.warm.ensures.answers
-    c.warm.ensures.memory (c.warm.ensures.unwritten tells)
+    let store = c.in-Ok-open.store in
+    let file = c.in-Ok-open.ensures.found tells in
+    let serial = c.in-Ok.parts.serial in
+    let one = ap (λ (s : State). s.plan) c.in-Ok.ensures.serial in
+    rw c.in-Warm.is (subst
+    (λ (q : Plan). IfErr c.warm.result
+    (λ e. StartKeeps Warm q e.0 (g.D.Disk.seen c.args.disk) (g.D.Disk.seen e.1))) one
+    (saved_unwritten g.D.Disk.seen Warm serial.plan store.last store.generation (g.D.Disk.seen c.args.disk) store.disk
+    c.in-Ok-open.ensures.opened.last_is file.found file.kept c.warm.result _ _ c.warm.ensures.answers
+    c.warm.ensures.memory c.warm.ensures.unwritten))
 
 pub returns-in-Warm-clause-any_moment : goal.returns-in-Warm-clause-any_moment
 returns-in-Warm-clause-any_moment g c = λ tells only.
     let store = c.in-Ok-open.store in
     let plan = c.args.plan.value in
     let serial = c.in-Ok.parts.serial in
-    let before = recovered (g.D.Disk.seen c.args.disk) in
+    let bytes = g.D.Disk.seen c.args.disk in
+    let before = recovered bytes in
     let found = (c.in-Ok-open.ensures.found tells).found in
     let opened = c.in-Ok-open.ensures.any_moment tells only in
     let one = ap (λ (s : State). s.plan) c.in-Ok.ensures.serial in
-    rw c.in-Warm.is
+    rw c.in-Warm.is (all_left_by_start g.D.Disk.left_since g.D.Disk.may_leave Warm plan bytes c.args.disk store.disk
+    c.warm.result (λ core. core.store.disk) opened
+    (match_both c.warm.result _ _ _ _
+    (λ core. stays_same Warm plan serial.plan before store.last store.disk core.store.disk one found)
+    (λ e. stays_same Warm plan serial.plan before store.last store.disk e.1 one found) c.warm.ensures.unwritten)
     (match_both c.warm.result _ _ _ _
     (λ core save. joins g.D.Disk.left_since g.D.Disk.may_leave _ _ _ _ _
-    (weakens g.D.Disk.left_since g.D.Disk.may_leave _ _ _ _ opened (λ file. inl)) save
+    (weakens g.D.Disk.left_since g.D.Disk.may_leave _ _ _ _ opened (λ file left. inl left.same)) save
     (λ file. left_same Warm plan serial.plan before store.last (recovered file) one found))
     (λ e save. joins g.D.Disk.left_since g.D.Disk.may_leave _ _ _ _ _
-    (weakens g.D.Disk.left_since g.D.Disk.may_leave _ _ _ _ opened (λ file. inl)) save
+    (weakens g.D.Disk.left_since g.D.Disk.may_leave _ _ _ _ opened (λ file left. inl left.same)) save
     (λ file. left_same Warm plan serial.plan before store.last (recovered file) one found))
-    (c.warm.ensures.any_moment tells))
+    (c.warm.ensures.any_moment tells)))
 
 pub returns-in-Cold-clause-core : goal.returns-in-Cold-clause-core
 returns-in-Cold-clause-core g c =
@@ -81,6 +111,7 @@ returns-in-Cold-clause-core g c =
       unacknowledged = is.unacknowledged;
       working = is.working;
       cold = λ same. fresh;
+      saved = λ same. is.saved ∙ ap (λ (s : State). Found core.store.generation (record_now s)) (sym is.state_is);
       resumed = λ other. absurd (cc);
       last_is = is.last_is;
     }) c.saved_first.ensures.core)
@@ -102,6 +133,7 @@ returns-in-Warm-clause-core g c =
       unacknowledged = is.unacknowledged;
       working = is.working;
       cold = λ other. absurd (cc);
+      saved = λ other. absurd (cc);
       resumed = λ same. state;
       last_is = is.last_is;
     }) c.warm.ensures.core)

@@ -3,19 +3,21 @@ use Rattle.retain_store.specs.declared.shape.TheConstants.{FILE_BYTES}
 use Rattle.disk.specs.Runs.{at_rest}
 use Rattle.retain_store.specs.Recovered.{recovered}
 use Rattle.retain_store.specs.Areas.{IsZeros}
-use Rattle.retain_store.specs.Opening.{IsOfFile}
+use Rattle.retain_store.specs.Opening.{IsLeftByOpening, IsOfFile}
+use Rattle.retain_store.proofs.Formats.{left_same}
 use Rattle.retain_store.proofs.Keeps.{kept_opened}
 use Rattle.retain_store.proofs.store.Store.open.Goals as goal
 
 pub recover-requires-clause-zeros : goal.recover-requires-clause-zeros
 recover-requires-clause-zeros g c =
-    subst (λ (l : List ℕ). IsZeros (take (FILE_BYTES - 1) l)) (sym c.deref_mut.ensures.value) c.in-Ok.ensures.zeros
+    subst (λ (l : List ℕ). IsZeros (FILE_BYTES - 1) (take (FILE_BYTES - 1) l)) (sym c.deref_mut.ensures.value)
+    c.in-Ok.ensures.zeros
 
 pub returns-in-Err-clause-any_moment : goal.returns-in-Err-clause-any_moment
 returns-in-Err-clause-any_moment g c = λ tells only.
     at_rest g.D.Disk.left_since g.D.Disk.may_leave _ (g.D.Disk.seen c.args.disk)
-    (λ file. recovered file ≡ recovered (g.D.Disk.seen c.args.disk))
-    (λ file left. g.met.D.Disk.only_now c.args.disk file tells left) only refl
+    (IsLeftByOpening (g.D.Disk.seen c.args.disk))
+    (λ file left. g.met.D.Disk.only_now c.args.disk file tells left) only (left_same _ _ refl)
 
 pub invariant_of-result : goal.invariant_of-result
 invariant_of-result g c = (

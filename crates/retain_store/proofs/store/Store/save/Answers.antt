@@ -1,15 +1,16 @@
 use Rattle.std.proofs.Common.{◌≡◌, ◌-◌, ◌≤◌, ◌++◌, ◌∙◌, Some, List, ℕ, take, drop, length, inl, inr, ⊎_elim, refl, ap}
-use Rattle.std.proofs.Common.{arith}
+use Rattle.std.proofs.Common.{arith, subst, sym}
 use Rattle.std.proofs.lemmas.List.{take_at}
 use Rattle.retain_store.specs.declared.shape.TheConstants.{AREA_BYTES, HEADER_BYTES}
 use Rattle.disk.specs.Runs.{weakens}
 use Rattle.retain_records.specs.Records.{record_bytes}
 use Rattle.retain_records.specs.Reading.{decoded}
-use Rattle.retain_store.specs.Recovered.{recovered}
+use Rattle.retain_store.specs.Recovered.{area, recovered}
+use Rattle.retain_store.specs.Areas.{HoldsRecord}
 use Rattle.retain_store.specs.Kept.{content_of}
 use Rattle.retain_store.proofs.Frames.{frame_spells}
 use Rattle.retain_store.proofs.Surveys.{held_some}
-use Rattle.retain_store.proofs.Keeps.{kept_ok, kept_err}
+use Rattle.retain_store.proofs.Keeps.{before_stays, first_in_first, kept_ok, kept_err}
 use Rattle.retain_store.proofs.store.Store.save.Goals as goal
 
 pub write_frame-requires-clause-ready : goal.write_frame-requires-clause-ready
@@ -56,6 +57,16 @@ returns-in-Ok-clause-stops g c = λ tells.
       at_rest = λ file may.
           rw (← c.self.view_is)
           (ap recovered (c.in-Ok.ensures.synced tells file may) ∙ (c.in-Ok.ensures.saved tells content spells).found);
+      before = rw (← c.self.view_is) (λ generation last is file may.
+          subst (HoldsRecord generation last) (sym (c.in-Ok.ensures.synced tells file may))
+          (before_stays (g.D.Disk.seen c.self.inside.disk) _ c.self.inside.areas _ content generation last
+          (c.self.invariant.0.at_rest tells c.in-Working.is).surveyed
+          (rw (← c.at-target.ensures.at) (c.in-Ok.ensures.saved tells content spells)) is));
+      first = rw (← c.self.view_is) (λ none file may.
+          ap (area 0) (c.in-Ok.ensures.synced tells file may)
+          ∙ first_in_first (g.D.Disk.seen c.self.inside.disk) _ c.self.inside.areas _ content
+          (c.self.invariant.0.at_rest tells c.in-Working.is).surveyed
+          (rw (← c.at-target.ensures.at) (c.in-Ok.ensures.saved tells content spells)) none);
     }
 
 pub returns-in-Err-clause-stops : goal.returns-in-Err-clause-stops
@@ -79,6 +90,8 @@ returns-in-Err-clause-stops g c = λ tells.
           (weakens g.D.Disk.left_since g.D.Disk.may_leave _ _ _ _ (c.write_frame.ensures.any_moment tells content spells)
           (λ file. ⊎_elim (λ before. inl (before ∙ (c.self.invariant.0.at_rest tells c.in-Working.is).surveyed.last_is)) inr));
       at_rest = tt;
+      before = tt;
+      first = λ none. tt;
     }
 
 pub returns-in-Ok-clause-saved : goal.returns-in-Ok-clause-saved
