@@ -2,7 +2,7 @@
 """Feeds the built program broken texts, plants and retain files.
 
 Each is accepted, or refused with one fault line and the status of its kind. A place is inside the text, and an existing retain file stays
-unchanged. Nothing crashes. With `--explain` a view follows that line: it has only printable characters, the line and the column of the place,
+unchanged. Nothing crashes. With `--explain` views follow that line: they have only printable characters, the line and the column of a place,
 and a caret under its byte. `plant show` refuses exactly the retain files that a start refuses, and leaves them unchanged.
 
 Most of the texts use the whole language; none takes more than a second of CPU time.
@@ -79,24 +79,38 @@ def change(pick, tokens, pool):
     return changed
 
 
-def look_at_view(text, fault, answer):
-    """Checks that a view of the fault follows its line, and shows its place."""
-    if answer[:2] != (2, "") or not answer[2].startswith(fault[0]):
-        fail(text, answer)
-    view = answer[2][len(fault[0]) :]
-    if not view.startswith(f"error[{fault[1]}{fault[2]}]: ") or not re.fullmatch(r"[\t\n -~]+\n", view):
-        fail(text, answer)
-    if fault[3] is None:
-        return
-    place = int(fault[3])
-    line, column = text.count("\n", 0, place) + 1, place - text.rfind("\n", 0, place)
-    if f"--> broken.st:{line}:{column}\n" not in view:
-        fail(text, (line, column, view))
+def place_of(text, view):
+    """The place that a view shows, with a caret under its byte."""
+    found = re.search(r"--> broken\.st:(\d+):(\d+)\n", view)
+    if not found:
+        fail(text, view)
+    starts = [0, *(at + 1 for at, byte in enumerate(text) if byte == "\n")]
+    place = starts[int(found[1]) - 1] + int(found[2]) - 1
     lines = view.split("\n")
     carets = next(at for at, shown in enumerate(lines) if re.fullmatch(r" *\|\s*\^~*", shown))
     under = (lines[carets - 1] + "\n")[lines[carets].index("^")]
     if under != (text + "\n")[place]:
         fail(text, (under, view))
+    return place
+
+
+def look_at_views(text, fault, answer):
+    """Checks that views follow the line of the fault, each with its place, in the order of the text; one of them is of the fault."""
+    if answer[:2] != (2, "") or not answer[2].startswith(fault[0]):
+        fail(text, answer)
+    shown = answer[2][len(fault[0]) :]
+    front, *views = re.split(r"^(?=error\[)", shown, flags=re.MULTILINE)
+    code = f"{fault[1]}{fault[2]}"
+    if front or not views or not re.fullmatch(r"[\t\n -~]+\n", shown):
+        fail(text, answer)
+    if fault[3] is None:
+        if not shown.startswith(f"error[{code}]: "):
+            fail(text, answer)
+        return
+    places = [place_of(text, view) for view in views]
+    own = [view for view, place in zip(views, places) if place == int(fault[3]) and view.startswith(f"error[{code}]: ")]
+    if places != sorted(places) or len(own) != 1:
+        fail(text, (places, answer))
 
 
 def texts(plant, pick, count):
@@ -121,7 +135,7 @@ def texts(plant, pick, count):
         again = plant.run("run", "broken.st", "--plant", "plant.csv", "--store", "store", "--start", "cold")
         if again != (2, "", fault[0]) or store.read_bytes() != b"kept":
             fail(text, again)
-        look_at_view(text, fault, plant.run("check", "broken.st", "--explain"))
+        look_at_views(text, fault, plant.run("check", "broken.st", "--explain"))
     return accepted
 
 

@@ -7,6 +7,7 @@ text, for a person".
 usage: tests/explain.py PLANT     PLANT is the built program
 """
 import pathlib
+import re
 import subprocess
 import sys
 import tempfile
@@ -55,6 +56,7 @@ VALVE = (
     "FUNCTION_BLOCK Valve VAR_INPUT amount : INT; END_VAR VAR_OUTPUT full : BOOL; END_VAR\n"
     "full := amount > 9; END_FUNCTION_BLOCK\n"
 )
+TWICE = "FUNCTION Twice : INT VAR_INPUT n : INT; END_VAR Twice := n * 2; END_FUNCTION\n"
 
 # an enumerated type with one name too many, whose `x` is 14 bytes before the end
 MANY = "TYPE t : (" + ",".join(f"n{k:02x}" for k in range(256)) + ",@x00); END_TYPE"
@@ -259,11 +261,214 @@ error[C1]: `Valve` has no output `ful`
 """),
     ("C1", tank("row : ARRAY [0..1] OF Point;", "slow : TON;").replace(STATEMENT, "level := row[0].@z;")
         + POINT, """\
-error[C1]: `z` isn't declared in this scope
+error[C1]: `Point` has no field `z`
   --> t.st:10:19
    |
 10 |   level := row[0].z;
    |                   ^
+"""),
+    ("C1", tank("raw : Point := (@z := 1);", "raw : DINT := 5;") + POINT, """\
+error[C1]: `Point` has no field `z`
+ --> t.st:6:21
+  |
+6 |     raw : Point := (z := 1);
+  |                     ^
+"""),
+    ("C1", tank("level := level.@x;"), """\
+error[C1]: INT isn't a structure: it has no field `x`
+  --> t.st:10:18
+   |
+10 |   level := level.x;
+   |                  ^
+"""),
+    ("C1", tank("state : Mode;", "slow : TON;").replace(STATEMENT, "level := state.@x;") + MODE, """\
+error[C1]: Mode isn't a structure: it has no field `x`
+  --> t.st:10:18
+   |
+10 |   level := state.x;
+   |                  ^
+"""),
+    ("C1", TANK + POINT + "TYPE Row : ARRAY [0..3] OF @Pont; END_TYPE\n", """\
+error[C1]: `Pont` isn't declared in this scope
+  --> t.st:23:28
+   |
+23 | TYPE Row : ARRAY [0..3] OF Pont; END_TYPE
+   |                            ^~~~
+   = help: did you mean `Point`?
+"""),
+    ("C1", TANK + TWICE.replace(": INT VAR", ": @IMT VAR"), """\
+error[C1]: `IMT` isn't declared in this scope
+  --> t.st:22:18
+   |
+22 | FUNCTION Twice : IMT VAR_INPUT n : INT; END_VAR Twice := n * 2; END_FUNCTION
+   |                  ^~~
+   = help: did you mean `INT`?
+"""),
+    ("C1", tank("level := @MXA(level, 1);"), """\
+error[C1]: `MXA` isn't declared in this scope
+  --> t.st:10:12
+   |
+10 |   level := MXA(level, 1);
+   |            ^~~
+   = help: did you mean `MAX`?
+"""),
+    ("C1", tank("state : Mode;", "slow : TON;").replace(STATEMENT, "state := @Fil;") + MODE, """\
+error[C1]: `Fil` isn't declared in this scope
+  --> t.st:10:12
+   |
+10 |   state := Fil;
+   |            ^~~
+   = help: did you mean `Fill`?
+"""),
+    ("C1", tank("level := @raw(1);"), """\
+error[C1]: `raw` is a variable, not a function
+  --> t.st:10:12
+   |
+10 |   level := raw(1);
+   |            ^~~
+   = help: it is declared on line 6
+"""),
+    ("C1", tank("level := @Point(1);") + POINT, """\
+error[C1]: `Point` is a type, not a function
+  --> t.st:10:12
+   |
+10 |   level := Point(1);
+   |            ^~~~~
+   = help: it is declared on line 22
+"""),
+    ("C1", tank("level := @Fill(1);") + MODE, """\
+error[C1]: `Fill` is a value of an enumerated type, not a function
+  --> t.st:10:12
+   |
+10 |   level := Fill(1);
+   |            ^~~~
+   = help: it is declared on line 22
+"""),
+    ("C1", tank("level := @other(1);").replace("VAR_GLOBAL", "VAR_GLOBAL\n    other : INT;"), """\
+error[C1]: `other` is a global, not a function
+  --> t.st:10:12
+   |
+10 |   level := other(1);
+   |            ^~~~~
+   = help: it is declared on line 15
+"""),
+    ("C1", tank("level := level * @Valve(1);") + VALVE, """\
+error[C1]: `Valve` is a function block, not a function
+  --> t.st:10:20
+   |
+10 |   level := level * Valve(1);
+   |                    ^~~~~
+   = help: declare an instance of it and call that
+"""),
+    ("C1", TANK + VALVE + "PROGRAM Idle @Valve(); END_PROGRAM\n", """\
+error[C1]: `Valve` is a function block, not an instance of a function block
+  --> t.st:24:14
+   |
+24 | PROGRAM Idle Valve(); END_PROGRAM
+   |              ^~~~~
+   = help: declare an instance of it and call that
+"""),
+    ("C1", tank("IF open THEN @TON(IN := open, PT := T#1s); END_IF;"), """\
+error[C1]: `TON` is a standard function block, not an instance of a function block
+  --> t.st:10:16
+   |
+10 |   IF open THEN TON(IN := open, PT := T#1s); END_IF;
+   |                ^~~
+   = help: declare an instance of it and call that
+"""),
+    ("C1", tank("CASE level OF 1: @Twice(n := level); END_CASE;") + TWICE, """\
+error[C1]: `Twice` is a function, not an instance of a function block
+  --> t.st:10:20
+   |
+10 |   CASE level OF 1: Twice(n := level); END_CASE;
+   |                    ^~~~~
+   = help: use its result in an expression
+"""),
+    ("C1", tank("@Tank();"), """\
+error[C1]: `Tank` is a program, not an instance of a function block
+  --> t.st:10:3
+   |
+10 |   Tank();
+   |   ^~~~
+   = help: it is declared on line 1
+"""),
+    ("C1", tank("@Twice := 1;") + TWICE, """\
+error[C1]: `Twice` is a function, not a variable
+  --> t.st:10:3
+   |
+10 |   Twice := 1;
+   |   ^~~~~
+   = help: it is declared on line 22
+"""),
+    ("C1", tank("FOR @twice := 1 TO 2 DO ; END_FOR;") + TWICE, """\
+error[C1]: `twice` is a function, not a variable
+  --> t.st:10:7
+   |
+10 |   FOR twice := 1 TO 2 DO ; END_FOR;
+   |       ^~~~~
+   = help: it is declared on line 22
+"""),
+    ("C1", tank("FOR @Point := 1 TO 2 DO ; END_FOR;") + POINT, """\
+error[C1]: `Point` is a type, not a variable
+  --> t.st:10:7
+   |
+10 |   FOR Point := 1 TO 2 DO ; END_FOR;
+   |       ^~~~~
+   = help: it is declared on line 22
+"""),
+    ("C1", tank("level := MAX(ABS(1), @Twice);") + TWICE, """\
+error[C1]: `Twice` is a function, not a variable
+  --> t.st:10:24
+   |
+10 |   level := MAX(ABS(1), Twice);
+   |                        ^~~~~
+   = help: it is declared on line 22
+"""),
+    ("C1", tank("level := @ABS;"), """\
+error[C1]: `ABS` is a standard function, not a variable
+  --> t.st:10:12
+   |
+10 |   level := ABS;
+   |            ^~~
+"""),
+    ("C1", tank("open := @Valve.full;") + VALVE, """\
+error[C1]: `Valve` is a function block, not a variable
+  --> t.st:10:11
+   |
+10 |   open := Valve.full;
+   |           ^~~~~
+   = help: declare an instance of it and read that
+"""),
+    ("C1", tank("raw : @open;", "raw : DINT := 5;"), """\
+error[C1]: `open` is a variable, not a type
+ --> t.st:6:11
+  |
+6 |     raw : open;
+  |           ^~~~
+  = help: it is declared on line 7
+"""),
+    ("C1", tank("raw : DINT := @open;", "raw : DINT := 5;"), """\
+error[C1]: `open` is a variable, not a literal
+ --> t.st:6:19
+  |
+6 |     raw : DINT := open;
+  |                   ^~~~
+  = help: it is declared on line 7
+"""),
+    ("C1", tank("CASE level OF 1: level := ABS(level); 3, @raw, 4: ; END_CASE;"), """\
+error[C1]: `raw` is a variable, not a literal
+  --> t.st:10:44
+   |
+10 |   CASE level OF 1: level := ABS(level); 3, raw, 4: ; END_CASE;
+   |                                            ^~~
+   = help: it is declared on line 6
+"""),
+    ("C1", TANK + "TYPE Line : STRUCT length : INT := @raw; END_STRUCT; END_TYPE\n", """\
+error[C1]: `raw` isn't declared in this scope
+  --> t.st:22:36
+   |
+22 | TYPE Line : STRUCT length : INT := raw; END_STRUCT; END_TYPE
+   |                                    ^~~
 """),
     ("C2", tank("raw : DINT := 5; @raw : INT;", "raw : DINT := 5;"), """\
 error[C2]: `raw` is already declared on line 6
@@ -285,6 +490,13 @@ error[C2]: `tank` is the name of the program on line 1
   |
 6 |     tank : DINT;
   |     ^~~~
+"""),
+    ("C2", tank("@point : DINT;", "raw : DINT := 5;") + POINT, """\
+error[C2]: `point` is the name of the type on line 22
+ --> t.st:6:5
+  |
+6 |     point : DINT;
+  |     ^~~~~
 """),
     ("C2", tank("@Max : DINT;", "raw : DINT := 5;"), """\
 error[C2]: `Max` is the name of a standard function
@@ -394,6 +606,307 @@ error[C3]: the variable is DINT; the expression is BOOL
   |                   ^~~~
   = help: convert it with BOOL_TO_DINT
 """),
+    ("C3", tank("spot : Point;", "slow : TON;").replace(STATEMENT, "spot.x := @raw;") + POINT, """\
+error[C3]: `spot.x` is INT; the expression is DINT
+  --> t.st:10:13
+   |
+10 |   spot.x := raw;
+   |             ^~~
+   = help: convert it with DINT_TO_INT
+"""),
+    ("C3", tank("spot : Point;", "slow : TON;").replace(STATEMENT, "spot := @5;") + POINT, """\
+error[C3]: `spot` is an array, a structure or an instance; the expression is a number
+  --> t.st:10:11
+   |
+10 |   spot := 5;
+   |           ^
+"""),
+    ("C3", tank("spot, other : Point;", "slow : TON;").replace(STATEMENT, "spot := @other;") + POINT, """\
+error[C3]: a structure, an array or an instance isn't assigned as a whole
+  --> t.st:10:11
+   |
+10 |   spot := other;
+   |           ^~~~~
+   = help: assign the members of a structure or the elements of an array one by one
+"""),
+    ("C3", tank("CASE @open OF 1: ; END_CASE;"), """\
+error[C3]: a CASE selects by an integer or an enumerated type; the expression is BOOL
+  --> t.st:10:8
+   |
+10 |   CASE open OF 1: ; END_CASE;
+   |        ^~~~
+"""),
+    ("C3", tank("FOR raw := 1 TO @level DO ; END_FOR;"), """\
+error[C3]: `raw` is DINT; the expression is INT
+  --> t.st:10:19
+   |
+10 |   FOR raw := 1 TO level DO ; END_FOR;
+   |                   ^~~~~
+   = help: convert it with INT_TO_DINT
+"""),
+    ("C3", tank("row : ARRAY [0..1] OF INT;", "slow : TON;").replace(STATEMENT, "level := row[@open];"), """\
+error[C3]: a subscript is an integer; the expression is BOOL
+  --> t.st:10:16
+   |
+10 |   level := row[open];
+   |                ^~~~
+"""),
+    ("C3", tank("level := Twice(@raw);") + TWICE, """\
+error[C3]: this input of `Twice` is INT; the expression is DINT
+  --> t.st:10:18
+   |
+10 |   level := Twice(raw);
+   |                  ^~~
+   = help: convert it with DINT_TO_INT
+"""),
+    ("C3", tank("level := MAX(level, @raw);"), """\
+error[C3]: the arguments of `MAX` must have the same type: this one is DINT, another INT
+  --> t.st:10:23
+   |
+10 |   level := MAX(level, raw);
+   |                       ^~~
+"""),
+    ("C3", tank("open := MAX(@open, open);"), """\
+error[C3]: `MAX` takes integers or TIMEs; the argument is BOOL
+  --> t.st:10:15
+   |
+10 |   open := MAX(open, open);
+   |               ^~~~
+"""),
+    ("C3", tank("bits : WORD;", "slow : TON;").replace(STATEMENT, "bits := MAX(@1, bits);"), """\
+error[C3]: `MAX` takes integers or TIMEs; the argument is WORD
+  --> t.st:10:15
+   |
+10 |   bits := MAX(1, bits);
+   |               ^
+"""),
+    ("C3", tank("level := ABS(@open);"), """\
+error[C3]: `ABS` takes an integer; the argument is BOOL
+  --> t.st:10:16
+   |
+10 |   level := ABS(open);
+   |                ^~~~
+"""),
+    ("C3", tank("level := SEL(@raw, level, 1);"), """\
+error[C3]: `SEL` selects by a BOOL; the argument is DINT
+  --> t.st:10:16
+   |
+10 |   level := SEL(raw, level, 1);
+   |                ^~~
+"""),
+    ("C3", tank("level := SEL(open, level, @raw);"), """\
+error[C3]: the last two arguments of `SEL` must have the same type: this one is DINT, another INT
+  --> t.st:10:29
+   |
+10 |   level := SEL(open, level, raw);
+   |                             ^~~
+"""),
+    ("C3", tank("spot : Point;", "slow : TON;").replace(STATEMENT, "level := SEL(open, @spot, level);") + POINT, """\
+error[C3]: `SEL` takes single values; the argument is an array, a structure or an instance
+  --> t.st:10:22
+   |
+10 |   level := SEL(open, spot, level);
+   |                      ^~~~
+"""),
+    ("C3", tank("bits : WORD;", "slow : TON;").replace(STATEMENT, "bits := SHL(@level, 1);"), """\
+error[C3]: `SHL` shifts a bit string; the argument is INT
+  --> t.st:10:15
+   |
+10 |   bits := SHL(level, 1);
+   |               ^~~~~
+"""),
+    ("C3", tank("bits : WORD;", "slow : TON;").replace(STATEMENT, "bits := SHR(bits, @bits);"), """\
+error[C3]: `SHR` shifts by an integer; the argument is WORD
+  --> t.st:10:21
+   |
+10 |   bits := SHR(bits, bits);
+   |                     ^~~~
+"""),
+    ("C3", tank("bits : WORD;", "slow : TON;").replace(STATEMENT, "bits := ROL(@open, 1);"), """\
+error[C3]: `ROL` rotates a bit string; the argument is BOOL
+  --> t.st:10:15
+   |
+10 |   bits := ROL(open, 1);
+   |               ^~~~
+"""),
+    ("C3", tank("bits : WORD;", "slow : TON;").replace(STATEMENT, "bits := ROR(bits, @open);"), """\
+error[C3]: `ROR` rotates by an integer; the argument is BOOL
+  --> t.st:10:21
+   |
+10 |   bits := ROR(bits, open);
+   |                     ^~~~
+"""),
+    ("C3", tank("slow(IN := open, PT := T#1s, Q => @level);"), """\
+error[C3]: the output `Q` is BOOL; the variable is INT
+  --> t.st:10:37
+   |
+10 |   slow(IN := open, PT := T#1s, Q => level);
+   |                                     ^~~~~
+"""),
+    ("C3", tank("level := @-open;"), """\
+error[C3]: `-` takes a signed number; the operand is BOOL
+  --> t.st:10:12
+   |
+10 |   level := -open;
+   |            ^
+"""),
+    ("C3", tank("bits : WORD;", "slow : TON;").replace(STATEMENT, "bits := @-(1);"), """\
+error[C3]: `-` takes a signed number; the operand is a number of another type
+  --> t.st:10:11
+   |
+10 |   bits := -(1);
+   |           ^
+"""),
+    ("C3", tank("open := @NOT level;"), """\
+error[C3]: NOT takes a BOOL or a bit string; the operand is INT
+  --> t.st:10:11
+   |
+10 |   open := NOT level;
+   |           ^~~
+"""),
+    ("C3", tank("open := @level AND level;"), """\
+error[C3]: `AND` takes BOOLs or bit strings; the operands are INT
+  --> t.st:10:11
+   |
+10 |   open := level AND level;
+   |           ^~~~~
+"""),
+    ("C3", tank("bits : WORD;", "slow : TON;").replace(STATEMENT, "bits := @bits * 2;"), """\
+error[C3]: `*` takes integers; the operands are WORD
+  --> t.st:10:11
+   |
+10 |   bits := bits * 2;
+   |           ^~~~
+"""),
+    ("C3", tank("bits : WORD;", "slow : TON;").replace(STATEMENT, "bits := @1 * 2;"), """\
+error[C3]: `*` takes integers; the operands are numbers of another type
+  --> t.st:10:11
+   |
+10 |   bits := 1 * 2;
+   |           ^
+"""),
+    ("C3", tank("spot : Point;", "slow : TON;").replace(STATEMENT, "open := @spot = spot;") + POINT, """\
+error[C3]: `=` takes single values; an operand is an array, a structure or an instance
+  --> t.st:10:11
+   |
+10 |   open := spot = spot;
+   |           ^~~~
+"""),
+    ("C3", tank("level := @level[0];"), """\
+error[C3]: `level` is INT: only an array has elements
+  --> t.st:10:12
+   |
+10 |   level := level[0];
+   |            ^~~~~
+"""),
+    ("C3", tank("row : ARRAY [0..1] OF INT;", "slow : TON;").replace(STATEMENT, "level := @row[0][1];"), """\
+error[C3]: a part of `row` is INT: only an array has elements
+  --> t.st:10:12
+   |
+10 |   level := row[0][1];
+   |            ^~~
+"""),
+    ("C3", tank("state : Mode;", "slow : TON;").replace(STATEMENT, "state := @Fill;")
+        + MODE + "TYPE Step : (Fill, Rest); END_TYPE\n", """\
+error[C3]: several enumerated types have a value `Fill`
+  --> t.st:10:12
+   |
+10 |   state := Fill;
+   |            ^~~~
+   = help: write its type, as in `Mode#Fill`
+"""),
+    ("C3", tank("raw : @Twice;", "raw : DINT := 5;") + TWICE, """\
+error[C3]: `Twice` is a function, not a type
+ --> t.st:6:11
+  |
+6 |     raw : Twice;
+  |           ^~~~~
+"""),
+    ("C3", TANK + "FUNCTION_BLOCK Valve VAR inner : @Tank; END_VAR END_FUNCTION_BLOCK\n", """\
+error[C3]: `Tank` is a program, not a type
+  --> t.st:22:34
+   |
+22 | FUNCTION_BLOCK Valve VAR inner : Tank; END_VAR END_FUNCTION_BLOCK
+   |                                  ^~~~
+"""),
+    ("C3", tank("raw : @ABS;", "raw : DINT := 5;"), """\
+error[C3]: `ABS` is a standard function, not a type
+ --> t.st:6:11
+  |
+6 |     raw : ABS;
+  |           ^~~
+"""),
+    ("C3", TANK + "TYPE Line : STRUCT delay : @TON; END_STRUCT; END_TYPE\n", """\
+error[C3]: `TON` is a function block: an instance isn't allowed here
+  --> t.st:22:28
+   |
+22 | TYPE Line : STRUCT delay : TON; END_STRUCT; END_TYPE
+   |                            ^~~
+   = help: declare instances in VAR of a program or function block
+"""),
+    ("C3", TANK + POINT + "FUNCTION Origin : @Point ; END_FUNCTION\n", """\
+error[C3]: an input, an output or a result has an elementary or enumerated type; `Point` has parts
+  --> t.st:23:19
+   |
+23 | FUNCTION Origin : Point ; END_FUNCTION
+   |                   ^~~~~
+"""),
+    ("C3", tank("slow : @TON := 5;", "slow : TON;"), """\
+error[C3]: an instance can't have an initial value
+ --> t.st:8:12
+  |
+8 |     slow : TON := 5;
+  |            ^~~
+"""),
+    ("C3", tank("raw : DINT := @[1, 2];", "raw : DINT := 5;"), """\
+error[C3]: a list initialises an array; the variable is DINT
+ --> t.st:6:19
+  |
+6 |     raw : DINT := [1, 2];
+  |                   ^
+"""),
+    ("C3", tank("raw : Mode := @(x := 1);", "raw : DINT := 5;") + MODE, """\
+error[C3]: fields initialise a structure; the variable is Mode
+ --> t.st:6:19
+  |
+6 |     raw : Mode := (x := 1);
+  |                   ^
+"""),
+    ("C3", tank("@level();"), """\
+error[C3]: `level` is INT, not an instance of a function block
+  --> t.st:10:3
+   |
+10 |   level();
+   |   ^~~~~
+"""),
+    ("C3", tank("FOR @level := 1 TO 2 DO ; END_FOR;"), """\
+error[C3]: the control variable of a FOR is a VAR of the unit, of an integer type; `level` isn't
+  --> t.st:10:7
+   |
+10 |   FOR level := 1 TO 2 DO ; END_FOR;
+   |       ^~~~~
+"""),
+    ("C3", tank("CASE level OF @DINT#5: ; END_CASE;"), """\
+error[C3]: the selector is INT; the label is DINT
+  --> t.st:10:17
+   |
+10 |   CASE level OF DINT#5: ; END_CASE;
+   |                 ^~~~~~
+"""),
+    ("C3", tank("state : Mode;", "slow : TON;").replace(STATEMENT, "CASE state OF @1: ; END_CASE;") + MODE, """\
+error[C3]: the selector is Mode; the label is a number
+  --> t.st:10:17
+   |
+10 |   CASE state OF 1: ; END_CASE;
+   |                 ^
+"""),
+    ("C3", tank("CASE level OF @Fill: ; END_CASE;") + MODE, """\
+error[C3]: the selector is INT; the label is Mode
+  --> t.st:10:17
+   |
+10 |   CASE level OF Fill: ; END_CASE;
+   |                 ^~~~
+"""),
     ("C4", tank("level := level + @40000;"), """\
 error[C4]: 40000 doesn't fit in INT (-32768 to 32767)
   --> t.st:10:20
@@ -407,6 +920,13 @@ error[C4]: -40000 doesn't fit in INT (-32768 to 32767)
    |
 10 |   level := -40000;
    |            ^
+"""),
+    ("C4", tank("level := @INT#40000;"), """\
+error[C4]: INT#40000 doesn't fit in INT (-32768 to 32767)
+  --> t.st:10:12
+   |
+10 |   level := INT#40000;
+   |            ^~~~~~~~~
 """),
     ("C4", tank("PRIORITY := @65536", "PRIORITY := 0"), """\
 error[C4]: 65536 is over 65535, the largest PRIORITY
@@ -429,6 +949,28 @@ error[C5]: `slow` is an instance: its outputs can't be assigned from outside
    |
 10 |   slow.Q := open;
    |   ^~~~
+"""),
+    ("C5", TANK + "FUNCTION_BLOCK Valve VAR_INPUT amount : INT; END_VAR @amount := 1; END_FUNCTION_BLOCK\n", """\
+error[C5]: `amount` is an input: it can't be assigned
+  --> t.st:22:54
+   |
+22 | FUNCTION_BLOCK Valve VAR_INPUT amount : INT; END_VAR amount := 1; END_FUNCTION_BLOCK
+   |                                                      ^~~~~~
+"""),
+    ("C5", tank("most : INT := 5; END_VAR VAR raw : DINT := 5;", "raw : DINT := 5;")
+        .replace("VAR\n    most", "VAR CONSTANT\n    most").replace(STATEMENT, "@most := 6;"), """\
+error[C5]: `most` is a constant: it can't be assigned
+  --> t.st:10:3
+   |
+10 |   most := 6;
+   |   ^~~~
+"""),
+    ("C5", tank("FOR raw := 1 TO 2 DO @raw := 3; END_FOR;"), """\
+error[C5]: `raw` controls an enclosing FOR: it can't be assigned
+  --> t.st:10:24
+   |
+10 |   FOR raw := 1 TO 2 DO raw := 3; END_FOR;
+   |                        ^~~
 """),
     ("C6", tank("FUNCTION @f : INT f := f(); END_FUNCTION\nCONFIGURATION Plant", "CONFIGURATION Plant"), """\
 error[C6]: `f` contains itself, or is over 64 deep
@@ -465,6 +1007,20 @@ error[C7]: the range 1..3 overlaps a label on line 15
   --> t.st:17:3
    |
 17 |   1..3: ;
+   |   ^
+"""),
+    ("C7", tank("CASE level OF\n  5: level := 1;\n  @5: ;\n  END_CASE;"), """\
+error[C7]: `5` is a label again on line 12
+  --> t.st:11:3
+   |
+11 |   5: level := 1;
+   |   ^
+"""),
+    ("C7", tank("CASE level OF\n  @2, 4: ;\n  1..3: ;\n  END_CASE;"), """\
+error[C7]: `2` is in the range 1..3 on line 12 too
+  --> t.st:11:3
+   |
+11 |   2, 4: ;
    |   ^
 """),
     ("C7", tank("CASE level OF -1: ; 0, @-1: ; END_CASE;"), """\
@@ -855,6 +1411,15 @@ def words_of(code):
     return ["check", "t.st", "--explain"]
 
 
+def is_explained(printed, line, shown):
+    """Whether the text has the line of its fault and this view. A checked text has the views of all rules that it breaks, and their count."""
+    if printed == line + shown:
+        return True
+    views, _, count = printed.removeprefix(line).rstrip("\n").rpartition("\n")
+    every = re.split(r"^(?=error\[)", f"{views}\n", flags=re.MULTILINE)[1:]
+    return printed.startswith(line) and shown in every and count == f"{len(every)} errors"
+
+
 def main():
     if len(sys.argv) != 2:
         sys.exit(__doc__)
@@ -866,9 +1431,9 @@ def main():
             if text is not None:
                 source.write_bytes(text.replace("@", "", 1).encode())
             ended = subprocess.run([program, *words_of(code)], cwd=folder, capture_output=True, timeout=60)
-            wanted = line_of(code, text) + shown
-            if (ended.returncode, ended.stdout, ended.stderr.decode()) != (2, b"", wanted):
-                fail(f"{code}: status {ended.returncode}, printed\n{ended.stderr.decode()}and expected\n{wanted}")
+            printed, line = ended.stderr.decode(), line_of(code, text)
+            if (ended.returncode, ended.stdout) != (2, b"") or not is_explained(printed, line, shown):
+                fail(f"{code}: status {ended.returncode}, printed\n{printed}and expected\n{line}{shown}")
     print(f"explain.py: {len(CASES)} texts explained as expected")
 
 

@@ -259,7 +259,7 @@ def words_and_looks(program):
     yield "run s --plant p --store f --start cold --budget x", {}, WORDS, {"refusal": "error: "}
     yield "explain C3", {}, WORDS, {}
     yield "check counter.st", counter, (*WORDS, *BUILD, "K6"), {}
-    yield "check wrong.st", wrong, WRONG_TEXT, {"refusal": "fault C3 at 47\n"}
+    yield "check wrong.st", wrong, (*WRONG_TEXT, SAME), {"refusal": "fault C3 at 47\n"}
     yield "check wrong.st --explain", wrong, (*WRONG_TEXT, SAME), {"refusal": "fault C3 at 47\n"}
     yield "show s", record, (*WORDS, "S5", "K6"), {}
     yield "show s --both", record, (*WORDS, "S5", "K6"), {}

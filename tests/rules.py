@@ -92,4 +92,5 @@ def main():
     print(f"rules.py: {len(rows)} texts break exactly the expected rules, at the expected places")
 
 
-main()
+if __name__ == "__main__":
+    main()

@@ -35,8 +35,8 @@ use Rattle.st_meaning.specs.ResolvedUnits.{resolved, resolved_type}
 use Rattle.st_meaning.specs.Scopes.{Name}
 use Rattle.st_meaning.specs.StandardBlocks.{StandardBlock, BlockMember, block_of, members_of}
 use Rattle.st_rules.specs.declared.limits.TheConstants.{MAX_ELEMENTS, MAX_NAMES}
-use Rattle.st_rules.specs.declared.rule.Rule.TheVariants.{DeclaredTwice, OutOfRange, RetainedAddress, TooDeep}
-use Rattle.st_rules.specs.declared.rule.Rule.TheVariants.{TooManyNames, WrongBounds}
+use Rattle.st_rules.specs.declared.reason.Reason.TheVariants.{PriorityTooGreat, RetainedAddress, SurplusName}
+use Rattle.st_rules.specs.declared.reason.Reason.TheVariants.{WrongBounds}
 use Rattle.st_rules.specs.Containment.{too_deep}
 use Rattle.st_rules.specs.DeclaredTypes.{Declaring, arrays_in, array_of_definition, declarings_in, declarings_of_element}
 use Rattle.st_rules.specs.DeclaredTypes.{declarings_of_definition, declarings_of_globals, enumerations_in, field, global}
@@ -47,7 +47,8 @@ use Rattle.st_rules.specs.Faults.{breaking, in_case}
 use Rattle.st_rules.specs.InitialRules.{too_long}
 use Rattle.st_rules.specs.Rules.{IsWellTyped, starts_in, wrong_bodies, wrong_declarations, wrong_starts, wrong_types}
 use Rattle.st_rules.specs.TwiceDeclared.{twice_declared}
-use Rattle.st_rules.specs.TypeRules.{elements_of_array, has_wrong_bounds, place_of_one, retained_addresses_of}
+use Rattle.st_rules.specs.TypeRules.{bounds_of, elements_of_array, has_wrong_bounds, place_of_one}
+use Rattle.st_rules.specs.TypeRules.{retained_addresses_of}
 use Rattle.st_rules.specs.TypeRules.{surplus_name, wrong_bound_numbers, wrong_bounds, wrong_declaring, wrong_element}
 use Rattle.st_rules.specs.TypeRules.{wrong_priorities_of, wrong_result}
 use Rattle.layout.specs.LayoutVariables.{Owned, configurations_in, global_variable, only_configuration, owned_variable}
@@ -111,14 +112,14 @@ module _ (source : Source) (h : IsWellTyped source) (spelled : IsSpelled source)
       let c = wrong_starts source in
       let d = wrong_bodies source in
       let declarations = append_first a b (append_first (a ++ b) c (append_first ((a ++ b) ++ c) d h)) in
-      let twice = breaking DeclaredTwice (twice_declared source) in
-      let deep = breaking TooDeep (too_deep source) in
-      let bounds = breaking WrongBounds (flat_map wrong_bounds (arrays_in source)) in
-      let long = breaking WrongBounds (flat_map (too_long (declared_in source)) (starts_in source)) in
+      let twice = twice_declared source in
+      let deep = too_deep source in
+      let bounds = flat_map wrong_bounds (arrays_in source) in
+      let long = flat_map (too_long (declared_in source)) (starts_in source) in
       let addresses = breaking RetainedAddress (flat_map retained_addresses_of source) in
       let front = append_first ((twice ++ deep) ++ bounds) long
       (append_first (((twice ++ deep) ++ bounds) ++ long) addresses declarations) in
-      places_none WrongBounds (flat_map wrong_bounds (arrays_in source)) (append_second (twice ++ deep) bounds front)
+      append_second (twice ++ deep) bounds front
 
   types_right : wrong_types source ≡ []
   types_right =
@@ -134,18 +135,18 @@ module _ (source : Source) (h : IsWellTyped source) (spelled : IsSpelled source)
 
   numbers_right : NumbersRight
   numbers_right =
-      let names = breaking TooManyNames (flat_map surplus_name (enumerations_in source)) in
+      let names = breaking SurplusName (flat_map surplus_name (enumerations_in source)) in
       let declarings = flat_map (wrong_declaring (declared_in source)) (declarings_in source) in
       let elements = flat_map (wrong_element (declared_in source)) (arrays_in source) in
       let results = flat_map (wrong_result (declared_in source)) (results_in source) in
       let bounds = flat_map wrong_bound_numbers (arrays_in source) in
-      let priorities = breaking OutOfRange (flat_map wrong_priorities_of source) in
+      let priorities = breaking PriorityTooGreat (flat_map wrong_priorities_of source) in
       let to_bounds = append_first ((((names ++ declarings) ++ elements) ++ results) ++ bounds) priorities types_right in
       let to_results = append_first (((names ++ declarings) ++ elements) ++ results) bounds to_bounds in
       let to_elements = append_first ((names ++ declarings) ++ elements) results to_results in
       let to_declarings = append_first (names ++ declarings) elements to_elements in
       record {
-        names = places_none TooManyNames (flat_map surplus_name (enumerations_in source))
+        names = places_none SurplusName (flat_map surplus_name (enumerations_in source))
             (append_first names declarings to_declarings);
         bounds = append_second (((names ++ declarings) ++ elements) ++ results) bounds to_bounds;
       }
@@ -187,7 +188,9 @@ module _ (source : Source) (h : IsWellTyped source) (spelled : IsSpelled source)
   -- arrays of the text
   array_counted : (a : ArrayType) → Among a (arrays_in source) → 0 < elements_of_array a
   array_counted a among =
-      let wrong = no_case (has_wrong_bounds a) a.lower.place (none_of wrong_bounds among bounds_right) in
+      let places = places_none (WrongBounds (bounds_of a)) (in_case (has_wrong_bounds a) a.lower.place)
+      (none_of wrong_bounds among bounds_right) in
+      let wrong = no_case (has_wrong_bounds a) a.lower.place places in
       above_zero (elements_of_array a) (has_elements (number_of a.upper) (number_of a.lower)
       (or_parts (int_lt (number_of a.upper) (number_of a.lower)) (nat_lt MAX_ELEMENTS (elements_of_array a)) wrong).0)
 
@@ -197,7 +200,8 @@ module _ (source : Source) (h : IsWellTyped source) (spelled : IsSpelled source)
       let lower = append_first (wrong_number None a.lower) (wrong_number None a.upper) wrong in
       kind_number (kind_or_taken None a.lower.written) (number_of a.lower)
       (kind_keyword None a.lower.written (array_spelled (arrays_in source) spelled.arrays among))
-      (held_there (holds (kind_or_taken None a.lower.written) (number_of a.lower)) a.lower.place lower)
+      (held_there (kind_or_taken None a.lower.written)
+      (holds (kind_or_taken None a.lower.written) (number_of a.lower)) a.lower.place lower)
 
   abbrev IsListed : VariableType → Type 0
   IsListed (types.Array a) = Among a (arrays_in source)

@@ -26,6 +26,7 @@ use Rattle.st_meaning.specs.StandardFunctions.{CONVERT}
 use Rattle.st_rules.specs.declared.demand.Sorts.TheVariants.{Any as any, Whole as whole}
 use Rattle.st_rules.specs.declared.demand.Demand.{Demand}
 use Rattle.st_rules.specs.declared.demand.Demand.TheVariants.{Asked as asked}
+use Rattle.st_rules.specs.declared.demand.Purpose.TheVariants as purposes
 use Rattle.st_rules.specs.Environments.{Environment, own, callee_of, callee_of_sort, type_of_name}
 use Rattle.st_rules.specs.Demands.{expected_of, demands_of_standard}
 use Rattle.st_rules.specs.Typings.{kinds_of, typing_of, typings_of}
@@ -50,17 +51,17 @@ one_counted : (m n : ℕ) → m ≡ n → suc m ≡ 1 + n
 one_counted m n h = omega (arith, h)
 
 -- no standard function takes many arguments
-few_demands : (std : Standard) (k : Option Kind) → length (demands_of_standard std k) < 65536
-few_demands ABS k = omega arith
-few_demands MIN k = omega arith
-few_demands MAX k = omega arith
-few_demands LIMIT k = omega arith
-few_demands SEL k = omega arith
-few_demands SHL k = omega arith
-few_demands SHR k = omega arith
-few_demands ROL k = omega arith
-few_demands ROR k = omega arith
-few_demands (CONVERT a b) k = omega arith
+few_demands : (at : ℕ) (std : Standard) (k : Option Kind) → length (demands_of_standard at std k) < 65536
+few_demands at ABS k = omega arith
+few_demands at MIN k = omega arith
+few_demands at MAX k = omega arith
+few_demands at LIMIT k = omega arith
+few_demands at SEL k = omega arith
+few_demands at SHL k = omega arith
+few_demands at SHR k = omega arith
+few_demands at ROL k = omega arith
+few_demands at ROR k = omega arith
+few_demands at (CONVERT a b) k = omega arith
 
 module _ (C : UnitCall → Type 0) (s : UnitFrame) (env : Environment) (t : Table) where
   abbrev Callable : Name → Type 0
@@ -96,68 +97,69 @@ module _ (C : UnitCall → Type 0) (s : UnitFrame) (env : Environment) (t : Tabl
   abbrev CallIs : Name → Option Standard → Exprs → Type 0
   CallIs f o es = ExprsSound C s t es × CallSound C s t o f (number_of_exprs es)
 
-  standard_sound : (std : Standard) (f : Name) (es : Exprs) → AreSound es
-      → (count_of es == length (demands_of_standard std (common_kind std (kinds_of (typings_of env es))))) ≡ true
+  standard_sound : (at : ℕ) (std : Standard) (f : Name) (es : Exprs) → AreSound es
+      → (count_of es == length (demands_of_standard at std (common_kind std (kinds_of (typings_of env es))))) ≡ true
       → flat_map (wrong_node env)
-      (nodes_of_all env (demands_of_standard std (common_kind std (kinds_of (typings_of env es)))) es) ≡ []
+      (nodes_of_all env (demands_of_standard at std (common_kind std (kinds_of (typings_of env es)))) es) ≡ []
       → CallIs f (Some std) (resolved_exprs env.text env.unit (expected_kinds std (own_kinds env.text env.unit es)) es)
-  standard_sound std f es all n h =
+  standard_sound at std f es all n h =
       let ks = kinds_of (typings_of env es) in
-      let ds = demands_of_standard std (common_kind std ks) in
+      let ds = demands_of_standard at std (common_kind std ks) in
       let same : resolved_exprs env.text env.unit (expected_kinds std (own_kinds env.text env.unit es)) es
       ≡ resolved_exprs env.text env.unit (map expected_of ds) es =
       ap (λ q. resolved_exprs env.text env.unit (expected_kinds std q) es) (all_kinds_told env es)
-      ∙ standard_expected env.text env.unit std ks es in
+      ∙ standard_expected env.text env.unit at std ks es in
       let number : number_of_exprs (resolved_exprs env.text env.unit (map expected_of ds) es) ≡ length ds =
       all_counted (map expected_of ds) es ∙ equal_numbers (count_of es) (length ds) n in
       let few : number_of_exprs (resolved_exprs env.text env.unit (map expected_of ds) es) < 65536 =
-      subst (λ k. k < 65536) (sym number) (few_demands std (common_kind std ks)) in
+      subst (λ k. k < 65536) (sym number) (few_demands at std (common_kind std ks)) in
       subst (λ (q : Exprs). CallIs f (Some std) q) (sym same) (all ds n h, few)
 
-  own_sound : (f : Name) (inputs : List (Option Kind)) (result : Option Kind) (es : Exprs)
+  own_sound : (at : ℕ) (f : Name) (inputs : List (Option Kind)) (result : Option Kind) (es : Exprs)
       → callee_of env f ≡ Some (own inputs result) → Callable f → AreSound es
-      → (count_of es == length (map (λ i. asked i any) inputs)) ≡ true
-      → flat_map (wrong_node env) (nodes_of_all env (map (λ i. asked i any) inputs) es) ≡ []
+      → (count_of es == length (map (λ i. asked i any (purposes.Argument at)) inputs)) ≡ true
+      → flat_map (wrong_node env) (nodes_of_all env (map (λ i. asked i any (purposes.Argument at)) inputs) es) ≡ []
       → CallIs f None (resolved_exprs env.text env.unit inputs es)
-  own_sound f inputs result es is callable all n h =
-      let ds = map (λ i. asked i any) inputs in
+  own_sound at f inputs result es is callable all n h =
+      let ds = map (λ i. asked i any (purposes.Argument at)) inputs in
       let count : length inputs ≡ number_of_exprs (resolved_exprs env.text env.unit inputs es) =
-      sym (length-map inputs (λ i. asked i any)) ∙ sym (equal_numbers (count_of es) (length ds) n)
-      ∙ sym (all_counted inputs es) in (
+      sym (length-map inputs (λ i. asked i any (purposes.Argument at)))
+      ∙ sym (equal_numbers (count_of es) (length ds) n) ∙ sym (all_counted inputs es) in (
         subst (λ (q : List (Option Kind)). ExprsSound C s t (resolved_exprs env.text env.unit q es))
-            (inputs_expected inputs) (all ds n h),
+            (inputs_expected at inputs) (all ds n h),
         λ i there. subst (λ k. C (of_function i (end_of s) k)) count (callable inputs result i is there),
       )
 
   unit_sound : (at : ℕ) (f : Name) (es : Exprs) (o : Option OrganisationUnit)
       → callee_of env f ≡ own_callee env.text o → Callable f → AreSound es
-      → wrong_call at (own_callee env.text o) (demands_of env (own_callee env.text o) es) es ≡ []
-      → flat_map (wrong_node env) (nodes_of_all env (demands_of env (own_callee env.text o) es) es) ≡ []
+      → wrong_call at (own_callee env.text o) (demands_of env at (own_callee env.text o) es) es ≡ []
+      → flat_map (wrong_node env) (nodes_of_all env (demands_of env at (own_callee env.text o) es) es) ≡ []
       → CallIs f None (resolved_exprs env.text env.unit (inputs_of_unit env.text o) es)
   unit_sound at f es None is callable all n h = absurd (cc)
   unit_sound at f es (Some g) is callable all n h = by_sort g.sort g.blocks is n h
     where
       by_sort : (sort : UnitSort) (bs : List VariableBlock) → callee_of env f ≡ callee_of_sort env.text sort bs
-          → wrong_call at (callee_of_sort env.text sort bs) (demands_of env (callee_of_sort env.text sort bs) es) es
+          → wrong_call at (callee_of_sort env.text sort bs) (demands_of env at (callee_of_sort env.text sort bs) es) es
           ≡ []
-          → flat_map (wrong_node env) (nodes_of_all env (demands_of env (callee_of_sort env.text sort bs) es) es) ≡ []
+          → flat_map (wrong_node env) (nodes_of_all env (demands_of env at (callee_of_sort env.text sort bs) es) es)
+          ≡ []
           → CallIs f None (resolved_exprs env.text env.unit (inputs_of_function env.text sort bs) es)
       by_sort (Function q) bs e m k =
-          own_sound f (input_kinds env.text bs) (result_kind env.text (Function q)) es e callable all
-          (count_right _ at m) k
+          own_sound at f (input_kinds env.text bs) (result_kind env.text (Function q)) es e callable all
+          (count_right _ _ at m) k
       by_sort FunctionBlock bs e m k = absurd (cc)
       by_sort Program bs e m k = absurd (cc)
 
   call_sound : (at : ℕ) (f : Name) (es : Exprs) (o : Option Standard) → callee_of env f ≡ callee_by env f o
       → Callable f → AreSound es
-      → wrong_call at (callee_by env f o) (demands_of env (callee_by env f o) es) es ≡ []
-      → flat_map (wrong_node env) (nodes_of_all env (demands_of env (callee_by env f o) es) es) ≡ []
+      → wrong_call at (callee_by env f o) (demands_of env at (callee_by env f o) es) es ≡ []
+      → flat_map (wrong_node env) (nodes_of_all env (demands_of env at (callee_by env f o) es) es) ≡ []
       → CallIs f o (resolved_exprs env.text env.unit
       (elim o [
         | Some std ↦ expected_kinds std (own_kinds env.text env.unit es)
         | None ↦ inputs_of_unit env.text (unit_named env.text.units f)
       ]) es)
-  call_sound at f es (Some std) is callable all n h = standard_sound std f es all (count_right _ at n) h
+  call_sound at f es (Some std) is callable all n h = standard_sound at std f es all (count_right _ _ at n) h
   call_sound at f es None is callable all n h = unit_sound at f es (unit_named env.text.units f) is callable all n h
 
   mutual
@@ -173,7 +175,7 @@ module _ (C : UnitCall → Type 0) (s : UnitFrame) (env : Environment) (t : Tabl
         call_sound f.place f.name es (standard_of f.name) refl of.0 (λ ds n g. exprs_sound es ds n g of.1)
         (own_part env k (named.call f es) h)
         (append_second (wrong_part env k (named.call f es))
-        (flat_map (wrong_node env) (nodes_of_all env (demands_of env (callee_of env f.name) es) es)) h)
+        (flat_map (wrong_node env) (nodes_of_all env (demands_of env f.place (callee_of env f.name) es) es)) h)
     expr_sound k (parenthesis at e) h of = expr_sound k e h of
     expr_sound k (named.unary op at e) h of =
         expr_sound k e (append_second (wrong_part env k (named.unary op at e)) (wrong_within env k e) h) of
@@ -204,7 +206,7 @@ module _ (C : UnitCall → Type 0) (s : UnitFrame) (env : Environment) (t : Tabl
     selectors_sound no_selectors h of = tt
     selectors_sound (selector_then (member y) xs) h of = selectors_sound xs h of
     selectors_sound (selector_then (subscript e) xs) h of =
-        let d = asked None whole in
+        let d = asked None whole purposes.Subscript in
         let split : wrong_expression env d e ++ flat_map (wrong_node env) (nodes_of_selectors env xs) ≡ [] =
         sym (flat_map-append (wrong_node env) (nodes_of env d e) (nodes_of_selectors env xs)) ∙ h in
         let here =

@@ -67,5 +67,6 @@ mod ConfiguredLemmas
 mod PlanLemmas
 mod ReadinessLemmas
 mod GivenLemmas
+mod TextFaults
 pub mod OwnerLemmas
 pub mod ApartNames

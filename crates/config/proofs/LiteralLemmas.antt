@@ -31,9 +31,8 @@ use Rattle.std.specs.List.{flat_map}
 use Rattle.std.specs.Prelude.{map}
 use Rattle.std.proofs.lemmas.Float.{T_from_true}
 use Rattle.std.specs.Int.Signed.{le_z_yes}
-use Rattle.st_rules.specs.declared.rule.Rule.TheVariants.{WrongType}
 use Rattle.st_link.proofs.RangeLemmas.{held_in}
-use Rattle.st_rules.specs.declared.rule.Rule.TheVariants.{OutOfRange}
+use Rattle.st_rules.specs.declared.reason.Reason.TheVariants.{LabelType, OutOfRange}
 use Rattle.st_rules.specs.ExpressionRules.{kind_or_taken, wrong_literal}
 use Rattle.st_rules.specs.Faults.{breaking, unless}
 use Rattle.st_rules.specs.Readings.{Reading, reading_among, reading_of, reading_of_name, wrong_reading}
@@ -49,9 +48,9 @@ value_there : (k : Kind) (z : ℤ) → holds k z ≡ true → IsValue (failing (
 value_there k z h = subst (λ b. IsValue (failing (if b then Ok (record { kind = k; number = z }) else Err Range)))
     (sym h) tt
 
-pub held_there : (b : Bool) (at : ℕ) → breaking OutOfRange (unless b at) ≡ [] → b ≡ true
-held_there true at h = refl
-held_there false at h = absurd (cc)
+pub held_there : (k : Kind) (b : Bool) (at : ℕ) → breaking (OutOfRange k) (unless b at) ≡ [] → b ≡ true
+held_there k true at h = refl
+held_there k false at h = absurd (cc)
 
 number_value : (k : Option Kind) (n : Number) (o : Option Kind) → n.written ≡ o
     → holds (kind_or_taken k o) (number_of n) ≡ true → IsValue (value_of_number (taking_number (taken_kind k) n))
@@ -196,7 +195,8 @@ written_there text x (Some t) at h = one_there (member_of_type text.types t x) a
 pub literal_value : (text : Declared) (k : Option Kind) (x : Literal) → wrong_literal text k x ≡ []
     → IsSpelledLiteral x → IsValue (value_of_literal (taking_literal text.types (taken_kind k) x))
 literal_value text k (literals.Number n) h s =
-    number_value k n n.written refl (held_there (holds (kind_or_taken k n.written) (number_of n)) n.place h)
+    number_value k n n.written refl
+    (held_there (kind_or_taken k n.written) (holds (kind_or_taken k n.written) (number_of n)) n.place h)
 literal_value text k (literals.Truth at b) h s = tt
 literal_value text k (literals.Duration at n) h s = value_there Time (pos n) s
 literal_value text k (literals.Enumerated v) h s =
@@ -293,12 +293,12 @@ same_number k n o is = by_written o is
 label_number : (k q : Option Kind) (n : Number) → wrong_label_number q n ≡ [] → IsKeyword n.written
     → IsNumber (number_of (taking_number (taken_kind k) n))
 label_number k q n h keyword =
-    let type_faults = breaking WrongType (unless (is_selected q (kind_or_taken q n.written)) n.place) in
-    let range_faults = breaking OutOfRange (unless (holds (kind_or_taken q n.written) (number_of n)) n.place) in
+    let l = kind_or_taken q n.written in
+    let type_faults = breaking (LabelType q l) (unless (is_selected q l) n.place) in
+    let range_faults = breaking (OutOfRange l) (unless (holds l (number_of n)) n.place) in
     subst IsNumber (sym (same_number (taken_kind k) n n.written refl))
-    (kind_number (kind_or_taken q n.written) (number_of n) (kind_keyword q n.written keyword)
-    (held_there (holds (kind_or_taken q n.written) (number_of n)) n.place
-    (append_second type_faults range_faults h)))
+    (kind_number l (number_of n) (kind_keyword q n.written keyword)
+    (held_there l (holds l (number_of n)) n.place (append_second type_faults range_faults h)))
 
 small_number : (n : ℕ) → n < MAX_NAMES → IsNumber (pos n)
 small_number n h = number_between (pos n) (omega (arith, ints)) (omega (arith, ints, h))

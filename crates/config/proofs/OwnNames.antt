@@ -24,14 +24,14 @@ use Rattle.st_meaning.specs.ResolvedUnits.{resolved_type}
 use Rattle.st_meaning.specs.Runs.{Program}
 use Rattle.st_meaning.specs.Scopes.{Name, Block, block_in, contains_name}
 use Rattle.st_rules.specs.declared.rule.Broken.{Broken}
-use Rattle.st_rules.specs.declared.rule.Rule.TheVariants.{UnknownName, WrongType, NotAssignable}
+use Rattle.st_rules.specs.declared.reason.Reason.TheVariants.{NotControl, Undeclared}
 use Rattle.st_rules.specs.BodyRules.{wrong_body, wrong_statement}
 use Rattle.st_rules.specs.Environments.{Environment, type_of_name, section_in, section_of}
 use Rattle.st_rules.specs.Faults.{breaking, unless}
 use Rattle.st_rules.specs.Rules.{IsWellTyped, environment}
 use Rattle.st_rules.specs.Statements.{Context, placed, in_loop, in_for, outside, statements_below, statements_of}
 use Rattle.st_rules.specs.Statements.{statements_of_arms, statements_of_case_arms}
-use Rattle.st_rules.specs.TargetRules.{is_own, is_control, is_assignable}
+use Rattle.st_rules.specs.TargetRules.{is_own, is_control, is_assignable, unassignable}
 use Rattle.st_link.specs.StatementSoundness.{BodyRight}
 use Rattle.st_link.proofs.Among.{Among, here, later, in_map, none_of}
 use Rattle.st_link.proofs.FoundNames.{unit_found}
@@ -69,9 +69,10 @@ own_is_no_external sections.ConstantExternal h = absurd (cc)
 
 abbrev control_faults : Environment → Context → Identifier → Option VariableType → List Broken
 control_faults env c x o = elim o [
-  | Some t ↦ breaking WrongType (unless (is_control env x t) x.place)
-      ++ breaking NotAssignable (unless (is_assignable env c (variable x no_selectors)) x.place)
-  | None ↦ breaking UnknownName (x.place ∷ [])
+  | Some t ↦ breaking NotControl (unless (is_control env x t) x.place)
+      ++ breaking (unassignable env c (variable x no_selectors))
+      (unless (is_assignable env c (variable x no_selectors)) x.place)
+  | None ↦ breaking Undeclared (x.place ∷ [])
 ]
 
 record IsOwnOf (env : Environment) (x : Name) : Type 0 where
@@ -84,9 +85,10 @@ module _ (env : Environment) (Own : Name → Type 0) (counts : (x : Name) → Is
       → control_faults env c x o ≡ [] → Own x.name
   control_is c x None is h = absurd (cc)
   control_is c x (Some t) is h =
-      let right = unless_right WrongType (is_control env x t) x.place
-      (append_first (breaking WrongType (unless (is_control env x t) x.place))
-      (breaking NotAssignable (unless (is_assignable env c (variable x no_selectors)) x.place)) h) in
+      let right = unless_right NotControl (is_control env x t) x.place
+      (append_first (breaking NotControl (unless (is_control env x t) x.place))
+      (breaking (unassignable env c (variable x no_selectors))
+      (unless (is_assignable env c (variable x no_selectors)) x.place)) h) in
       counts x.name (record {
         declared = t;
         named = is;

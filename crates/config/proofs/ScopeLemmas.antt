@@ -4,16 +4,13 @@ use Rattle.std.specs.List.{flat_map}
 use Rattle.std.proofs.lemmas.Grind.{flat_map-append}
 use Rattle.st_types.specs.Configurations.{Configuration}
 use Rattle.st_types.specs.Sources.{Source, types, unit, configuration}
-use Rattle.st_rules.specs.declared.rule.Rule.TheVariants.{DeclaredTwice}
-use Rattle.st_rules.specs.Faults.{breaking}
 use Rattle.st_rules.specs.ConfigurationRules.{configurations_in}
 use Rattle.st_rules.specs.NameScopes.{globals_of, names_in, names_of_text, scopes_in_globals, scopes_of_element}
-use Rattle.st_rules.specs.NameScopes.{scopes_of}
-use Rattle.st_rules.specs.NameScopes.{variables_of_text}
-use Rattle.st_rules.specs.Places.{places_where, repeats}
+use Rattle.st_rules.specs.Places.{repeats}
 use Rattle.st_rules.specs.Rules.{IsWellTyped, wrong_declarations, wrong_types, wrong_starts, wrong_bodies}
-use Rattle.st_rules.specs.TwiceDeclared.{is_standard, is_taken, twice_declared}
-use Rattle.st_types.proofs.ListLemmas.{append_first, append_second, none_mapped}
+use Rattle.st_rules.specs.TwiceDeclared.{twice_declared}
+use Rattle.layout.proofs.NameLaws.{names_free}
+use Rattle.st_types.proofs.ListLemmas.{append_first, append_second}
 
 flat_first : {A B : Type 0} (f : A → List B) (xs ys : List A) → flat_map f (xs ++ ys) ≡ [] → flat_map f xs ≡ []
 flat_first f xs ys h = append_first (flat_map f xs) (flat_map f ys) (sym (flat_map-append f xs ys) ∙ h)
@@ -57,11 +54,7 @@ globals_once source c typed one =
     (append_first (wrong_declarations source ++ wrong_types source) (wrong_starts source)
     (append_first (wrong_declarations source ++ wrong_types source ++ wrong_starts source)
     (wrong_bodies source) typed)) in
-    let twice = none_mapped (λ p. record { rule = DeclaredTwice; place = p }) (twice_declared source)
-    (first_of_five (breaking DeclaredTwice (twice_declared source)) _ _ _ _ declared) in
+    let free = names_free source (first_of_five (twice_declared source) _ _ _ _ declared) in
     let names = names_of_text source in
-    let scopes = append_first (flat_map repeats (scopes_of source)) (places_where (λ x. is_standard x.name) names)
-    (append_first (flat_map repeats (scopes_of source) ++ places_where (λ x. is_standard x.name) names)
-    (places_where (is_taken names) (variables_of_text source)) twice) in
     among_scopes source c
-    (append_second (repeats names) (flat_map repeats (flat_map scopes_of_element source)) scopes) one
+    (append_second (repeats names) (flat_map repeats (flat_map scopes_of_element source)) free.again) one

@@ -25,10 +25,11 @@ use Rattle.st_rules.specs.declared.limits.TheConstants.{MAX_TYPE_DEPTH}
 use Rattle.st_rules.specs.Containment.{Part, elementary, named, part_of_type, calls_of, is_function, is_own_function}
 use Rattle.st_rules.specs.Containment.{is_function_sort, parts_of_block, part_of_result, parts_of_unit}
 use Rattle.st_rules.specs.Containment.{parts_of_definition, parts_of_standard, parts_named, has_chain}
-use Rattle.st_rules.specs.Containment.{is_too_deep, is_wrong_unit, too_deep_types, too_deep_units, too_deep_array}
+use Rattle.st_rules.specs.Containment.{is_too_deep, is_wrong_unit, reason_of_depth}
+use Rattle.st_rules.specs.Containment.{too_deep_types, too_deep_units, too_deep_array}
 use Rattle.st_rules.specs.DeclaredTypes.{variable_of, unnamed_arrays_in}
 use Rattle.st_rules.specs.Environments.{section_in, is_block}
-use Rattle.st_rules.specs.Faults.{in_case}
+use Rattle.st_rules.specs.Faults.{breaking, in_case}
 use Rattle.st_rules.specs.NameScopes.{names_of_element, names_of_text}
 use Rattle.st_rules.specs.Places.{repeats}
 use Rattle.st_rules.specs.Rules.{IsWellTyped}
@@ -43,7 +44,7 @@ use Rattle.st_link.proofs.FoundNames.{unit_found, unit_in, type_found, type_in_s
 use Rattle.st_link.proofs.InstanceSections.{instance_variable, found_among, absent}
 use Rattle.st_link.proofs.WellTypedTexts.{PartsRight, parts_right}
 use Rattle.st_link.proofs.RunHomes.{no_type_by}
-use Rattle.st_link.proofs.BoundedArrays.{no_case}
+use Rattle.st_link.proofs.BoundedArrays.{no_breaking}
 use Rattle.std.proofs.lemmas.Bool.{or_parts}
 use Rattle.st_types.proofs.OptionLemmas.{some_is, none_is}
 use Rattle.st_types.proofs.ListLemmas.{append_first, append_second}
@@ -191,9 +192,10 @@ module _ (source : Source) (h : IsWellTyped source) where
       → has_chain text (MAX_TYPE_DEPTH + 1) (named x) ≡ false
   own_shallow x u is s sort same =
       let found = unit_found text.units x u is in
-      let wrong = no_case (is_wrong_unit text u.sort u.name.name) u.name.place
-      (none_of (λ (e : OrganisationUnit). in_case (is_wrong_unit text e.sort e.name.name) e.name.place) found.among
-      units_shallow) in
+      let wrong =
+      no_breaking (reason_of_depth text u.name.name) (is_wrong_unit text u.sort u.name.name) u.name.place
+      (none_of (λ (e : OrganisationUnit). breaking (reason_of_depth text e.name.name)
+      (in_case (is_wrong_unit text e.sort e.name.name) e.name.place)) found.among units_shallow) in
       subst (λ (y : Name). has_chain text (MAX_TYPE_DEPTH + 1) (named y) ≡ false)
       (sym (same_name x u.name.name found.named))
       (sym same ∙ ap (λ (s : UnitSort). is_wrong_unit text s u.name.name) (sym sort) ∙ wrong)

@@ -17,7 +17,8 @@ use Rattle.st_meaning.specs.ResolvedUnits.{kind_there, resolved_argument, resolv
 use Rattle.st_meaning.specs.ResolvedUnits.{resolved_case_arms}
 use Rattle.st_rules.specs.declared.demand.Sorts.TheVariants.{Selecting as selecting}
 use Rattle.st_rules.specs.declared.demand.Demand.TheVariants.{Asked as asked}
-use Rattle.st_rules.specs.declared.rule.Rule.TheVariants.{WrongLabel}
+use Rattle.st_rules.specs.declared.demand.Purpose.{Purpose}
+use Rattle.st_rules.specs.declared.demand.Purpose.TheVariants as purposes
 use Rattle.st_rules.specs.declared.typings.Typing.{Typing}
 use Rattle.st_rules.specs.declared.typings.Typing.TheVariants.{Untyped as untyped, Elementary as elementary}
 use Rattle.st_rules.specs.declared.typings.Typing.TheVariants.{Composite as composite, Nothing as nothing}
@@ -26,7 +27,6 @@ use Rattle.st_rules.specs.CallRules.{wrong_invocation}
 use Rattle.st_rules.specs.Demands.{expected_of, condition}
 use Rattle.st_rules.specs.Environments.{Environment, type_of_name, type_of_place, input_of}
 use Rattle.st_rules.specs.ExpressionRules.{wrong_node, wrong_expression}
-use Rattle.st_rules.specs.Faults.{breaking}
 use Rattle.st_rules.specs.LabelRules.{labels_of, wrong_label, wrong_spans, spans_of, wrong_case}
 use Rattle.st_rules.specs.Nodes.{node, nodes_of_place}
 use Rattle.st_rules.specs.Roots.{demand_of_typing, demand_of_type, roots_of_argument, conditions_of, roots_of_step}
@@ -55,11 +55,11 @@ use Rattle.config.proofs.Expressions.{expr_sound, selectors_sound}
 use Rattle.config.proofs.LiteralLemmas.{labels_right}
 use Rattle.st_types.proofs.ListLemmas.{append_first, append_second}
 
-demanded : (ty : Typing) → expected_of (demand_of_typing ty) ≡ kind_of ty
-demanded untyped = refl
-demanded (elementary k) = refl
-demanded composite = refl
-demanded nothing = refl
+demanded : (p : Purpose) (ty : Typing) → expected_of (demand_of_typing p ty) ≡ kind_of ty
+demanded p untyped = refl
+demanded p (elementary k) = refl
+demanded p composite = refl
+demanded p nothing = refl
 
 -- the labels of a statement
 cases_right : (env : Environment) (c : Context) (x : Stmt) → wrong_statement env (placed c x) ≡ []
@@ -76,13 +76,13 @@ cases_right env c x h =
 module _ (C : UnitCall → Type 0) (s : UnitFrame) (env : Environment) (t : Table) (known : AreKnown env)
     (few : HaveFewNames (enumerations_of env.text.types)) (instances : AreInvocable C s env t) where
   -- an expression at a place of a declared type
-  demanded_sound : (o : Option VariableType) (e : Expr) → wrong_expression env (demand_of_type env o) e ≡ []
-      → ExprOf (IsCallable C s env t) e
+  demanded_sound : (p : Purpose) (o : Option VariableType) (e : Expr)
+      → wrong_expression env (demand_of_type env p o) e ≡ [] → ExprOf (IsCallable C s env t) e
       → ExprSound C s t (resolved_expr env.text env.unit (kind_there env.text o) e)
-  demanded_sound o e h of =
-      let d = demand_of_type env o in
+  demanded_sound p o e h of =
+      let d = demand_of_type env p o in
       let same : expected_of d ≡ kind_there env.text o =
-      demanded (typing_of_type env.text o) ∙ sym (kind_of_declared env.text o) in
+      demanded p (typing_of_type env.text o) ∙ sym (kind_of_declared env.text o) in
       subst (λ (k : Option Kind). ExprSound C s t (resolved_expr env.text env.unit k e)) same
       (expr_sound C s env t (expected_of d) e (inside env d e h) of)
 
@@ -100,7 +100,7 @@ module _ (C : UnitCall → Type 0) (s : UnitFrame) (env : Environment) (t : Tabl
   assign_sound c (variable x xs) e h of =
       let right = nodes_right env c (variable x xs) e h in (
         variable_sound (variable x xs) right.1 of.0,
-        demanded_sound (type_of_place env (variable x xs)) e right.0 of.1,
+        demanded_sound (purposes.Assigned x.place) (type_of_place env (variable x xs)) e right.0 of.1,
       )
 
   -- a call of an instance
@@ -111,9 +111,10 @@ module _ (C : UnitCall → Type 0) (s : UnitFrame) (env : Environment) (t : Tabl
       → ArgumentsSound C s t (map (resolved_argument env.text env.unit x.name) arguments)
   arguments_sound x [] roots parts of = tt
   arguments_sound x (text.given y e ∷ rest) roots parts of =
-      let root = first_root env (demand_of_type env (input_of env x.name y.name)) e
+      let p = purposes.Input y.place in
+      let root = first_root env (demand_of_type env p (input_of env x.name y.name)) e
       (flat_map (roots_of_argument env x.name) rest) roots in
-      (demanded_sound (input_of env x.name y.name) e root.0 of.0, arguments_sound x rest root.1 parts of.1)
+      (demanded_sound p (input_of env x.name y.name) e root.0 of.0, arguments_sound x rest root.1 parts of.1)
   arguments_sound x (text.copied y v ∷ rest) roots parts of =
       let nodes = nodes_of_place env v in
       let others = flat_map (nodes_of_place env) (targets_of_arguments rest) in
@@ -142,11 +143,11 @@ module _ (C : UnitCall → Type 0) (s : UnitFrame) (env : Environment) (t : Tabl
       )
 
   -- a loop with a control variable
-  step_sound : (o : Option VariableType) (step : Option Expr) → RootsRight env (roots_of_step (demand_of_type env o) step)
-      → StepOf (IsCallable C s env t) step
+  step_sound : (p : Purpose) (o : Option VariableType) (step : Option Expr)
+      → RootsRight env (roots_of_step (demand_of_type env p o) step) → StepOf (IsCallable C s env t) step
       → StepSound C s t (option_map (resolved_expr env.text env.unit (kind_there env.text o)) step)
-  step_sound o None h of = tt
-  step_sound o (Some e) h of = demanded_sound o e (first_root env (demand_of_type env o) e [] h).0 of
+  step_sound p o None h of = tt
+  step_sound p o (Some e) h of = demanded_sound p o e (first_root env (demand_of_type env p o) e [] h).0 of
 
   -- labels
   labels_split : (q : Option Kind) (ls : List Label) (arms : CaseArms)
@@ -163,7 +164,7 @@ module _ (C : UnitCall → Type 0) (s : UnitFrame) (env : Environment) (t : Tabl
   case_labels e arms otherwise h =
       let q = kind_of (settled None (typing_of env e)) in
       append_first (flat_map (wrong_label env.text q) (labels_of arms))
-      (breaking WrongLabel (wrong_spans (spans_of env.text q (labels_of arms)))) h
+      (wrong_spans (spans_of env.text q (labels_of arms))) h
 
   mutual
     stmt_sound : (c : Context) (x : Stmt) → wrong_statement env (placed c x) ≡ []
@@ -181,9 +182,9 @@ module _ (C : UnitCall → Type 0) (s : UnitFrame) (env : Environment) (t : Tabl
     stmt_sound c (text.CASE e arms otherwise) h below of =
         let right = statement_right env c (text.CASE e arms otherwise) h in
         let parts = body_split env (statements_of_case_arms c arms) (statements_of c otherwise) below in
-        let selector = first_root env (asked None selecting) e []
+        let selector = first_root env (asked None selecting purposes.Selector) e []
         (roots_right env (text.CASE e arms otherwise) right.nodes) in (
-          expr_sound C s env t None e (inside env (asked None selecting) e selector.0) of.0,
+          expr_sound C s env t None e (inside env (asked None selecting purposes.Selector) e selector.0) of.0,
           cases_sound c (own_kind env.text env.unit e) (kind_of (settled None (typing_of env e))) arms
               (case_labels e arms otherwise (cases_right env c (text.CASE e arms otherwise) h)) parts.0 of.1,
           stmts_sound c otherwise parts.1 of.2,
@@ -191,13 +192,14 @@ module _ (C : UnitCall → Type 0) (s : UnitFrame) (env : Environment) (t : Tabl
     stmt_sound c (text.FOR x start limit step body) h below of =
         let right = statement_right env c (text.FOR x start limit step body) h in
         let o = type_of_name env x.name in
-        let d = demand_of_type env o in
+        let p = purposes.Count x.place in
+        let d = demand_of_type env p o in
         let first = first_root env d start (node d limit ∷ roots_of_step d step)
         (roots_right env (text.FOR x start limit step body) right.nodes) in
         let second = first_root env d limit (roots_of_step d step) first.1 in (
-          demanded_sound o start first.0 of.0,
-          demanded_sound o limit second.0 of.1,
-          step_sound o step second.1 of.2,
+          demanded_sound p o start first.0 of.0,
+          demanded_sound p o limit second.0 of.1,
+          step_sound p o step second.1 of.2,
           stmts_sound (in_for x.name c) body below of.3,
         )
     stmt_sound c (text.WHILE e body) h below of =

@@ -6,8 +6,8 @@ use Rattle.st_types.specs.Sources.{Source}
 use Rattle.st_meaning.specs.Enumerations.{kind_of_enumeration}
 use Rattle.st_meaning.specs.NameTypes.{types_in, declared_in}
 use Rattle.st_meaning.specs.Slots.{Slot, IsLayout}
-use Rattle.st_rules.specs.declared.rule.Rule.TheVariants.{TooManyNames, OutOfRange}
-use Rattle.st_rules.specs.Faults.{breaking}
+use Rattle.st_rules.specs.declared.reason.Reason.TheVariants.{SurplusName, PriorityTooGreat}
+use Rattle.st_rules.specs.Faults.{breaks, breaking}
 use Rattle.st_rules.specs.DeclaredTypes.{declarings_in, arrays_in, results_in, enumerations_in}
 use Rattle.st_rules.specs.TypeRules.{wrong_declaring, wrong_element, wrong_result, wrong_bound_numbers, surplus_name}
 use Rattle.st_rules.specs.TypeRules.{wrong_priorities_of}
@@ -31,12 +31,12 @@ use Rattle.layout.specs.Names.{are_different}
 no_surplus : (source : Source) → IsWellTyped source → flat_map surplus_name (enumerations_in source) ≡ []
 no_surplus source h =
     let text = declared_in source in
-    let names = breaking TooManyNames (flat_map surplus_name (enumerations_in source)) in
+    let names = breaking SurplusName (flat_map surplus_name (enumerations_in source)) in
     let declarings = flat_map (wrong_declaring text) (declarings_in source) in
     let elements = flat_map (wrong_element text) (arrays_in source) in
     let results = flat_map (wrong_result text) (results_in source) in
     let bounds = flat_map wrong_bound_numbers (arrays_in source) in
-    let priorities = breaking OutOfRange (flat_map wrong_priorities_of source) in
+    let priorities = breaking PriorityTooGreat (flat_map wrong_priorities_of source) in
     let a = append_parts ((wrong_declarations source ++ wrong_types source) ++ wrong_starts source)
     (wrong_bodies source) h in
     let b = append_parts (wrong_declarations source ++ wrong_types source) (wrong_starts source) a.0 in
@@ -46,7 +46,7 @@ no_surplus source h =
     let f = append_parts ((names ++ declarings) ++ elements) results e.0 in
     let g = append_parts (names ++ declarings) elements f.0 in
     let i = append_parts names declarings g.0 in
-    none_mapped (λ p. record { rule = TooManyNames; place = p }) (flat_map surplus_name (enumerations_in source)) i.0
+    none_mapped (breaks SurplusName) (flat_map surplus_name (enumerations_in source)) i.0
 
 -- the layout of a text as it is parsed
 abbrev pub parsed_slots : Source → List Slot

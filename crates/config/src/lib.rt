@@ -5,6 +5,7 @@
 #![tactic(auto)]
 
 mod addresses;
+mod broken_rules;
 mod build_error;
 mod codes;
 mod configuration_error;
@@ -32,6 +33,7 @@ mod source_plan;
 mod tasks;
 mod text_plan;
 
+pub use broken_rules::add_broken_rules;
 pub use build_error::BuildError;
 pub use codes::codes_of_text;
 pub use configuration_error::ConfigurationError;

@@ -1,147 +1,115 @@
-//! Findings on the arguments of blocks (C10).
+//! Findings on the arguments of functions (C3, C10).
 
-use crate::broken_place::Site;
 use crate::finding::Finding;
-use crate::members::{missing_side_reason, variable_type};
-use crate::sentences::{may_help, said, said_with};
-use crate::spot::{Spot, is_mark};
-use crate::spots::{name_at, spelled_name};
-use st_lex::{Mark, TokenKind};
-use st_types::{Identifier, Name, SimpleType};
+use crate::operators::beside;
+use crate::site::Site;
+use crate::spot::Spot;
+use crate::type_names::{kind_name, typing_name};
+use st_rules::{Sorts, Typing};
+use st_types::Kind;
 use std::alloc::AllocError;
-use symbols::{PlaceType, Side};
+use symbols::{Standard, standard_function};
 
-/// The call of an instance in which an argument is at the place.
+/// A value that doesn't meet the demand of its place.
 #[derive(Clone, Copy)]
-struct Call<'a> {
-    instance: &'a Name,
-    /// Whether an argument before the place has the same name.
-    is_repeated: bool,
+pub struct Wrong {
+    /// The type that its place expects, if it expects one.
+    pub expected: Option<Kind>,
+    /// The sorts that its place allows.
+    pub sorts: Sorts,
+    /// Its type, before it takes one.
+    pub given: Typing,
 }
 
-/// The side of its block for which an argument is written.
-fn side_at(spot: &Spot) -> Option<Side> {
-    if is_mark(spot.next(), Mark::Assign) {
-        Some(Side::Input)
-    } else if is_mark(spot.next(), Mark::Arrow) {
-        Some(Side::Output)
-    } else {
-        None
+/// The type that another argument has and this one doesn't; none if no argument has it.
+fn other_kind(wrong: Wrong) -> Option<Kind> {
+    let kind = wrong.expected?;
+    match beside(wrong.expected, wrong.given) {
+        Typing::Composite => None,
+        Typing::Elementary(given) if given.is(kind) => None,
+        _ => Some(kind),
     }
 }
 
-fn ends_name(kind: Option<&TokenKind>) -> bool {
-    is_mark(kind, Mark::Assign) || is_mark(kind, Mark::Arrow)
-}
-
-/// The call of an instance in which an argument of a name is at the place.
-fn call_at<'a>(spot: &Spot<'a>, argument: &Name) -> Option<Call<'a>> {
-    let mut closed: usize = 0;
-    let mut is_open = false;
-    let mut is_repeated = false;
-    let mut behind = spot.here();
-    for token in spot.before.iter().rev() {
-        match &token.kind {
-            TokenKind::Name(instance) if is_open => {
-                return Some(Call {
-                    instance,
-                    is_repeated,
-                });
-            }
-            _ if is_open => return None,
-            TokenKind::Mark(Mark::Close) => closed = closed.saturating_add(1),
-            TokenKind::Mark(Mark::Open) => {
-                is_open = closed == 0;
-                closed = closed.saturating_sub(1);
-            }
-            TokenKind::Name(name) if closed == 0 && ends_name(behind) && name.is(argument) => {
-                is_repeated = true;
-            }
-            _ => {}
-        }
-        behind = Some(&token.kind);
-    }
-    None
-}
-
-/// The block of which a variable of the unit at the place is an instance.
-fn block_of<'a>(site: &Site<'a>, instance: &Name) -> Option<&'a Identifier> {
-    match variable_type(site, instance) {
-        Some(PlaceType::Simple(SimpleType::Named(block))) if site.tables.is_block(&block.name) => {
-            Some(block)
-        }
-        _ => None,
+/// Whether the place is that of the first argument of the function whose name is at another place.
+fn is_first(spot: &Spot, function: usize) -> bool {
+    match spot.before {
+        [.., name, _] => name.start == function,
+        _ => false,
     }
 }
 
-/// Whether the block of an instance has an input or an output of a name.
-fn has(site: &Site, instance: &Name, side: Side, name: &Name) -> bool {
-    match variable_type(site, instance) {
-        Some(declared) => site.tables.block_variable(side, declared, name).is_some(),
-        None => false,
+/// The arguments of a standard function that have one type.
+fn alike(called: Standard) -> &'static str {
+    match called {
+        Standard::Sel => "the last two arguments",
+        _ => "the arguments",
     }
 }
 
-/// A hint if an argument is written for this side, and its block has it on the other.
-fn help_for(site: &Site, side: Side) -> Result<Option<String>, AllocError> {
-    let spelled = site.spot.spelled();
-    match side {
-        Side::Input => {
-            may_help(format!(in site.alloc; "copy an output with `{spelled} => variable`"))
-        }
-        Side::Output => {
-            may_help(format!(in site.alloc; "set an input with `{spelled} := value`"))
-        }
+/// What a standard function does with arguments of these sorts.
+fn predicate(called: Standard, sorts: Sorts) -> &'static str {
+    match (called, sorts) {
+        (Standard::Shl | Standard::Shr, Sorts::BitString) => "shifts a bit string",
+        (Standard::Shl | Standard::Shr, _) => "shifts by an integer",
+        (Standard::Rol | Standard::Ror, Sorts::BitString) => "rotates a bit string",
+        (Standard::Rol | Standard::Ror, _) => "rotates by an integer",
+        (Standard::Abs, _) => "takes an integer",
+        (Standard::Min | Standard::Max | Standard::Limit, _) => "takes integers or TIMEs",
+        (Standard::Sel | Standard::Convert(_, _), _) => "takes single values",
     }
 }
 
-/// An output that is given a value, or an input that is copied.
-fn other_side_reason(
+/// The sentence on an argument of a standard function whose name is at a place.
+fn argument_sentence(
     site: &Site,
-    block: &Identifier,
-    side: Side,
-) -> Result<Option<Finding>, AllocError> {
-    let (spelled, name) = (site.spot.spelled(), spelled_name(&site.spot, block));
-    let other = match side {
-        Side::Input => "output",
-        Side::Output => "input",
-    };
-    said_with(
-        format!(in site.alloc; "`{spelled}` is an {other} of `{name}`"),
-        help_for(site, side),
-    )
-}
-
-/// The finding on an argument that occurs once in its call.
-fn wrong_argument_reason<'a>(
-    site: &Site<'a>,
-    instance: &Name,
-    side: Side,
-    name: &'a Name,
-) -> Result<Option<Finding>, AllocError> {
-    let other = match side {
-        Side::Input => Side::Output,
-        Side::Output => Side::Input,
-    };
-    match block_of(site, instance) {
-        Some(_) if has(site, instance, side, name) => Ok(None),
-        Some(block) if has(site, instance, other, name) => other_side_reason(site, block, side),
-        Some(block) => missing_side_reason(site, block, side, name),
-        None => Ok(None),
-    }
-}
-
-/// The finding on an argument that its block doesn't have, or that is given twice; none if the place is at no argument.
-pub fn argument_reason(site: &Site) -> Result<Option<Finding>, AllocError> {
-    let (Some(side), Some(name)) = (side_at(&site.spot), name_at(&site.spot)) else {
-        return Ok(None);
-    };
-    match call_at(&site.spot, name) {
-        Some(call) if call.is_repeated => {
-            let spelled = site.spot.spelled();
-            said(format!(in site.alloc; "`{spelled}` is given twice"))
+    function: usize,
+    called: Standard,
+    wrong: Wrong,
+) -> Result<String, AllocError> {
+    let (alloc, name) = (site.text.alloc, site.text.word_at(function));
+    let given = typing_name(site, beside(wrong.expected, wrong.given));
+    match (called, other_kind(wrong)) {
+        (Standard::Convert(_, _), _) => format!(in alloc; "`{name}` doesn't take {given}"),
+        (Standard::Sel, _) if is_first(&site.spot, function) => {
+            format!(in alloc; "`{name}` selects by a BOOL; the argument is {given}")
         }
-        Some(call) => wrong_argument_reason(site, call.instance, side, name),
+        (_, Some(kind)) => {
+            let (alike, other) = (alike(called), kind_name(site, kind));
+            format!(in alloc;
+                "{alike} of `{name}` must have the same type: this one is {given}, another {other}"
+            )
+        }
+        (_, None) => {
+            let predicate = predicate(called, wrong.sorts);
+            format!(in alloc; "`{name}` {predicate}; the argument is {given}")
+        }
+    }
+}
+
+/// The finding on an argument of the function whose name is at a place; none if that isn't a standard function.
+pub fn standard_argument(
+    site: &Site,
+    function: usize,
+    wrong: Wrong,
+) -> Result<Option<Finding>, AllocError> {
+    let called = match site.text.name_at(function) {
+        Some(name) => standard_function(name),
+        None => None,
+    };
+    match called {
+        Some(called) => {
+            let sentence = argument_sentence(site, function, called, wrong)?;
+            Ok(Some(Finding::new(sentence)))
+        }
         None => Ok(None),
     }
+}
+
+/// The finding on a call with too many or too few arguments.
+pub fn argument_count(site: &Site, given: usize, taken: usize) -> Result<Finding, AllocError> {
+    let function = site.spot.spelled();
+    Ok(Finding::new(format!(in site.text.alloc;
+        "the number of arguments is {given}; `{function}` takes {taken}"
+    )?))
 }

@@ -1,18 +1,8 @@
-//! Types that certainly differ, and the names of types.
+//! Types that certainly differ.
 
-use crate::spelling::Text;
 use st_meaning::number_of;
 use st_types::{ArrayType, SimpleType, TypeDefinition, VariableType};
 use symbols::TextNames;
-
-/// The name of a type.
-pub fn type_name<'a>(text: &Text<'a>, declared: &VariableType) -> &'a str {
-    match declared {
-        VariableType::Simple(SimpleType::Elementary(kind, _)) => kind.row().keyword,
-        VariableType::Simple(SimpleType::Named(name)) => text.spelled(name),
-        VariableType::Array(_) => "an array",
-    }
-}
 
 /// The array that a type is, with a name or without.
 fn array_in<'a>(names: &TextNames<'a>, declared: &'a VariableType) -> Option<&'a ArrayType> {

@@ -4,11 +4,9 @@ use crate::fault::{SourceFault, WholeFault};
 use crate::finding::Finding;
 use crate::grammar::{depth_reason, grammar_reason};
 use crate::lexical::words_reason;
-use crate::rule_words::rule_reason;
 use crate::spot::Spot;
 use st_lex::{LexError, lex};
 use st_parse::ParseError;
-use st_rules::Broken;
 use st_types::limits::{MAX_BUDGET, MAX_PATHS, MAX_RECORD_BODY, MAX_SOURCE_BYTES};
 use std::alloc::{AllocError, Global};
 
@@ -40,13 +38,6 @@ fn parse_error_reason(
         ParseError::Unexpected(place) => unexpected_reason(alloc, text, place),
         ParseError::Deep => depth_reason(alloc),
         ParseError::Memory => Finding::plain(alloc, NO_MEMORY),
-    }
-}
-
-fn broken_rule_reason(alloc: Global, text: &[u8], broken: Broken) -> Result<Finding, AllocError> {
-    match lex(alloc, text) {
-        Ok(tokens) => rule_reason(alloc, &Spot::new(text, &tokens, broken.place), broken.rule),
-        Err(_) => Finding::plain(alloc, "a rule of the language is broken here"),
     }
 }
 
@@ -90,7 +81,7 @@ pub fn explained(alloc: Global, text: &[u8], fault: SourceFault) -> Result<Findi
     match fault {
         SourceFault::Words(error) => lex_error_reason(alloc, text, error),
         SourceFault::Grammar(error) => parse_error_reason(alloc, text, error),
-        SourceFault::Rule(broken) => broken_rule_reason(alloc, text, broken),
+        SourceFault::Rule(_) => Finding::plain(alloc, "a rule of the language is broken here"),
         SourceFault::Whole(fault) => whole_text_reason(alloc, fault),
     }
 }

@@ -1,10 +1,11 @@
 //! Findings on the externals of units, which stand for globals (G3).
 
-use crate::declared_types::{Difference, how_differ, type_name};
+use crate::declared_types::{Difference, how_differ};
 use crate::finding::Finding;
 use crate::globals::{Names, Origin};
 use crate::sentences::said_at;
 use crate::spelling::Text;
+use crate::type_names::declared_name;
 use st_types::{
     Declaration, Identifier, LibraryElement, Section, Source, Unit, UnitSort, VariableType,
 };
@@ -142,7 +143,10 @@ fn other_type_reason(
             "the VAR_EXTERNAL `{name}` of {sort} `{unit}` differs from the global in bounds or element type"
         );
     }
-    let (here, there) = (type_name(text, external.declared), type_name(text, other));
+    let (here, there) = (
+        declared_name(text, external.declared),
+        declared_name(text, other),
+    );
     format!(in alloc;
         "the VAR_EXTERNAL `{name}` of {sort} `{unit}` is {here}; the global is {there}"
     )

@@ -1,53 +1,49 @@
 //! The faults of a text and their places, as a person reads them: a sentence, the line with a caret under the place, and a
 //! hint.
 //!
-//! This crate decides nothing about faults: it gets a text and its fault, with the text's tokens and tree if it has them,
+//! This crate decides nothing about faults: it gets a text and its fault, which has the reason why a rule is broken,
 //! and looks into the text once more. A view never holds a byte that a terminal would obey, whatever the text holds.
 #![tactic(auto)]
 
 mod addresses;
 mod arguments;
-mod assigned;
-mod bounds;
-mod broken_place;
-mod calls;
 mod configurations;
 mod counts;
-mod culprit;
 mod declared_types;
 pub mod examples;
 mod excerpt;
 mod explaining;
-mod expressions;
 mod externals;
 mod fault;
 mod finding;
 mod globals;
 mod grammar;
+mod initials;
+mod known;
 mod labels;
 mod lexical;
-mod lists;
+mod limits;
 mod members;
+mod mismatches;
+mod misused;
 mod near;
 mod open;
+mod operators;
 mod page;
 mod part;
 mod position;
 mod reasoning;
+mod reasons;
 mod resources;
-mod roots;
-mod rule_words;
-mod rules;
-mod search;
 mod sentences;
+mod site;
 mod sizes;
+mod sought;
 mod spelling;
 mod spot;
 mod spots;
-mod statements;
-mod trees;
-mod twice;
-mod types;
+mod taken;
+mod type_names;
 mod unknown;
 mod viewing;
 mod writing;
@@ -59,7 +55,6 @@ pub use page::Page;
 pub use part::{part as part_of, shown, word_in_front};
 pub use position::{Position, position_of};
 pub use reasoning::reason;
-pub use rule_words::rule_reason;
 pub use spot::{Spot, is_mark};
 pub use viewing::view_of;
-pub use writing::write_reason;
+pub use writing::{write_reason, write_rules};

@@ -1,67 +1,83 @@
-//! Inputs, outputs and fields: which of them a type has, and findings on those that it doesn't have (C1).
+//! Findings on fields, inputs and outputs that a type or block doesn't have (C1, C10).
 
-use crate::broken_place::Site;
 use crate::finding::Finding;
 use crate::near::Nearest;
-use crate::sentences::{may_help, said_with};
-use crate::spot::is_mark;
-use crate::spots::spelled_name;
-use st_lex::{Mark, Token, TokenKind};
-use st_meaning::lookup::{is_named, type_in_blocks};
-use st_types::{Identifier, Name, Section, SimpleType, TypeDefinition, Unit};
+use crate::site::Site;
+use crate::spots::name_at;
+use crate::type_names::word_name;
+use st_rules::{BlockSide, TypeWord};
+use st_types::{Field, Name, Section, TypeDefinition, Unit};
 use std::alloc::AllocError;
-use symbols::{PlaceType, Side, StandardBlock, place_type, standard_block};
+use symbols::{StandardBlock, standard_block};
 
-/// The sort of a member.
+/// The members that a type or block has.
 #[derive(Clone, Copy)]
-enum Part {
-    Field,
-    Block(Side),
+enum Members<'a> {
+    Fields(&'a [Field]),
+    /// Those on a side of a standard block.
+    Standard(StandardBlock, BlockSide),
+    /// Those on a side of a block of the text.
+    Own(&'a Unit, BlockSide),
 }
 
-/// A member that a type doesn't have.
-#[derive(Clone, Copy)]
-struct Missing<'a> {
-    owner: &'a Identifier,
-    part: Part,
-    member: &'a Name,
+/// The members of the type of a name, or those on a side of the block of the name.
+fn members_of<'a>(site: &Site<'a>, owner: &Name, side: BlockSide) -> Option<Members<'a>> {
+    if let Some(block) = standard_block(owner) {
+        return Some(Members::Standard(block, side));
+    }
+    match (site.type_named(owner), site.unit_named(owner)) {
+        (Some(declaration), _) => match &declaration.definition {
+            TypeDefinition::Structure(fields) => Some(Members::Fields(fields)),
+            _ => None,
+        },
+        (None, Some(unit)) => Some(Members::Own(unit, side)),
+        (None, None) => None,
+    }
 }
 
-fn part_name(part: Part) -> &'static str {
-    match part {
-        Part::Field => "field",
-        Part::Block(Side::Input) => "input",
-        Part::Block(Side::Output) => "output",
+/// The members of the type or block that a declaration names.
+fn members_of_word<'a>(site: &Site<'a>, owner: TypeWord, side: BlockSide) -> Option<Members<'a>> {
+    match owner {
+        TypeWord::Named(place) => members_of(site, site.text.name_at(place)?, side),
+        TypeWord::Elementary(_) | TypeWord::Array => None,
+    }
+}
+
+fn sort_of(members: Members) -> &'static str {
+    match members {
+        Members::Fields(_) => "field",
+        Members::Standard(_, BlockSide::Input) | Members::Own(_, BlockSide::Input) => "input",
+        Members::Standard(_, BlockSide::Output) | Members::Own(_, BlockSide::Output) => "output",
     }
 }
 
 /// The inputs or the outputs of a standard block, as they are listed in a sentence.
-fn standard_members(block: StandardBlock, side: Side) -> &'static str {
+fn standard_members(block: StandardBlock, side: BlockSide) -> &'static str {
     match (side, block) {
-        (Side::Input, StandardBlock::Sr) => "`S1`, `R`",
-        (Side::Input, StandardBlock::Rs) => "`S`, `R1`",
-        (Side::Input, StandardBlock::RTrig | StandardBlock::FTrig) => "`CLK`",
-        (Side::Input, StandardBlock::Ctu) => "`CU`, `R`, `PV`",
-        (Side::Input, StandardBlock::Ctd) => "`CD`, `LD`, `PV`",
-        (Side::Input, StandardBlock::Ctud) => "`CU`, `CD`, `R`, `LD`, `PV`",
-        (Side::Input, _) => "`IN`, `PT`",
-        (Side::Output, StandardBlock::Sr | StandardBlock::Rs) => "`Q1`",
-        (Side::Output, StandardBlock::RTrig | StandardBlock::FTrig) => "`Q`",
-        (Side::Output, StandardBlock::Ctu | StandardBlock::Ctd) => "`Q`, `CV`",
-        (Side::Output, StandardBlock::Ctud) => "`QU`, `QD`, `CV`",
-        (Side::Output, _) => "`Q`, `ET`",
+        (BlockSide::Input, StandardBlock::Sr) => "`S1`, `R`",
+        (BlockSide::Input, StandardBlock::Rs) => "`S`, `R1`",
+        (BlockSide::Input, StandardBlock::RTrig | StandardBlock::FTrig) => "`CLK`",
+        (BlockSide::Input, StandardBlock::Ctu) => "`CU`, `R`, `PV`",
+        (BlockSide::Input, StandardBlock::Ctd) => "`CD`, `LD`, `PV`",
+        (BlockSide::Input, StandardBlock::Ctud) => "`CU`, `CD`, `R`, `LD`, `PV`",
+        (BlockSide::Input, _) => "`IN`, `PT`",
+        (BlockSide::Output, StandardBlock::Sr | StandardBlock::Rs) => "`Q1`",
+        (BlockSide::Output, StandardBlock::RTrig | StandardBlock::FTrig) => "`Q`",
+        (BlockSide::Output, StandardBlock::Ctu | StandardBlock::Ctd) => "`Q`, `CV`",
+        (BlockSide::Output, StandardBlock::Ctud) => "`QU`, `QD`, `CV`",
+        (BlockSide::Output, _) => "`Q`, `ET`",
     }
 }
 
-fn is_on(section: Section, side: Side) -> bool {
+fn is_on(section: Section, side: BlockSide) -> bool {
     match (section, side) {
-        (Section::Input(_), Side::Input) => true,
-        (Section::Output(_), Side::Output) => true,
+        (Section::Input(_), BlockSide::Input) => true,
+        (Section::Output(_), BlockSide::Output) => true,
         _ => false,
     }
 }
 
-fn meet_sides<'a>(nearest: &mut Nearest<'a>, unit: &'a Unit, side: Side) {
+fn meet_side<'a>(nearest: &mut Nearest<'a>, unit: &'a Unit, side: BlockSide) {
     for block in &unit.blocks {
         if is_on(block.section, side) {
             for declaration in &block.declarations {
@@ -71,158 +87,79 @@ fn meet_sides<'a>(nearest: &mut Nearest<'a>, unit: &'a Unit, side: Side) {
     }
 }
 
-fn meet_fields<'a>(nearest: &mut Nearest<'a>, site: &Site<'a>, owner: &Name) {
-    for declaration in &site.types {
-        match &declaration.definition {
-            TypeDefinition::Structure(fields) if is_named(owner, &declaration.name) => {
-                for field in fields {
-                    nearest.meet(&field.name);
-                }
-            }
-            _ => {}
-        }
+fn meet_fields<'a>(nearest: &mut Nearest<'a>, fields: &'a [Field]) {
+    for field in fields {
+        nearest.meet(&field.name);
     }
 }
 
-fn meet_block<'a>(nearest: &mut Nearest<'a>, site: &Site<'a>, owner: &Name, side: Side) {
-    for unit in &site.units {
-        if is_named(owner, &unit.name) {
-            meet_sides(nearest, unit, side);
-        }
-    }
-}
-
-/// The name that may have been meant, if it is one of a type of the text.
-fn help_in_text<'a>(site: &Site<'a>, missing: Missing<'a>) -> Result<Option<String>, AllocError> {
-    let mut nearest = Nearest::new(site.spot.text, missing.member);
-    match missing.part {
-        Part::Field => meet_fields(&mut nearest, site, &missing.owner.name),
-        Part::Block(side) => meet_block(&mut nearest, site, &missing.owner.name, side),
-    }
-    nearest.help(site.alloc)
-}
-
-/// A hint if a type doesn't have a member.
-fn help_of<'a>(site: &Site<'a>, missing: Missing<'a>) -> Result<Option<String>, AllocError> {
-    match (missing.part, standard_block(&missing.owner.name)) {
-        (Part::Block(side), Some(block)) => {
-            let (sort, members) = (part_name(missing.part), standard_members(block, side));
-            may_help(format!(in site.alloc; "its {sort}s: {members}"))
-        }
-        _ => help_in_text(site, missing),
-    }
-}
-
-fn missing_member_reason<'a>(
+/// A hint: the members of a standard block, or the one that the name at the place may have been meant for.
+fn help_of<'a>(
     site: &Site<'a>,
-    missing: Missing<'a>,
-) -> Result<Option<Finding>, AllocError> {
-    let (name, spelled) = (spelled_name(&site.spot, missing.owner), site.spot.spelled());
-    let sort = part_name(missing.part);
-    said_with(
-        format!(in site.alloc; "`{name}` has no {sort} `{spelled}`"),
-        help_of(site, missing),
-    )
-}
-
-/// The finding on a block that doesn't have an input or an output of this name.
-pub fn missing_side_reason<'a>(
-    site: &Site<'a>,
-    block: &'a Identifier,
-    side: Side,
-    member: &'a Name,
-) -> Result<Option<Finding>, AllocError> {
-    let missing = Missing {
-        owner: block,
-        part: Part::Block(side),
-        member,
-    };
-    missing_member_reason(site, missing)
-}
-
-/// How many of the last tokens are names that end with a dot each.
-fn path_length(tokens: &[Token]) -> usize {
-    let mut count: usize = 0;
-    let mut is_dot = true;
-    for token in tokens.iter().rev() {
-        let fits = if is_dot {
-            is_mark(Some(&token.kind), Mark::Dot)
-        } else {
-            matches!(token.kind, TokenKind::Name(_))
-        };
-        if !fits {
-            break;
+    members: Members<'a>,
+    word: &'a Name,
+) -> Result<Option<String>, AllocError> {
+    let mut nearest = Nearest::new(site.text.bytes, word);
+    match members {
+        Members::Fields(fields) => meet_fields(&mut nearest, fields),
+        Members::Own(unit, side) => meet_side(&mut nearest, unit, side),
+        Members::Standard(block, side) => {
+            let (sort, list) = (sort_of(members), standard_members(block, side));
+            return Ok(Some(format!(in site.text.alloc; "its {sort}s: {list}")?));
         }
-        count = count.saturating_add(1);
-        is_dot = !is_dot;
     }
-    count
+    nearest.help(site.text.alloc)
 }
 
-/// The type of a variable of the unit at the place.
-pub fn variable_type<'a>(site: &Site<'a>, variable: &Name) -> Option<PlaceType<'a>> {
-    let unit = site.unit()?;
-    match type_in_blocks(&unit.blocks, variable) {
-        Some(declared) => Some(place_type(declared)),
+/// The finding on a name that is none of these members.
+fn missing_member<'a>(
+    site: &Site<'a>,
+    owner: &str,
+    members: Members<'a>,
+) -> Result<Finding, AllocError> {
+    let (sort, member) = (sort_of(members), site.spot.spelled());
+    let help = match name_at(&site.spot) {
+        Some(word) => help_of(site, members, word)?,
         None => None,
-    }
-}
-
-/// The type of the variable before the dot at whose member the place is, if that is names and dots alone.
-fn owner_type<'a>(site: &Site<'a>) -> Option<PlaceType<'a>> {
-    let before = site.spot.before;
-    let (_, path) = before.split_at(before.len().saturating_sub(path_length(before)));
-    let mut found: Option<PlaceType<'a>> = None;
-    let mut is_first = true;
-    for token in path {
-        if let TokenKind::Name(name) = &token.kind {
-            found = match found {
-                Some(owner) => site.tables.member_type(owner, name),
-                None if is_first => variable_type(site, name),
-                None => None,
-            };
-            is_first = false;
-        }
-    }
-    found
-}
-
-/// The sort of a type's members that a dot selects.
-fn part_of_type(site: &Site, owner: &Name) -> Option<Part> {
-    if site.tables.is_block(owner) {
-        return Some(Part::Block(Side::Output));
-    }
-    for declaration in &site.types {
-        match &declaration.definition {
-            TypeDefinition::Structure(_) if is_named(owner, &declaration.name) => {
-                return Some(Part::Field);
-            }
-            _ => {}
-        }
-    }
-    None
-}
-
-/// The member after a dot, if the type of the variable before it certainly has none of this name.
-fn missing_at<'a>(site: &Site<'a>, member: &'a Name) -> Option<Missing<'a>> {
-    let declared = owner_type(site)?;
-    let PlaceType::Simple(SimpleType::Named(owner)) = declared else {
-        return None;
     };
-    match part_of_type(site, &owner.name) {
-        Some(part) if site.tables.member_type(declared, member).is_none() => Some(Missing {
-            owner,
-            part,
-            member,
-        }),
-        _ => None,
+    Ok(Finding {
+        sentence: format!(in site.text.alloc; "`{owner}` has no {sort} `{member}`")?,
+        help,
+        place: None,
+    })
+}
+
+/// The finding on a name that a type doesn't have as a field, or a block on this side.
+pub fn no_such_member(
+    site: &Site,
+    owner: TypeWord,
+    side: BlockSide,
+) -> Result<Finding, AllocError> {
+    let (name, member) = (word_name(&site.text, owner), site.spot.spelled());
+    match members_of_word(site, owner, side) {
+        Some(members) => missing_member(site, name, members),
+        None => Ok(Finding::new(format!(in site.text.alloc;
+            "{name} isn't a structure: it has no field `{member}`"
+        )?)),
     }
 }
 
-/// The finding on a member after a dot that the variable before it doesn't have; none if that isn't certain.
-pub fn member_reason<'a>(site: &Site<'a>, member: &'a Name) -> Result<Option<Finding>, AllocError> {
-    match missing_at(site, member) {
-        Some(missing) => missing_member_reason(site, missing),
-        None => Ok(None),
-    }
+/// The finding on an output that is given a value, or an input that is copied; its block has it on the other side.
+pub fn other_side(site: &Site, block: TypeWord, side: BlockSide) -> Result<Finding, AllocError> {
+    let (alloc, member, owner) = (
+        site.text.alloc,
+        site.spot.spelled(),
+        word_name(&site.text, block),
+    );
+    let (sentence, help) = match side {
+        BlockSide::Input => (
+            format!(in alloc; "`{member}` is an output of `{owner}`")?,
+            format!(in alloc; "copy an output with `{member} => variable`")?,
+        ),
+        BlockSide::Output => (
+            format!(in alloc; "`{member}` is an input of `{owner}`")?,
+            format!(in alloc; "set an input with `{member} := value`")?,
+        ),
+    };
+    Ok(Finding::new(sentence).helped(help))
 }

@@ -1,7 +1,6 @@
 //! Names that differ by one letter from a word that stands for nothing.
 
 use crate::part::{part as part_of, shown, word_in_front};
-use crate::sentences::may_help;
 use st_types::{Identifier, Name};
 use std::alloc::{AllocError, Global};
 
@@ -113,7 +112,7 @@ impl<'a> Nearest<'a> {
         match self.found {
             Some(candidate) if !self.are_several => {
                 let near = shown(candidate.spelled);
-                may_help(format!(in alloc; "did you mean `{near}`?"))
+                Ok(Some(format!(in alloc; "did you mean `{near}`?")?))
             }
             _ => Ok(None),
         }

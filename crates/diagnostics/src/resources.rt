@@ -1,11 +1,11 @@
 //! Findings on tasks, programs and SINGLEs that are unknown or don't fit their use (G3).
 
-use crate::declared_types::type_name;
 use crate::externals::sort_name;
 use crate::finding::Finding;
 use crate::globals::Names;
 use crate::sentences::said_at;
 use crate::spelling::Text;
+use crate::type_names::declared_name;
 use st_meaning::lookup::{is_named, kind_of_type};
 use st_types::{Configuration, Identifier, Instance, Kind, Resource, Task, UnitSort, VariableType};
 use std::alloc::AllocError;
@@ -129,7 +129,7 @@ fn sentence_of(text: &Text, resource: &Resource, wrong: Wrong) -> Result<String,
             format!(in alloc; "the global `{name}` is unknown: SINGLE takes a BOOL global")
         }
         Wrong::Single(_, declared) => {
-            let declared = type_name(text, declared);
+            let declared = declared_name(text, declared);
             format!(in alloc; "the global `{name}` is {declared}: SINGLE takes a BOOL global")
         }
     }

@@ -21,23 +21,3 @@ pub fn said_at(
         Err(error) => Err(error),
     }
 }
-
-/// The finding with this sentence, and with a hint if there is one.
-pub fn said_with(
-    sentence: Result<String, AllocError>,
-    help: Result<Option<String>, AllocError>,
-) -> Result<Option<Finding>, AllocError> {
-    Ok(Some(Finding {
-        sentence: sentence?,
-        help: help?,
-        place: None,
-    }))
-}
-
-/// The hint with this text.
-pub fn may_help(help: Result<String, AllocError>) -> Result<Option<String>, AllocError> {
-    match help {
-        Ok(help) => Ok(Some(help)),
-        Err(error) => Err(error),
-    }
-}

@@ -2,8 +2,9 @@
 
 use crate::part::{part as part_of, shown, word_in_front};
 use crate::spot::Spot;
+use crate::spots::name_at;
 use st_lex::Token;
-use st_types::{Identifier, Source};
+use st_types::{Identifier, Name, Source};
 use std::alloc::Global;
 
 /// A text with its tokens and its tree. Findings on it are written with the allocator.
@@ -16,9 +17,19 @@ pub struct Text<'a> {
 }
 
 impl<'a> Text<'a> {
+    /// The name or literal at a place, as the text spells it.
+    pub fn word_at(&self, place: usize) -> &'a str {
+        shown(word_in_front(part_of(self.bytes, place, self.bytes.len())))
+    }
+
+    /// The name at a place.
+    pub fn name_at(&self, place: usize) -> Option<&'a Name> {
+        name_at(&Spot::new(self.bytes, self.tokens, place))
+    }
+
     /// A name as the text spells it in its place.
     pub fn spelled(&self, name: &Identifier) -> &'a str {
-        shown(word_in_front(part_of(self.bytes, name.place, self.bytes.len())))
+        self.word_at(name.place)
     }
 
     /// The address after the name of a global, as `out AT %QW0` has one.

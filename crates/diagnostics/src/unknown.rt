@@ -1,20 +1,19 @@
-//! Findings on names that stand for nothing (C1).
+//! Findings on names that aren't declared, or not as what their places take (C1).
 
-use crate::broken_place::Site;
 use crate::finding::Finding;
-use crate::members::member_reason;
+use crate::known::{Known, meaning_of};
 use crate::near::Nearest;
-use crate::rule_words::rule_reason;
-use crate::sentences::may_help;
+use crate::site::Site;
+use crate::sought::{Sought, sought_at};
 use crate::spot::is_mark;
-use crate::spots::{is_declaring, name_at};
+use crate::spots::name_at;
+use st_decl::entries_in;
 use st_lex::Mark;
-use st_meaning::lookup::{is_listed, is_named};
-use st_rules::Rule;
-use st_types::{
-    GlobalNames, LibraryElement, Name, SimpleType, TypeDefinition, Unit, UnitSort, VariableType,
-};
+use st_types::{Name, TypeDefinition, Unit, UnitSort};
 use std::alloc::AllocError;
+
+/// What is said of a name that stands for nothing.
+const UNDECLARED: &str = "isn't declared in this scope";
 
 /// The elementary types and the standard function blocks.
 const TYPES: [&[u8]; 24] = [
@@ -27,19 +26,6 @@ const TYPES: [&[u8]; 24] = [
 const FUNCTIONS: [&[u8]; 9] = [
     b"ABS", b"MIN", b"MAX", b"LIMIT", b"SEL", b"SHL", b"SHR", b"ROL", b"ROR",
 ];
-
-/// The sort of thing for which a name was looked up.
-#[derive(Clone, Copy)]
-enum Sought {
-    /// A member of something.
-    Member,
-    /// A type or a function block.
-    Type,
-    /// A function or an instance.
-    Callee,
-    /// A variable, or a value of an enumerated type.
-    Value,
-}
 
 fn meet_variables<'a>(nearest: &mut Nearest<'a>, unit: &'a Unit) {
     for block in &unit.blocks {
@@ -80,112 +66,82 @@ fn meet_values<'a>(nearest: &mut Nearest<'a>, site: &Site<'a>) {
     }
 }
 
-/// Whether the name at the place is that of a type.
-fn is_type(site: &Site) -> bool {
-    let place = site.spot.place;
-    site.declarings.iter().any(|d| match d.declared {
-        VariableType::Simple(SimpleType::Named(name)) => name.place == place,
-        VariableType::Array(array) => match &array.element {
-            SimpleType::Named(name) => name.place == place,
-            SimpleType::Elementary(_, _) => false,
-        },
-        VariableType::Simple(SimpleType::Elementary(_, _)) => false,
-    })
-}
-
-fn sought_at(site: &Site) -> Sought {
-    let spot = &site.spot;
-    if is_mark(spot.last(), Mark::Dot) {
-        Sought::Member
-    } else if is_type(site) {
-        Sought::Type
-    } else if is_mark(spot.next(), Mark::Open) {
-        Sought::Callee
-    } else if is_mark(spot.next(), Mark::Assign) && is_declaring(spot) {
-        Sought::Member
-    } else {
-        Sought::Value
-    }
-}
-
 /// Looks at the names that may have been meant.
 fn meet_names<'a>(nearest: &mut Nearest<'a>, site: &Site<'a>, sought: Sought) {
     match sought {
-        Sought::Member => {}
         Sought::Type => meet_types(nearest, site),
-        Sought::Callee => meet_functions(nearest, site),
-        Sought::Value => meet_values(nearest, site),
+        Sought::Function => meet_functions(nearest, site),
+        Sought::Variable | Sought::Literal => meet_values(nearest, site),
+        Sought::Instance => {}
     }
     match (sought, site.unit()) {
-        (Sought::Callee | Sought::Value, Some(unit)) if !is_declaring(&site.spot) => {
-            meet_variables(nearest, unit);
-        }
+        (Sought::Variable | Sought::Instance, Some(unit)) => meet_variables(nearest, unit),
         _ => {}
     }
 }
 
-/// Whether a configuration of the text has a global of this name.
-fn is_global(site: &Site, word: &Name) -> bool {
-    for element in &site.source.elements {
-        if let LibraryElement::Configuration(configuration) = element {
-            for block in &configuration.globals {
-                for declaration in &block.declarations {
-                    let found = match &declaration.names {
-                        GlobalNames::Located(name, _) => is_named(word, name),
-                        GlobalNames::Listed(names) => is_listed(word, names),
-                    };
-                    if found {
-                        return true;
-                    }
-                }
-            }
+/// The finding on a name that stands for nothing at the place.
+fn unknown<'a>(site: &Site<'a>, word: &'a Name, sought: Sought) -> Result<Finding, AllocError> {
+    let mut nearest = Nearest::new(site.text.bytes, word);
+    meet_names(&mut nearest, site, sought);
+    let mut finding = site.says(UNDECLARED)?;
+    finding.help = nearest.help(site.text.alloc)?;
+    Ok(finding)
+}
+
+/// The finding on a global that its unit doesn't declare.
+fn without_external(site: &Site) -> Result<Finding, AllocError> {
+    let (alloc, name) = (site.text.alloc, site.spot.spelled());
+    let help = format!(in alloc;
+        "a program or block declares the global `{name}` in VAR_EXTERNAL"
+    )?;
+    Ok(site.says(UNDECLARED)?.helped(help))
+}
+
+/// A hint on a function or block that a call, or the selection of an output, takes for something else.
+fn use_of(site: &Site, sought: Sought, known: Known) -> Option<&'static str> {
+    match sought {
+        Sought::Instance if known.is_function() => Some("use its result in an expression"),
+        Sought::Function | Sought::Instance if known.is_block() => {
+            Some("declare an instance of it and call that")
         }
-    }
-    false
-}
-
-fn help_of<'a>(site: &Site<'a>, word: &'a Name) -> Result<Option<String>, AllocError> {
-    match sought_at(site) {
-        Sought::Value if is_global(site, word) => {
-            let spelled = site.spot.spelled();
-            may_help(format!(in site.alloc;
-                "a program or block declares the global `{spelled}` in VAR_EXTERNAL"
-            ))
+        Sought::Variable if known.is_block() && is_mark(site.spot.next(), Mark::Dot) => {
+            Some("declare an instance of it and read that")
         }
-        sought => {
-            let mut nearest = Nearest::new(site.spot.text, word);
-            meet_names(&mut nearest, site, sought);
-            nearest.help(site.alloc)
+        _ => None,
+    }
+}
+
+/// The finding on a name that stands for something else than its place takes.
+fn other_sort(site: &Site, sought: Sought, known: Known) -> Result<Finding, AllocError> {
+    let (alloc, name) = (site.text.alloc, site.spot.spelled());
+    let (is, wanted) = (known.words(), sought.words());
+    let finding = Finding::new(format!(in alloc; "`{name}` is a {is}, not {wanted}")?);
+    match (use_of(site, sought, known), known.place()) {
+        (Some(help), _) => finding.with_help(alloc, help),
+        (None, Some(place)) => {
+            let line = site.line_of(place);
+            Ok(finding.helped(format!(in alloc; "it is declared on line {line}")?))
         }
+        (None, None) => Ok(finding),
     }
 }
 
-/// The finding on a member after a dot; none for any other name, or if it isn't certain.
-fn selection_reason<'a>(site: &Site<'a>, member: &'a Name) -> Result<Option<Finding>, AllocError> {
-    if is_mark(site.spot.last(), Mark::Dot) {
-        member_reason(site, member)
-    } else {
-        Ok(None)
+/// The finding on a name that stands for nothing that its place takes.
+fn not_found<'a>(site: &Site<'a>, word: &'a Name) -> Result<Finding, AllocError> {
+    let entries = entries_in(site.text.alloc, site.text.source)?;
+    let sought = sought_at(&site.spot, &entries);
+    match (sought, meaning_of(site, &entries, word)) {
+        (Sought::Variable, Some(Known::Global(_))) => without_external(site),
+        (_, Some(known)) => other_sort(site, sought, known),
+        (_, None) => unknown(site, word, sought),
     }
 }
 
-/// The finding on the word with a hint; none if there is no hint.
-fn word_reason<'a>(site: &Site<'a>, word: &'a Name) -> Result<Option<Finding>, AllocError> {
-    match help_of(site, word)? {
-        Some(help) => Ok(Some(rule_reason(site.alloc, &site.spot, Rule::UnknownName)?.helped(
-            help,
-        ))),
-        None => Ok(None),
-    }
-}
-
-/// The finding on a name that stands for nothing; none if the rule says as much.
-pub fn unknown_reason(site: &Site) -> Result<Option<Finding>, AllocError> {
-    let Some(word) = name_at(&site.spot) else {
-        return Ok(None);
-    };
-    match selection_reason(site, word) {
-        Ok(None) => word_reason(site, word),
-        told => told,
+/// The finding on a name that isn't declared as something that its place takes.
+pub fn undeclared(site: &Site) -> Result<Finding, AllocError> {
+    match name_at(&site.spot) {
+        Some(word) => not_found(site, word),
+        None => site.says(UNDECLARED),
     }
 }

@@ -1,6 +1,6 @@
 -- In a text that breaks no rule no two variables of one scope have the same name.
 use Rattle.std.proofs.Common.{◌≡◌, refl, sym, ap, ap₂, ◌∙◌, Bool, true, false, not, ◌&&◌, ◌||◌, if◌then◌else◌, List, []}
-use Rattle.std.proofs.Common.{◌∷◌, ◌++◌, map, Option, Some}
+use Rattle.std.proofs.Common.{◌∷◌, ◌++◌, map, Option, Some, None}
 use Rattle.std.specs.Prelude.{filter, bytes_eq}
 use Rattle.std.specs.List.{list_any, list_all, flat_map}
 use Rattle.std.proofs.lemmas.List.{map-append}
@@ -22,15 +22,17 @@ use Rattle.st_meaning.specs.ResolvedUnits.{resolved_declaration, resolved_block,
 use Rattle.st_meaning.specs.ResolvedUnits.{resolved_definition, resolved_type_declaration, resolved_global}
 use Rattle.st_meaning.specs.ResolvedUnits.{resolved_globals, resolved_element_of_text, resolved_source}
 use Rattle.st_meaning.specs.Scopes.{Name, contains_name}
-use Rattle.st_rules.specs.declared.rule.Rule.TheVariants.{DeclaredTwice}
-use Rattle.st_rules.specs.Faults.{breaking}
+use Rattle.st_rules.specs.declared.reason.Reason.TheVariants.{DeclaredBefore, StandardName}
+use Rattle.st_rules.specs.declared.rule.Broken.{Broken}
+use Rattle.st_rules.specs.Faults.{breaks, breaking, in_case}
 use Rattle.st_rules.specs.NameScopes.{names_of_element, names_of_text, variables_of_block, variables_of}
 use Rattle.st_rules.specs.NameScopes.{variables_of_text, scopes_of_type, scopes_in_variables}
 use Rattle.st_rules.specs.NameScopes.{scopes_in_globals, listed_names, globals_of_block, globals_of, names_in}
 use Rattle.st_rules.specs.NameScopes.{scopes_of_element, scopes_of}
-use Rattle.st_rules.specs.Places.{places_where, repeats}
+use Rattle.st_rules.specs.Places.{places_where, repeats, first_named}
 use Rattle.st_rules.specs.Rules.{wrong_declarations, wrong_types, wrong_starts, wrong_bodies, IsWellTyped}
-use Rattle.st_rules.specs.TwiceDeclared.{is_standard, is_taken, twice_declared}
+use Rattle.st_rules.specs.TwiceDeclared.{is_standard, is_taken, declared_again, repeated_after, repeated}
+use Rattle.st_rules.specs.TwiceDeclared.{reason_of_taken, wrong_variable_name, twice_declared}
 use Rattle.layout.specs.Types.{Site, with_site, site_of_declaration, sites_of_declarations, retention_of}
 use Rattle.layout.specs.Types.{sites_of_blocks, site_of_field}
 use Rattle.layout.specs.LayoutVariables.{global_variable, site_of_global, variables_of_names}
@@ -346,14 +348,94 @@ module _ (text : Declared) where
       (list_all differs (configurations_in (resolved_text rest)))
       (configuration_differs c b.0) (configurations_differ rest b.1)
 
--- the rule on names
+-- the rule on names, as places: nothing is broken, whatever the reasons would be
+new_name : (before : List Identifier) (x : Identifier) → declared_again before x ≡ []
+    → list_any (is_named x.name) before ≡ false
+new_name [] x h = refl
+new_name (y ∷ ys) x h = by_test (is_named x.name y) h (new_name ys x)
+  where
+    by_test : (b : Bool)
+        → ◌≡◌ {A = List Broken} (elim (if b then Some y else first_named ys x.name)
+        [ Some z ↦ breaks (DeclaredBefore z.place) x.place ∷ [] | None ↦ [] ]) []
+        → (declared_again ys x ≡ [] → list_any (is_named x.name) ys ≡ false)
+        → (b || list_any (is_named x.name) ys) ≡ false
+    by_test true g ih = absurd (cc)
+    by_test false g ih = ih g
+
+-- a name that is among those before isn't declared again
+not_later : (q : Name) (before xs : List Identifier) → list_any (is_named q) before ≡ true
+    → repeated_after before xs ≡ [] → places_where (is_named q) xs ≡ []
+not_later q before [] there h = refl
+not_later q before (x ∷ xs) there h =
+    let b = append_parts (declared_again before x) (repeated_after (before ++ x ∷ []) xs) h in
+    by_test (is_named q x) refl (not_later q (before ++ x ∷ []) xs
+    (list_any-append (is_named q) before (x ∷ []) ∙ or_left _ _ there) b.1)
+  where
+    by_test : (b : Bool) → is_named q x ≡ b → places_where (is_named q) xs ≡ []
+        → map (λ y. y.place) (if b then x ∷ filter (is_named q) xs else filter (is_named q) xs) ≡ []
+    by_test true e rest =
+        let new = new_name before x (append_parts (declared_again before x) (repeated_after (before ++ x ∷ []) xs) h).0 in
+        let s = ap (λ z. list_any (is_named z) before) (same_name q x.name e) in absurd (cc)
+    by_test false e rest = rest
+
+none_after : (before xs : List Identifier) → repeated_after before xs ≡ [] → repeats xs ≡ []
+none_after before [] h = refl
+none_after before (x ∷ xs) h =
+    let b = append_parts (declared_again before x) (repeated_after (before ++ x ∷ []) xs) h in
+    ap₂ (λ ys zs. ys ++ zs)
+    (not_later x.name (before ++ x ∷ []) xs
+    (list_any-append (is_named x.name) before (x ∷ [])
+    ∙ or_right (list_any (is_named x.name) before) _ (or_left _ _ (name_itself x.name))) b.1)
+    (none_after (before ++ x ∷ []) xs b.1)
+
+none_again : (xs : List Identifier) → repeated xs ≡ [] → repeats xs ≡ []
+none_again xs h = none_after [] xs h
+
+none_in_scopes : (scopes : List (List Identifier)) → flat_map repeated scopes ≡ [] → flat_map repeats scopes ≡ []
+none_in_scopes [] h = refl
+none_in_scopes (xs ∷ scopes) h =
+    let b = append_parts (repeated xs) (flat_map repeated scopes) h in
+    ap₂ (λ ys zs. ys ++ zs) (none_again xs b.0) (none_in_scopes scopes b.1)
+
+none_taken : (names xs : List Identifier) → flat_map (wrong_variable_name names) xs ≡ []
+    → places_where (is_taken names) xs ≡ []
+none_taken names [] h = refl
+none_taken names (x ∷ xs) h =
+    let b = append_parts (wrong_variable_name names x) (flat_map (wrong_variable_name names) xs) h in
+    let reason = reason_of_taken (is_standard x.name) (first_named names x.name) in
+    by_test (is_taken names x) (none_mapped (breaks reason) (in_case (is_taken names x) x.place) b.0)
+    (none_taken names xs b.1)
+  where
+    by_test : (b : Bool) → in_case b x.place ≡ [] → places_where (is_taken names) xs ≡ []
+        → map (λ y. y.place) (if b then x ∷ filter (is_taken names) xs else filter (is_taken names) xs) ≡ []
+    by_test true g rest = absurd (cc)
+    by_test false g rest = rest
+
+-- No name is declared twice or taken.
+pub record AreNamesFree (source : Source) : Type 0 where
+  pub again : flat_map repeats (scopes_of source) ≡ []
+  pub standard : places_where (λ x. is_standard x.name) (names_of_text source) ≡ []
+  pub taken : places_where (is_taken (names_of_text source)) (variables_of_text source) ≡ []
+
+pub names_free : (source : Source) → twice_declared source ≡ [] → AreNamesFree source
+names_free source h =
+    let names = names_of_text source in
+    let standards = places_where (λ x. is_standard x.name) names in
+    let a = append_parts (flat_map repeated (scopes_of source) ++ breaking StandardName standards)
+    (flat_map (wrong_variable_name names) (variables_of_text source)) h in
+    let b = append_parts (flat_map repeated (scopes_of source)) (breaking StandardName standards) a.0 in
+    record {
+      again = none_in_scopes (scopes_of source) b.0;
+      standard = none_mapped (breaks StandardName) standards b.1;
+      taken = none_taken names (variables_of_text source) a.1;
+    }
+
 not_declared_twice : (source : Source) → IsWellTyped source → twice_declared source ≡ []
 not_declared_twice source h =
     let a = append_parts _ (wrong_bodies source) h in
     let b = append_parts (wrong_declarations source ++ wrong_types source) (wrong_starts source) a.0 in
     let c = append_parts (wrong_declarations source) (wrong_types source) b.0 in
-    none_mapped (λ p. record { rule = DeclaredTwice; place = p }) (twice_declared source)
-    (first_of_five (breaking DeclaredTwice (twice_declared source)) _ _ _ _ c.0)
+    first_of_five (twice_declared source) _ _ _ _ c.0
   where
     first_of_five : {A : Type 0} (xs ys zs us vs : List A) → xs ++ ys ++ zs ++ us ++ vs ≡ [] → xs ≡ []
     first_of_five xs ys zs us vs g =
@@ -365,16 +447,14 @@ pub names_differ : (source : Source) → twice_declared source ≡ [] → has_di
 names_differ source h =
     let names = names_of_text source in
     let text = declared_in source in
-    let a = append_parts (flat_map repeats (scopes_of source) ++ places_where (λ x. is_standard x.name) names)
-    (places_where (is_taken names) (variables_of_text source)) h in
-    let b = append_parts (flat_map repeats (scopes_of source)) (places_where (λ x. is_standard x.name) names) a.0 in
-    let s = append_parts (repeats names) (flat_map repeats (flat_map scopes_of_element source)) b.0 in
+    let free = names_free source h in
+    let s = append_parts (repeats names) (flat_map repeats (flat_map scopes_of_element source)) free.again in
     and_from (are_types_and_units_different (declared_of source)) (is_configuration_different (configuration_of source))
     (and_from (list_all (λ t. has_different_fields t.definition) (types_in (resolved_source source)))
     (list_all has_different_variables (units_in (resolved_source source)))
     (types_of_text_differ text source s.1)
     (units_of_text_differ text names source s.1
-    (none_passes (is_taken names) (variables_of_text source) a.1) (λ x g. g)))
+    (none_passes (is_taken names) (variables_of_text source) free.taken) (λ x g. g)))
     (only_one_differs (configurations_in (resolved_source source)) (configurations_differ text source s.1))
 
 pub accepted_names_differ : (source : Source) → IsWellTyped source → has_different_names source ≡ true

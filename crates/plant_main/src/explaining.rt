@@ -1,5 +1,6 @@
 //! The text after the line of a fault, for a person.
 
+use crate::broken_rules::write_broken_rules;
 use crate::source_faults::source_fault;
 use diagnostics::{SourceFault, WholeFault, write_reason};
 use source_run::{Fault, Files, Job, ShowJob, View, code_of, read_source, title};
@@ -64,7 +65,8 @@ fn text_of<F: Files>(
     }
 }
 
-/// Writes the error in the source of a job, and its place; returns whether that is done.
+/// Writes the error in the source of a job, and its place; of a text that is checked, each rule that it breaks. Returns whether
+/// that is done.
 fn write_place<F: Files, E: Write>(
     alloc: Global,
     files: &mut F,
@@ -75,10 +77,13 @@ fn write_place<F: Files, E: Write>(
     let (Some(name), Some(refused)) = (source_of(job), refused(fault)) else {
         return false;
     };
-    match text_of(alloc, files, name, fault) {
-        Ok(text) => write_reason(alloc, err, name, &text, code_of(fault).text(), refused).is_ok(),
-        Err(_) => false,
+    let Ok(text) = text_of(alloc, files, name, fault) else {
+        return false;
+    };
+    if let (Job::Check(_), SourceFault::Rule(_)) = (job, refused) {
+        return matches!(write_broken_rules(alloc, err, name, &text), Ok(true));
     }
+    write_reason(alloc, err, name, &text, code_of(fault).text(), refused).is_ok()
 }
 
 /// Shows the meaning of a fault if the job asks for it: a refused source with the line at the place, all else by the meaning

@@ -4,6 +4,7 @@
 //! unless the standard output fails half way.
 #![tactic(auto)]
 
+mod broken_rules;
 mod built_in;
 mod command;
 mod ending;

@@ -7,6 +7,7 @@ use Rattle.st_lex.specs.declared.fault.LexError.TheVariants as lexing
 use Rattle.st_parse.specs.declared.fault.ParseError.{ParseError}
 use Rattle.st_parse.specs.declared.fault.ParseError.TheVariants as grammar
 use Rattle.st_rules.specs.declared.rule.Rule.{Rule}
+use Rattle.st_rules.specs.Reasons.{rule_of}
 use Rattle.st_rules.specs.declared.rule.Rule.TheVariants as rules
 use Rattle.st_decl.specs.declared.judging.CheckError.{CheckError}
 use Rattle.st_decl.specs.declared.judging.CheckError.TheVariants as checking
@@ -72,7 +73,7 @@ code_of_rule rules.RetainedAddress = C11
 code_of_rule rules.TooManyNames = C13
 
 abbrev pub code_of_check : CheckError → Code
-code_of_check (checking.Broken broken) = code_of_rule broken.rule
+code_of_check (checking.Broken broken) = code_of_rule (rule_of broken.reason)
 code_of_check checking.OutOfMemory = C12
 
 abbrev pub code_of_configuration : ConfigurationError → Code

@@ -73,7 +73,7 @@ fn code_of_check(error: CheckError) -> Code
     ensures { result ≡ causes.code_of_check error }
 {
     match error {
-        CheckError::Broken(broken) => code_of_rule(broken.rule),
+        CheckError::Broken(broken) => code_of_rule(broken.reason.rule()),
         CheckError::OutOfMemory => Code::C12,
     }
 }

@@ -1,6 +1,7 @@
 -- The statements of a body, as the passes over it report them.
-use Rattle.std.proofs.Common.{◌≡◌, refl, sym, ap, ◌∙◌, List, [], ◌∷◌, ◌++◌, Option, Some, None, map}
-use Rattle.std.proofs.Common.{append_assoc, append-nil}
+use Rattle.std.proofs.Common.{◌≡◌, refl, sym, ap, ◌∙◌, ℕ, List, [], ◌∷◌, ◌++◌, Bool, true, false, Option, Some, None}
+use Rattle.std.proofs.Common.{map, append_assoc, append-nil, if◌then◌else◌}
+use Rattle.std.specs.Prelude.{is_some}
 use Rattle.std.specs.List.{flat_map}
 use Rattle.std.proofs.lemmas.List.{map-append}
 use Rattle.std.proofs.lemmas.List.Concat.{flat_map-append}
@@ -12,19 +13,22 @@ use Rattle.st_types.specs.Statements.{REPEAT}
 use Rattle.st_types.specs.Statements.{EXIT, RETURN, Stmts, no_stmts, stmt_then, Arms, no_arms, arm_then, CaseArms}
 use Rattle.st_types.specs.Statements.{no_case_arms, case_arm_then}
 use Rattle.st_meaning.specs.Scopes.{contains_name}
-use Rattle.st_rules.specs.declared.rule.Rule.TheVariants.{UnknownName, WrongType, NotAssignable}
+use Rattle.st_rules.specs.declared.reason.Reason.{Reason}
+use Rattle.st_rules.specs.declared.reason.Reason.TheVariants.{Undeclared, NotControl}
 use Rattle.st_rules.specs.declared.rule.Broken.{Broken}
-use Rattle.st_rules.specs.Environments.{Environment, type_of_name}
+use Rattle.st_rules.specs.Environments.{Environment, type_of_name, type_of_place}
+use Rattle.st_rules.specs.ExpressionRules.{wrong_variable}
 use Rattle.st_rules.specs.Faults.{breaking, unless}
 use Rattle.st_rules.specs.Roots.{targets_of_arguments}
 use Rattle.st_rules.specs.Statements.{Context, Placed, in_for, in_loop, statements_below, statements_of}
 use Rattle.st_rules.specs.Statements.{statements_of_arms, statements_of_case_arms}
-use Rattle.st_rules.specs.TargetRules.{is_assignable, is_control, wrong_for, wrong_targets}
+use Rattle.st_rules.specs.TargetRules.{is_assignable, is_control, unassignable, wrong_for, wrong_targets}
 use Rattle.st_rules.specs.TargetRules as rules
 use Rattle.st_check.specs.Assignments.{Assigned, is_running, assigned_by, assigned_by_arguments, assigned_below}
 use Rattle.st_check.specs.Assignments.{assigned_in, assigned_in_arms, assigned_in_case_arms}
 use Rattle.st_check.specs.Listings.{Listed, listed, listed_below, listed_in, listed_in_arms, listed_in_case_arms}
 use Rattle.st_check.specs.Targets.{wrong_target, wrong_control_of, wrong_assigned}
+use Rattle.st_decl.proofs.EntryLemmas.{flat_flat, flat_same}
 
 -- a statement with its context, as an element of the list of all
 abbrev pub brief : Placed → Listed
@@ -116,9 +120,17 @@ mutual
       (assigned_each c body) (assigned_each_case_arm c arms)
 
 -- the faults in the assignments of one statement
+breaking_if : (b : Bool) (reason : Reason) (places : List ℕ)
+    → (if b then breaking reason places else []) ≡ breaking reason (if b then places else [])
+breaking_if true reason places = refl
+breaking_if false reason places = refl
+
 target_is : (env : Environment) (c : Context) (v : Variable)
     → wrong_target env (is_running c.running v) v ≡ rules.wrong_target env c v
-target_is env c (variable x xs) = refl
+target_is env c (variable x xs) =
+    let v = variable x xs in
+    ap (λ ys. wrong_variable env v ++ ys)
+    (breaking_if (is_some (type_of_place env v)) (unassignable env c v) (unless (is_assignable env c v) x.place))
 
 arguments_are : (env : Environment) (c : Context) (arguments : List Argument)
     → flat_map (wrong_assigned env) (assigned_by_arguments c.running arguments)
@@ -131,9 +143,10 @@ arguments_are env c (copied x v ∷ rest) =
 
 control_is : (env : Environment) (c : Context) (x : Identifier) (o : Option VariableType)
     → wrong_control_of env (contains_name c.running x.name) x o ≡ elim o [
-      | Some t ↦ breaking WrongType (unless (is_control env x t) x.place)
-          ++ breaking NotAssignable (unless (is_assignable env c (variable x no_selectors)) x.place)
-      | None ↦ breaking UnknownName (x.place ∷ [])
+      | Some t ↦ breaking NotControl (unless (is_control env x t) x.place)
+          ++ breaking (unassignable env c (variable x no_selectors))
+          (unless (is_assignable env c (variable x no_selectors)) x.place)
+      | None ↦ breaking Undeclared (x.place ∷ [])
     ]
 control_is env c x (Some t) = refl
 control_is env c x None = refl
@@ -159,27 +172,10 @@ assigning_is env c (REPEAT body e) = refl
 assigning_is env c (EXIT at) = refl
 assigning_is env c RETURN = refl
 
--- lists of lists
-pub flat_of_flat : {X Y Z : Type 0} (f : Y → List Z) (g : X → List Y) (xs : List X)
-    → flat_map f (flat_map g xs) ≡ flat_map (λ x. flat_map f (g x)) xs
-flat_of_flat f g [] = refl
-flat_of_flat f g (x ∷ xs) =
-    flat_map-append f (g x) (flat_map g xs) ∙ ap (λ ys. flat_map f (g x) ++ ys) (flat_of_flat f g xs)
-
-pub flat_of_map : {X Y Z : Type 0} (f : Y → List Z) (g : X → Y) (xs : List X)
-    → flat_map f (map g xs) ≡ flat_map (λ x. f (g x)) xs
-flat_of_map f g [] = refl
-flat_of_map f g (x ∷ xs) = ap (λ ys. f (g x) ++ ys) (flat_of_map f g xs)
-
-pub flat_same : {X Z : Type 0} (f g : X → List Z) → ((x : X) → f x ≡ g x) → (xs : List X)
-    → flat_map f xs ≡ flat_map g xs
-flat_same f g h [] = refl
-flat_same f g h (x ∷ xs) = ap (λ ys. ys ++ flat_map f xs) (h x) ∙ ap (λ ys. g x ++ ys) (flat_same f g h xs)
-
 pub assigning_told : (env : Environment) (c : Context) (xs : Stmts)
     → flat_map (wrong_assigned env) (assigned_in c.running xs) ≡ flat_map (wrong_assigning env) (statements_of c xs)
 assigning_told env c xs =
     ap (flat_map (wrong_assigned env)) (assigned_each c xs)
-    ∙ flat_of_flat (wrong_assigned env) assigned_at (statements_of c xs)
+    ∙ flat_flat (wrong_assigned env) assigned_at (statements_of c xs)
     ∙ flat_same (λ p. flat_map (wrong_assigned env) (assigned_at p)) (wrong_assigning env)
     (λ p. assigning_is env p.context p.statement) (statements_of c xs)

@@ -1,8 +1,7 @@
 -- Lists of the parts of statements, part by part.
-use Rattle.std.proofs.Common.{◌≡◌, sym, ap, ◌∙◌, List, ◌++◌, map}
-use Rattle.std.specs.Prelude.{Vec, Result, Ok, Err, IfOk}
+use Rattle.std.proofs.Common.{◌≡◌, ap, ◌∙◌, map}
+use Rattle.std.specs.Prelude.{Vec}
 use Rattle.std.specs.declared.alloc.Global.{Global}
-use Rattle.std.proofs.lemmas.List.{append_assoc}
 use Rattle.st_types.specs.declared.expression.Expr as code_expr
 use Rattle.st_types.specs.declared.statement.Stmt as code_stmt
 use Rattle.st_types.specs.declared.statement.Arm as code_arm

@@ -1,5 +1,7 @@
+pub mod PartLemmas
+pub mod EntryLemmas
+pub mod LoopLemmas
 pub mod BodyLemmas
-pub mod ChoiceLemmas
 pub mod FlatLemmas
 pub mod InvocationLemmas
 pub mod PassLemmas
@@ -7,3 +9,4 @@ pub mod TargetLemmas
 pub mod InitialLemmas
 pub mod TypeLemmas
 pub mod JudgeLemmas
+pub mod SurplusLemmas

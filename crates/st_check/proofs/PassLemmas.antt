@@ -1,34 +1,35 @@
 -- The faults that the passes over a body find are those in the body.
-use Rattle.std.proofs.Common.{◌≡◌, refl, sym, ap, subst, ◌∙◌, List, [], ◌∷◌, ◌++◌, Option, Some, None, false}
-use Rattle.std.proofs.Common.{append-nil, ⊎_elim, ◌⊎◌, inl, inr, arith}
-use Rattle.std.specs.List.{flat_map, Contains}
+use Rattle.std.proofs.Common.{◌≡◌, refl, sym, ap, ◌∙◌, List, [], ◌++◌, false, append-nil}
+use Rattle.std.specs.List.{flat_map}
 use Rattle.std.proofs.lemmas.List.Concat.{flat_map-append}
-use Rattle.std.proofs.lemmas.List.Elements.{Contains-append_left, Contains-append_right, Contains-append_cases}
+use Rattle.std.proofs.lemmas.List.Folds.{flat_map-map}
 use Rattle.st_types.specs.Expressions.{Variable, variable, Selector, member, subscript, Selectors, no_selectors}
 use Rattle.st_types.specs.Expressions.{selector_then}
-use Rattle.st_types.specs.Statements.{Stmt, CASE, Stmts}
-use Rattle.st_types.specs.Statements.{stmts_of}
+use Rattle.st_types.specs.Statements.{Stmt, Stmts, stmts_of}
 use Rattle.st_rules.specs.declared.rule.Broken.{Broken}
-use Rattle.st_rules.specs.declared.demand.Sorts.TheVariants.{Selecting}
-use Rattle.st_rules.specs.declared.demand.Demand.TheVariants.{Asked}
+use Rattle.st_rules.specs.declared.broken_rules.BrokenRules.{BrokenRules}
 use Rattle.st_rules.specs.BodyRules.{wrong_body, wrong_exit, wrong_statement}
 use Rattle.st_rules.specs.CallRules.{wrong_invocation}
+use Rattle.st_rules.specs.Collecting.{Adds, Covers, Collects}
 use Rattle.st_rules.specs.Environments.{Environment}
 use Rattle.st_rules.specs.ExpressionRules.{wrong_node}
-use Rattle.st_rules.specs.Faults.{Finds}
 use Rattle.st_rules.specs.LabelRules.{wrong_case}
-use Rattle.st_rules.specs.Nodes.{Node, node, nodes_of_place, nodes_of_selector, nodes_of_selectors}
+use Rattle.st_rules.specs.Nodes.{Node, nodes_of_place, nodes_of_selector, nodes_of_selectors}
 use Rattle.st_rules.specs.Roots.{nodes_of_root, roots_of, targets_of, wrong_nodes}
 use Rattle.st_rules.specs.Statements.{Placed, outside, statements_in, statements_of}
 use Rattle.st_rules.specs.TargetRules.{wrong_for, wrong_targets}
-use Rattle.st_check.specs.Bodies.{wrong_roots_of, wrong_assigned_in, wrong_invocations_of, wrong_choices_of}
-use Rattle.st_check.specs.Bodies.{wrong_exits_of, wrong_passes}
-use Rattle.st_check.specs.Choices.{wrong_choice}
+use Rattle.st_rules.proofs.CollectLemmas.{AreAmong, among_itself, among_then, among_left, among_right, both_among}
+use Rattle.st_rules.proofs.CollectLemmas.{collects_is, Searches, search_starts, search_fails, search_goes_on}
+use Rattle.st_rules.proofs.CollectLemmas.{search_ends, search_is}
+use Rattle.st_check.specs.Assignments.{Assigned, assigned_in}
+use Rattle.st_check.specs.Bodies.{wrong_roots_of, wrong_assigned_in, wrong_invocations_of, wrong_cases_of}
+use Rattle.st_check.specs.Bodies.{wrong_exits_of, wrong_passes, wrong_statements}
 use Rattle.st_check.specs.Listings.{Listed, listed_in}
 use Rattle.st_check.specs.Roots.{roots_of_selector, roots_of_selectors, roots_of_target, all_roots, wrong_root}
-use Rattle.st_check.proofs.BodyLemmas.{brief, brief_all, wrong_assigning, assigning_told, flat_of_flat, flat_of_map}
-use Rattle.st_check.proofs.BodyLemmas.{flat_same}
-use Rattle.st_types.proofs.ListLemmas.{append_first, append_second}
+use Rattle.st_check.specs.Targets.{wrong_assigned}
+use Rattle.st_check.proofs.BodyLemmas.{brief, brief_all, wrong_assigning, assigning_told}
+use Rattle.st_decl.proofs.EntryLemmas.{flat_flat, flat_same, both_left, both_right}
+use Rattle.st_check.proofs.PartLemmas.{is_among, together, flat_within}
 
 -- the parts of expressions, root by root
 root_is : (env : Environment) (n : Node) → flat_map (wrong_node env) (nodes_of_root env n) ≡ wrong_root env n
@@ -60,11 +61,11 @@ nodes_are env x =
     let targets = targets_of x in
     flat_map-append (wrong_root env) roots (flat_map roots_of_target targets)
     ∙ ap (λ ys. ys ++ flat_map (wrong_root env) (flat_map roots_of_target targets))
-    (sym (flat_of_flat (wrong_node env) (nodes_of_root env) roots
+    (sym (flat_flat (wrong_node env) (nodes_of_root env) roots
     ∙ flat_same (λ n. flat_map (wrong_node env) (nodes_of_root env n)) (wrong_root env) (root_is env) roots))
     ∙ ap (λ ys. flat_map (wrong_node env) (flat_map (nodes_of_root env) roots) ++ ys)
-    (flat_of_flat (wrong_root env) roots_of_target targets
-    ∙ sym (flat_of_flat (wrong_node env) (nodes_of_place env) targets
+    (flat_flat (wrong_root env) roots_of_target targets
+    ∙ sym (flat_flat (wrong_node env) (nodes_of_place env) targets
     ∙ flat_same (λ v. flat_map (wrong_node env) (nodes_of_place env v))
     (λ v. flat_map (wrong_root env) (roots_of_target v)) (target_is env) targets))
     ∙ sym (flat_map-append (wrong_node env) (flat_map (nodes_of_root env) roots)
@@ -77,8 +78,8 @@ nodes_at env p = wrong_nodes env p.statement
 abbrev invocation_at : Environment → Placed → List Broken
 invocation_at env p = wrong_invocation env p.statement
 
-abbrev choice_at : Environment → Placed → List Broken
-choice_at env p = wrong_choice env p.statement
+abbrev case_at : Environment → Placed → List Broken
+case_at env p = wrong_case env p.statement
 
 abbrev exit_at : Placed → List Broken
 exit_at p = wrong_exit p.context.in_loop p.statement
@@ -93,8 +94,8 @@ roots_pass env body =
     let ps = placed body in
     ap (λ ls. flat_map (wrong_root env) (flat_map (λ (l : Listed). all_roots env l.statement) ls))
     (brief_all outside body)
-    ∙ ap (flat_map (wrong_root env)) (flat_of_map (λ (l : Listed). all_roots env l.statement) brief ps)
-    ∙ flat_of_flat (wrong_root env) (λ (p : Placed). all_roots env p.statement) ps
+    ∙ ap (flat_map (wrong_root env)) (flat_map-map (λ (l : Listed). all_roots env l.statement) brief ps)
+    ∙ flat_flat (wrong_root env) (λ (p : Placed). all_roots env p.statement) ps
     ∙ flat_same (λ (p : Placed). flat_map (wrong_root env) (all_roots env p.statement)) (nodes_at env)
     (λ p. nodes_are env p.statement) ps
 
@@ -108,192 +109,240 @@ invocations_pass : (env : Environment) (body : Stmts)
 unfolding wrong_invocations_of
 invocations_pass env body =
     ap (flat_map (λ (l : Listed). wrong_invocation env l.statement)) (brief_all outside body)
-    ∙ flat_of_map (λ (l : Listed). wrong_invocation env l.statement) brief (placed body)
+    ∙ flat_map-map (λ (l : Listed). wrong_invocation env l.statement) brief (placed body)
 
-choices_pass : (env : Environment) (body : Stmts)
-    → wrong_choices_of env (listed_in false body) ≡ flat_map (choice_at env) (placed body)
-unfolding wrong_choices_of
-choices_pass env body =
-    ap (flat_map (λ (l : Listed). wrong_choice env l.statement)) (brief_all outside body)
-    ∙ flat_of_map (λ (l : Listed). wrong_choice env l.statement) brief (placed body)
+cases_pass : (env : Environment) (body : Stmts)
+    → wrong_cases_of env (listed_in false body) ≡ flat_map (case_at env) (placed body)
+unfolding wrong_cases_of
+cases_pass env body =
+    ap (flat_map (λ (l : Listed). wrong_case env l.statement)) (brief_all outside body)
+    ∙ flat_map-map (λ (l : Listed). wrong_case env l.statement) brief (placed body)
 
 exits_pass : (body : Stmts) → wrong_exits_of (listed_in false body) ≡ flat_map exit_at (placed body)
 unfolding wrong_exits_of
 exits_pass body =
     ap (flat_map (λ (l : Listed). wrong_exit l.in_loop l.statement)) (brief_all outside body)
-    ∙ flat_of_map (λ (l : Listed). wrong_exit l.in_loop l.statement) brief (placed body)
+    ∙ flat_map-map (λ (l : Listed). wrong_exit l.in_loop l.statement) brief (placed body)
 
--- a pass within another
-within_pass : {X : Type 0} (f g : X → List Broken) → ((x : X) (b : Broken) → Contains (f x) b → Contains (g x) b)
-    → (xs : List X) (b : Broken) → Contains (flat_map f xs) b → Contains (flat_map g xs) b
-within_pass f g inside [] b h = h
-within_pass f g inside (x ∷ xs) b h =
-    ⊎_elim (λ i. Contains-append_left (g x) (flat_map g xs) b (inside x b i))
-    (λ i. Contains-append_right (g x) (flat_map g xs) b (within_pass f g inside xs b i))
-    (Contains-append_cases (f x) (flat_map f xs) b h)
+-- a statement, part by part
+abbrev last_two : Environment → Placed → List Broken
+last_two env p = case_at env p ++ exit_at p
 
--- one of six parts
-part_1 : (a b c d e f : List Broken) (y : Broken) → Contains a y → Contains (a ++ b ++ c ++ d ++ e ++ f) y
-part_1 a b c d e f y h = Contains-append_left (a ++ b ++ c ++ d ++ e) f y (Contains-append_left (a ++ b ++ c ++ d) e y
-    (Contains-append_left (a ++ b ++ c) d y (Contains-append_left (a ++ b) c y (Contains-append_left a b y h))))
+abbrev last_three : Environment → Placed → List Broken
+last_three env p = invocation_at env p ++ last_two env p
 
-part_2 : (a b c d e f : List Broken) (y : Broken) → Contains b y → Contains (a ++ b ++ c ++ d ++ e ++ f) y
-part_2 a b c d e f y h = Contains-append_left (a ++ b ++ c ++ d ++ e) f y (Contains-append_left (a ++ b ++ c ++ d) e y
-    (Contains-append_left (a ++ b ++ c) d y (Contains-append_left (a ++ b) c y (Contains-append_right a b y h))))
+abbrev last_four : Environment → Placed → List Broken
+last_four env p = wrong_assigning env p ++ last_three env p
 
-part_3 : (a b c d e f : List Broken) (y : Broken) → Contains c y → Contains (a ++ b ++ c ++ d ++ e ++ f) y
-part_3 a b c d e f y h = Contains-append_left (a ++ b ++ c ++ d ++ e) f y (Contains-append_left (a ++ b ++ c ++ d) e y
-    (Contains-append_left (a ++ b ++ c) d y (Contains-append_right (a ++ b) c y h)))
+abbrev in_parts : Environment → Placed → List Broken
+in_parts env p = nodes_at env p ++ last_four env p
 
-part_4 : (a b c d e f : List Broken) (y : Broken) → Contains d y → Contains (a ++ b ++ c ++ d ++ e ++ f) y
-part_4 a b c d e f y h = Contains-append_left (a ++ b ++ c ++ d ++ e) f y (Contains-append_left (a ++ b ++ c ++ d) e y
-    (Contains-append_right (a ++ b ++ c) d y h))
+module _ (n t i c f e : List Broken) where
+  regrouped : AreAmong (n ++ ((t ++ f) ++ (i ++ (c ++ e)))) (n ++ t ++ i ++ c ++ f ++ e)
+  regrouped =
+      let all = n ++ t ++ i ++ c ++ f ++ e in
+      let to_f = n ++ t ++ i ++ c ++ f in
+      let to_c = n ++ t ++ i ++ c in
+      let to_i = n ++ t ++ i in
+      let in_c = λ (x : List Broken) (h : AreAmong x to_c). among_left x to_f e (among_left x to_c f h) in
+      let in_i = λ (x : List Broken) (h : AreAmong x to_i). in_c x (among_left x to_i c h) in
+      let in_t = λ (x : List Broken) (h : AreAmong x (n ++ t)). in_i x (among_left x (n ++ t) i h) in
+      both_among n ((t ++ f) ++ (i ++ (c ++ e))) all (in_t n (among_left n n t (among_itself n)))
+      (both_among (t ++ f) (i ++ (c ++ e)) all
+      (both_among t f all (in_t t (among_right t n t (among_itself t)))
+      (among_left f to_f e (among_right f to_c f (among_itself f))))
+      (both_among i (c ++ e) all (in_i i (among_right i (n ++ t) i (among_itself i)))
+      (both_among c e all (in_c c (among_right c to_i c (among_itself c))) (among_right e to_f e (among_itself e)))))
 
-part_5 : (a b c d e f : List Broken) (y : Broken) → Contains e y → Contains (a ++ b ++ c ++ d ++ e ++ f) y
-part_5 a b c d e f y h =
-    Contains-append_left (a ++ b ++ c ++ d ++ e) f y (Contains-append_right (a ++ b ++ c ++ d) e y h)
+  ungrouped : AreAmong (n ++ t ++ i ++ c ++ f ++ e) (n ++ ((t ++ f) ++ (i ++ (c ++ e))))
+  ungrouped =
+      let all = n ++ ((t ++ f) ++ (i ++ (c ++ e))) in
+      let rest = (t ++ f) ++ (i ++ (c ++ e)) in
+      let in_rest = λ (x : List Broken) (h : AreAmong x rest). among_right x n rest h in
+      let in_a = λ (x : List Broken) (h : AreAmong x (t ++ f)). in_rest x (among_left x (t ++ f) (i ++ (c ++ e)) h) in
+      let in_last = λ (x : List Broken) (h : AreAmong x (i ++ (c ++ e))). in_rest x
+      (among_right x (t ++ f) (i ++ (c ++ e)) h) in
+      both_among (n ++ t ++ i ++ c ++ f) e all
+      (both_among (n ++ t ++ i ++ c) f all
+      (both_among (n ++ t ++ i) c all
+      (both_among (n ++ t) i all
+      (both_among n t all (among_left n n rest (among_itself n)) (in_a t (among_left t t f (among_itself t))))
+      (in_last i (among_left i i (c ++ e) (among_itself i))))
+      (in_last c (among_right c i (c ++ e) (among_left c c e (among_itself c)))))
+      (in_a f (among_right f t f (among_itself f))))
+      (in_last e (among_right e i (c ++ e) (among_right e c e (among_itself e))))
 
-none_of_six : (a b c d e f : List Broken) → a ≡ [] → b ≡ [] → c ≡ [] → d ≡ [] → e ≡ [] → f ≡ []
-    → a ++ b ++ c ++ d ++ e ++ f ≡ []
-none_of_six a b c d e f g h i j k l = rw (g, h, i, j, k, l) refl
-
--- a fault in a CASE is one in its selector or in its labels
-nothing_there : (b : Broken) → Contains [] b → ⊥
-nothing_there b h = let lt = h.1 in omega (arith, lt)
-
-choice_told : (env : Environment) (x : Stmt) (b : Broken) → Contains (wrong_choice env x) b
-    → Contains (wrong_nodes env x) b ⊎ Contains (wrong_case env x) b
-choice_told env (CASE e arms otherwise) b h =
-    let selector = wrong_root env (node (Asked None Selecting) e) in
-    let labels = wrong_case env (CASE e arms otherwise) in
-    ⊎_elim
-    (λ i. inl (subst (λ ys. Contains ys b) (nodes_are env (CASE e arms otherwise))
-    (Contains-append_left selector [] b i)))
-    (λ i. inr i) (Contains-append_cases selector labels b h)
-choice_told env _ b h = absurd (nothing_there b h)
-
-choice_clean : (env : Environment) (x : Stmt) → wrong_choice env x ≡ [] → wrong_case env x ≡ []
-choice_clean env (CASE e arms otherwise) h =
-    append_second (wrong_root env (node (Asked None Selecting) e)) (wrong_case env (CASE e arms otherwise)) h
-choice_clean env _ h = refl
-
--- each pass finds only faults in statements
-nodes_within : (env : Environment) (p : Placed) (b : Broken) → Contains (nodes_at env p) b
-    → Contains (wrong_statement env p) b
-nodes_within env p b h =
+statement_in : (env : Environment) (p : Placed) → AreAmong (wrong_statement env p) (in_parts env p)
+statement_in env p =
     let x = p.statement in
-    part_1 (wrong_nodes env x) (wrong_targets env p.context x) (wrong_invocation env x) (wrong_case env x)
-    (wrong_for env p.context x) (wrong_exit p.context.in_loop x) b h
+    ungrouped (wrong_nodes env x) (wrong_targets env p.context x) (wrong_invocation env x) (wrong_case env x)
+    (wrong_for env p.context x) (wrong_exit p.context.in_loop x)
 
-assigning_within : (env : Environment) (p : Placed) (b : Broken) → Contains (wrong_assigning env p) b
-    → Contains (wrong_statement env p) b
-assigning_within env p b h =
+in_statement : (env : Environment) (p : Placed) → AreAmong (in_parts env p) (wrong_statement env p)
+in_statement env p =
     let x = p.statement in
-    let targets = wrong_targets env p.context x in
-    let fors = wrong_for env p.context x in
-    ⊎_elim
-    (λ i. part_2 (wrong_nodes env x) targets (wrong_invocation env x) (wrong_case env x) fors
-    (wrong_exit p.context.in_loop x) b i)
-    (λ i. part_5 (wrong_nodes env x) targets (wrong_invocation env x) (wrong_case env x) fors
-    (wrong_exit p.context.in_loop x) b i)
-    (Contains-append_cases targets fors b h)
+    regrouped (wrong_nodes env x) (wrong_targets env p.context x) (wrong_invocation env x) (wrong_case env x)
+    (wrong_for env p.context x) (wrong_exit p.context.in_loop x)
 
-invocation_within : (env : Environment) (p : Placed) (b : Broken) → Contains (invocation_at env p) b
-    → Contains (wrong_statement env p) b
-invocation_within env p b h =
-    let x = p.statement in
-    part_3 (wrong_nodes env x) (wrong_targets env p.context x) (wrong_invocation env x) (wrong_case env x)
-    (wrong_for env p.context x) (wrong_exit p.context.in_loop x) b h
+-- all statements, pass by pass
+module _ (env : Environment) (ps : List Placed) where
+  abbrev passes : List Broken
+  passes =
+      flat_map (nodes_at env) ps ++ (flat_map (wrong_assigning env) ps ++ (flat_map (invocation_at env) ps
+      ++ (flat_map (case_at env) ps ++ flat_map exit_at ps)))
 
-choice_within : (env : Environment) (p : Placed) (b : Broken) → Contains (choice_at env p) b
-    → Contains (wrong_statement env p) b
-choice_within env p b h =
-    let x = p.statement in
-    ⊎_elim (nodes_within env p b)
-    (λ i. part_4 (wrong_nodes env x) (wrong_targets env p.context x) (wrong_invocation env x) (wrong_case env x)
-    (wrong_for env p.context x) (wrong_exit p.context.in_loop x) b i)
-    (choice_told env x b h)
+  passes_in : AreAmong passes (flat_map (wrong_statement env) ps)
+  passes_in =
+      let ns = flat_map (nodes_at env) ps in
+      let ws = flat_map (wrong_assigning env) ps in
+      let is = flat_map (invocation_at env) ps in
+      let cs = flat_map (case_at env) ps in
+      let es = flat_map exit_at ps in
+      let two = both_right (case_at env) exit_at ps in
+      let three = among_then (is ++ (cs ++ es)) (is ++ flat_map (last_two env) ps) (flat_map (last_three env) ps)
+      (together is (cs ++ es) is (flat_map (last_two env) ps) (among_itself is) two)
+      (both_right (invocation_at env) (last_two env) ps) in
+      let four = among_then (ws ++ (is ++ (cs ++ es))) (ws ++ flat_map (last_three env) ps)
+      (flat_map (last_four env) ps)
+      (together ws (is ++ (cs ++ es)) ws (flat_map (last_three env) ps) (among_itself ws) three)
+      (both_right (wrong_assigning env) (last_three env) ps) in
+      among_then passes (flat_map (in_parts env) ps) (flat_map (wrong_statement env) ps)
+      (among_then passes (ns ++ flat_map (last_four env) ps) (flat_map (in_parts env) ps)
+      (together ns (ws ++ (is ++ (cs ++ es))) ns (flat_map (last_four env) ps) (among_itself ns) four)
+      (both_right (nodes_at env) (last_four env) ps))
+      (flat_within (in_parts env) (wrong_statement env) (in_statement env) ps)
 
-exit_within : (env : Environment) (p : Placed) (b : Broken) → Contains (exit_at p) b
-    → Contains (wrong_statement env p) b
-exit_within env p b h =
-    let x = p.statement in
-    Contains-append_right
-    (wrong_nodes env x ++ wrong_targets env p.context x ++ wrong_invocation env x ++ wrong_case env x
-    ++ wrong_for env p.context x)
-    (wrong_exit p.context.in_loop x) b h
+  in_passes : AreAmong (flat_map (wrong_statement env) ps) passes
+  in_passes =
+      let ns = flat_map (nodes_at env) ps in
+      let ws = flat_map (wrong_assigning env) ps in
+      let is = flat_map (invocation_at env) ps in
+      let cs = flat_map (case_at env) ps in
+      let es = flat_map exit_at ps in
+      let two = both_left (case_at env) exit_at ps in
+      let three = among_then (flat_map (last_three env) ps) (is ++ flat_map (last_two env) ps) (is ++ (cs ++ es))
+      (both_left (invocation_at env) (last_two env) ps)
+      (together is (flat_map (last_two env) ps) is (cs ++ es) (among_itself is) two) in
+      let four = among_then (flat_map (last_four env) ps) (ws ++ flat_map (last_three env) ps)
+      (ws ++ (is ++ (cs ++ es)))
+      (both_left (wrong_assigning env) (last_three env) ps)
+      (together ws (flat_map (last_three env) ps) ws (is ++ (cs ++ es)) (among_itself ws) three) in
+      among_then (flat_map (wrong_statement env) ps) (flat_map (in_parts env) ps) passes
+      (flat_within (wrong_statement env) (in_parts env) (statement_in env) ps)
+      (among_then (flat_map (in_parts env) ps) (ns ++ flat_map (last_four env) ps) passes
+      (both_left (nodes_at env) (last_four env) ps)
+      (together ns (flat_map (last_four env) ps) ns (ws ++ (is ++ (cs ++ es))) (among_itself ns) four))
 
--- statements in which no pass finds anything
-clean : (env : Environment) (ps : List Placed) → flat_map (nodes_at env) ps ≡ []
-    → flat_map (wrong_assigning env) ps ≡ [] → flat_map (invocation_at env) ps ≡ [] → flat_map (choice_at env) ps ≡ []
-    → flat_map exit_at ps ≡ [] → flat_map (wrong_statement env) ps ≡ []
-clean env [] h i j k l = refl
-clean env (p ∷ ps) h i j k l =
-    let x = p.statement in
-    let targets = wrong_targets env p.context x in
-    let fors = wrong_for env p.context x in
-    let assigning = append_first (wrong_assigning env p) (flat_map (wrong_assigning env) ps) i in
-    ap (λ ys. ys ++ flat_map (wrong_statement env) ps)
-    (none_of_six (wrong_nodes env x) targets (wrong_invocation env x) (wrong_case env x) fors
-    (wrong_exit p.context.in_loop x) (append_first (nodes_at env p) (flat_map (nodes_at env) ps) h)
-    (append_first targets fors assigning) (append_first (invocation_at env p) (flat_map (invocation_at env) ps) j)
-    (choice_clean env x (append_first (choice_at env p) (flat_map (choice_at env) ps) k)) (append_second targets fors assigning)
-    (append_first (exit_at p) (flat_map exit_at ps) l))
-    ∙ clean env ps (append_second (nodes_at env p) (flat_map (nodes_at env) ps) h)
-    (append_second (wrong_assigning env p) (flat_map (wrong_assigning env) ps) i)
-    (append_second (invocation_at env p) (flat_map (invocation_at env) ps) j)
-    (append_second (choice_at env p) (flat_map (choice_at env) ps) k) (append_second (exit_at p) (flat_map exit_at ps) l)
+-- five lists of faults that are known under other names
+five : (a b c d e v w x y z : List Broken) → a ≡ v → b ≡ w → c ≡ x → d ≡ y → e ≡ z
+    → a ++ (b ++ (c ++ (d ++ e))) ≡ v ++ (w ++ (x ++ (y ++ z)))
+five a b c d e v w x y z h i j k l = rw (h, i, j, k, l) refl
 
--- one of five lists, the latter ones put together
-one_of_five : (v w x y z : List Broken) (b : Broken) (P : Type 0) → (Contains v b → P) → (Contains w b → P)
-    → (Contains x b → P) → (Contains y b → P) → (Contains z b → P) → Contains (v ++ (w ++ (x ++ (y ++ z)))) b → P
-one_of_five v w x y z b P f g h i j there =
-    ⊎_elim f
-    (λ m. ⊎_elim g
-    (λ n. ⊎_elim h
-    (λ o. ⊎_elim i j (Contains-append_cases y z b o)) (Contains-append_cases x (y ++ z) b n))
-    (Contains-append_cases w (x ++ (y ++ z)) b m)) (Contains-append_cases v (w ++ (x ++ (y ++ z))) b there)
+passes_are : (env : Environment) (body : Stmts) → wrong_passes env body ≡ passes env (placed body)
+passes_are env body =
+    let ps = placed body in
+    five (wrong_roots_of env (listed_in false body)) (wrong_assigned_in env body)
+    (wrong_invocations_of env (listed_in false body)) (wrong_cases_of env (listed_in false body))
+    (wrong_exits_of (listed_in false body)) (flat_map (nodes_at env) ps) (flat_map (wrong_assigning env) ps)
+    (flat_map (invocation_at env) ps) (flat_map (case_at env) ps) (flat_map exit_at ps) (roots_pass env body)
+    (assigned_pass env body) (invocations_pass env body) (cases_pass env body) (exits_pass body)
 
-found : (env : Environment) (ps : List Placed) (o : Option Broken)
-    → Finds (flat_map (nodes_at env) ps ++ (flat_map (wrong_assigning env) ps ++ (flat_map (invocation_at env) ps
-    ++ (flat_map (choice_at env) ps ++ flat_map exit_at ps)))) o
-    → Finds (flat_map (wrong_statement env) ps) o
-found env ps (Some b) h =
-    one_of_five (flat_map (nodes_at env) ps) (flat_map (wrong_assigning env) ps) (flat_map (invocation_at env) ps)
-    (flat_map (choice_at env) ps) (flat_map exit_at ps) b (Contains (flat_map (wrong_statement env) ps) b)
-    (within_pass (nodes_at env) (wrong_statement env) (nodes_within env) ps b)
-    (within_pass (wrong_assigning env) (wrong_statement env) (assigning_within env) ps b)
-    (within_pass (invocation_at env) (wrong_statement env) (invocation_within env) ps b)
-    (within_pass (choice_at env) (wrong_statement env) (choice_within env) ps b)
-    (within_pass exit_at (wrong_statement env) (exit_within env) ps b) h
-found env ps None h =
-    let v = flat_map (nodes_at env) ps in
-    let w = flat_map (wrong_assigning env) ps in
-    let x = flat_map (invocation_at env) ps in
-    let y = flat_map (choice_at env) ps in
-    let z = flat_map exit_at ps in
-    let a = append_second v (w ++ (x ++ (y ++ z))) h in
-    let b = append_second w (x ++ (y ++ z)) a in
-    let c = append_second x (y ++ z) b in
-    clean env ps (append_first v (w ++ (x ++ (y ++ z))) h) (append_first w (x ++ (y ++ z)) a) (append_first x (y ++ z) b)
-    (append_first y z c) (append_second y z c)
-
-pub body_told : (env : Environment) (o : Option Broken) → Finds (wrong_passes env (stmts_of env.unit.body)) o
-    → Finds (wrong_body env) o
-body_told env o h =
+pub passes_among : (env : Environment) → AreAmong (wrong_passes env (stmts_of env.unit.body)) (wrong_body env)
+passes_among env =
     let body = stmts_of env.unit.body in
-    found env (statements_in env.unit) o (subst (λ xs. Finds xs o)
-    (ap (λ xs. xs ++ (wrong_assigned_in env body ++ (wrong_invocations_of env (listed_in false body)
-    ++ (wrong_choices_of env (listed_in false body) ++ wrong_exits_of (listed_in false body))))) (roots_pass env body)
-    ∙ ap (λ xs. flat_map (nodes_at env) (placed body) ++ (xs ++ (wrong_invocations_of env (listed_in false body)
-    ++ (wrong_choices_of env (listed_in false body) ++ wrong_exits_of (listed_in false body)))))
-    (assigned_pass env body)
-    ∙ ap (λ xs. flat_map (nodes_at env) (placed body) ++ (flat_map (wrong_assigning env) (placed body) ++ (xs
-    ++ (wrong_choices_of env (listed_in false body) ++ wrong_exits_of (listed_in false body)))))
-    (invocations_pass env body)
-    ∙ ap (λ xs. flat_map (nodes_at env) (placed body) ++ (flat_map (wrong_assigning env) (placed body)
-    ++ (flat_map (invocation_at env) (placed body) ++ (xs ++ wrong_exits_of (listed_in false body)))))
-    (choices_pass env body)
-    ∙ ap (λ xs. flat_map (nodes_at env) (placed body) ++ (flat_map (wrong_assigning env) (placed body)
-    ++ (flat_map (invocation_at env) (placed body) ++ (flat_map (choice_at env) (placed body) ++ xs))))
-    (exits_pass body)) h)
+    let ps = statements_in env.unit in
+    among_then (wrong_passes env body) (passes env ps) (wrong_body env)
+    (is_among (wrong_passes env body) (passes env ps) (passes_are env body)) (passes_in env ps)
+
+pub among_passes : (env : Environment) → AreAmong (wrong_body env) (wrong_passes env (stmts_of env.unit.body))
+among_passes env =
+    let body = stmts_of env.unit.body in
+    let ps = statements_in env.unit in
+    among_then (wrong_body env) (passes env ps) (wrong_passes env body) (in_passes env ps)
+    (is_among (passes env ps) (wrong_passes env body) (sym (passes_are env body)))
+
+-- The passes as the code makes them: what is left after each.
+abbrev pub PassesLeft : Environment → Stmts → List Broken → BrokenRules → BrokenRules → Type 0
+PassesLeft env body rest start it = Searches (wrong_passes env body) rest start it
+
+pub roots_collected : (env : Environment) (rs : List Node) (ls all : List Listed) (old new : BrokenRules) → ls ≡ all
+    → rs ≡ flat_map (λ l. all_roots env l.statement) ls → Collects (flat_map (wrong_root env) rs) old new
+    → Collects (wrong_roots_of env all) old new
+unfolding wrong_roots_of
+roots_collected env rs ls all old new is from h =
+    collects_is (flat_map (wrong_root env) rs) (wrong_roots_of env all) old new
+    (ap (flat_map (wrong_root env)) (from ∙ ap (flat_map (λ (l : Listed). all_roots env l.statement)) is)) h
+
+pub assigned_collected : (env : Environment) (xs : List Assigned) (body : Stmts) (old new : BrokenRules)
+    → xs ≡ assigned_in [] body → Collects (flat_map (wrong_assigned env) xs) old new
+    → Collects (wrong_assigned_in env body) old new
+unfolding wrong_assigned_in
+assigned_collected env xs body old new is h =
+    collects_is (flat_map (wrong_assigned env) xs) (wrong_assigned_in env body) old new
+    (ap (flat_map (wrong_assigned env)) is) h
+
+pub invocations_is : (env : Environment) (ls all : List Listed) → ls ≡ all
+    → flat_map (λ l. wrong_invocation env l.statement) ls ≡ wrong_invocations_of env all
+unfolding wrong_invocations_of
+invocations_is env ls all is = ap (flat_map (λ (l : Listed). wrong_invocation env l.statement)) is
+
+pub cases_is : (env : Environment) (ls all : List Listed) → ls ≡ all
+    → flat_map (λ l. wrong_case env l.statement) ls ≡ wrong_cases_of env all
+unfolding wrong_cases_of
+cases_is env ls all is = ap (flat_map (λ (l : Listed). wrong_case env l.statement)) is
+
+pub exits_collected : (ls all : List Listed) (old new : BrokenRules) → ls ≡ all
+    → Collects (flat_map (λ l. wrong_exit l.in_loop l.statement) ls) old new → Collects (wrong_exits_of all) old new
+unfolding wrong_exits_of
+exits_collected ls all old new is h =
+    collects_is (flat_map (λ l. wrong_exit l.in_loop l.statement) ls) (wrong_exits_of all) old new
+    (ap (flat_map (λ (l : Listed). wrong_exit l.in_loop l.statement)) is) h
+
+module _ (env : Environment) (body : Stmts) (start it next : BrokenRules) where
+  abbrev all : List Listed
+  all = listed_in false body
+
+  pub after_roots : start ≡ it → Collects (wrong_roots_of env all) it next
+      → PassesLeft env body (wrong_assigned_in env body ++ wrong_statements env all) start next
+  after_roots is one =
+      search_goes_on (wrong_passes env body) (wrong_roots_of env all)
+      (wrong_assigned_in env body ++ wrong_statements env all) start it next
+      (search_starts (wrong_passes env body) start it is) one.adds one.covers
+
+  pub after_assigned : PassesLeft env body (wrong_assigned_in env body ++ wrong_statements env all) start it
+      → Collects (wrong_assigned_in env body) it next → PassesLeft env body (wrong_statements env all) start next
+  after_assigned s one =
+      search_goes_on (wrong_passes env body) (wrong_assigned_in env body) (wrong_statements env all) start it next s
+      one.adds one.covers
+
+  pub invocations_fail : PassesLeft env body (wrong_statements env all) start it
+      → Adds (wrong_invocations_of env all) it next → Adds (wrong_passes env body) start next
+  invocations_fail s one =
+      search_fails (wrong_passes env body) (wrong_invocations_of env all) (wrong_cases_of env all ++ wrong_exits_of all)
+      start it next s one
+
+  pub after_invocations : PassesLeft env body (wrong_statements env all) start it
+      → Adds (wrong_invocations_of env all) it next → Covers (wrong_invocations_of env all) next
+      → PassesLeft env body (wrong_cases_of env all ++ wrong_exits_of all) start next
+  after_invocations s one found =
+      search_goes_on (wrong_passes env body) (wrong_invocations_of env all)
+      (wrong_cases_of env all ++ wrong_exits_of all) start it next s one found
+
+  pub cases_fail : PassesLeft env body (wrong_cases_of env all ++ wrong_exits_of all) start it
+      → Adds (wrong_cases_of env all) it next → Adds (wrong_passes env body) start next
+  cases_fail s one =
+      search_fails (wrong_passes env body) (wrong_cases_of env all) (wrong_exits_of all) start it next s one
+
+  pub after_cases : PassesLeft env body (wrong_cases_of env all ++ wrong_exits_of all) start it
+      → Adds (wrong_cases_of env all) it next → Covers (wrong_cases_of env all) next
+      → PassesLeft env body (wrong_exits_of all) start next
+  after_cases s one found =
+      search_goes_on (wrong_passes env body) (wrong_cases_of env all) (wrong_exits_of all) start it next s one found
+
+  pub after_exits : PassesLeft env body (wrong_exits_of all) start it → Collects (wrong_exits_of all) it next
+      → Collects (wrong_passes env body) start next
+  after_exits s one =
+      search_ends (wrong_passes env body) start next
+      (search_goes_on (wrong_passes env body) (wrong_exits_of all) [] start it next
+      (search_is (wrong_passes env body) (wrong_exits_of all) (wrong_exits_of all ++ []) start it
+      (sym (append-nil (wrong_exits_of all))) s) one.adds one.covers)

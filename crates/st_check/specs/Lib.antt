@@ -1,9 +1,9 @@
 pub mod Assignments
 pub mod Bodies
-pub mod Choices
 pub mod Listings
 pub mod Roots
 pub mod Targets
 pub mod Lookups
 pub mod Surplus
+pub mod Complete
 pub mod Checked

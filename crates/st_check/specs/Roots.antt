@@ -6,6 +6,7 @@ use Rattle.st_types.specs.Expressions.{Variable, variable, Selector, member, sub
 use Rattle.st_types.specs.Expressions.{selector_then}
 use Rattle.st_types.specs.Statements.{Stmt}
 use Rattle.st_rules.specs.declared.rule.Broken.{Broken}
+use Rattle.st_rules.specs.declared.demand.Purpose.TheVariants as purposes
 use Rattle.st_rules.specs.declared.demand.Sorts.TheVariants.{Whole}
 use Rattle.st_rules.specs.declared.demand.Demand.TheVariants.{Asked}
 use Rattle.st_rules.specs.Environments.{Environment}
@@ -20,7 +21,7 @@ root_view r = node r.demand (expr_view r.tree.now)
 -- a subscript is a whole number
 abbrev pub roots_of_selector : Selector → List Node
 roots_of_selector (member x) = []
-roots_of_selector (subscript e) = node (Asked None Whole) e ∷ []
+roots_of_selector (subscript e) = node (Asked None Whole purposes.Subscript) e ∷ []
 
 abbrev pub roots_of_selectors : Selectors → List Node
 roots_of_selectors no_selectors = []

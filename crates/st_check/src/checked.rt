@@ -32,8 +32,8 @@ impl Checked {
     }
 }
 
-/// Judges a text by all rules, and resolves it if it breaks none. Else it reports a rule that is broken, with its place, or
-/// that memory ran out (C12).
+/// Judges a text by all rules, and resolves it if it breaks none. Else it reports a rule that is broken, with its
+/// place, or that memory ran out (C12).
 pub fn check(alloc: Global, source: Source) -> Result<Checked, CheckError>
     ensures ok { IfOk result (λ c. IsCheckedFrom (source_view source) (source_view c.source)) }
     ensures well_typed { IfOk result (λ c. IsWellTyped (source_view source)) }

@@ -4,7 +4,8 @@ ghost use Rattle.std.specs.Prelude.{◌≡◌, ◌&&◌, map, Some, is_some};
 ghost use Rattle.std.specs.List.{flat_map};
 ghost use Rattle.st_meaning.specs.NameTypes.{Declared};
 ghost use Rattle.st_rules.specs.Environments.{is_block_type};
-ghost use Rattle.st_rules.specs.Faults.{Finds};
+ghost use Rattle.st_rules.specs.Collecting.{Collects};
+ghost use Rattle.st_decl.specs.Entries.{of_each, entry_view, declaring_of, result_of};
 ghost use Rattle.st_rules.specs.Typings.{is_composite, typing_of_type};
 ghost use Rattle.st_rules.specs.TypeRules.{place_of_type, wrong_named, wrong_simple, wrong_name, may_be_instance};
 ghost use Rattle.st_rules.specs.TypeRules.{is_program_or_block, is_without_parts, wrong_declaring, wrong_element};
@@ -13,10 +14,9 @@ ghost use Rattle.symbols.specs.Tables.{ServesTables};
 ghost use Rattle.symbols.specs.Texts.{ServesText};
 ghost use Rattle.st_decl.specs.DeclaringViews.{role_view, declaring_view};
 
-use st_decl::{Declaring, Role};
-use st_rules::{Broken, Rule, Typing};
+use st_decl::{Declaring, Entry, Role};
+use st_rules::{Broken, BrokenRules, Reason, Typing};
 use st_types::{ArrayType, Identifier, Section, SimpleType, UnitSort, VariableType};
-use st_typing::{either, in_case};
 use symbols::{PlaceType, TextNames, TextTables, place_type, standard_function};
 
 /// The place of the name of a type.
@@ -39,32 +39,35 @@ fn place_of_type(declared: &VariableType) -> usize
     }
 }
 
-/// A fault in the name of a type: it stands for nothing (C1), or for something else (C3). A block is allowed if `blocks`.
+/// Adds the fault in the name of a type: it stands for nothing (C1), or for something else (C3). A block is allowed if
+/// `blocks`.
 fn wrong_named(
     names: &TextNames,
     tables: &TextTables,
     blocks: bool,
     name: &Identifier,
-) -> Option<Broken>
+    broken: &mut BrokenRules,
+)
     ensures { (text : Declared) → ServesText names.now text → ServesTables tables.now text
-        → Finds (wrong_named text blocks name.now) result }
+        → Collects (wrong_named text blocks name.now) broken.old broken.new }
 {
     if names.type_named(&name.name).is_some() {
-        return None;
+        return;
     }
     if tables.is_block(&name.name) {
-        return in_case(!blocks, Rule::WrongType, name.place);
+        broken.add_unless(blocks, Reason::NoInstanceAllowed, name.place);
+        return;
     }
     let stands = names.unit_named(&name.name).is_some() || standard_function(&name.name).is_some();
-    let rule = if stands {
-        Rule::WrongType
+    let reason = if stands {
+        Reason::NotType
     } else {
-        Rule::UnknownName
+        Reason::Undeclared
     };
-    Some(Broken {
-        rule,
+    broken.add(Broken {
+        reason,
         place: name.place,
-    })
+    });
 }
 
 fn wrong_simple(
@@ -72,29 +75,31 @@ fn wrong_simple(
     tables: &TextTables,
     blocks: bool,
     declared: &SimpleType,
-) -> Option<Broken>
+    broken: &mut BrokenRules,
+)
     ensures { (text : Declared) → ServesText names.now text → ServesTables tables.now text
-        → Finds (wrong_simple text blocks declared.now) result }
+        → Collects (wrong_simple text blocks declared.now) broken.old broken.new }
 {
     match declared {
-        SimpleType::Elementary(_, _) => None,
-        SimpleType::Named(name) => wrong_named(names, tables, blocks, name),
+        SimpleType::Elementary(_, _) => {}
+        SimpleType::Named(name) => wrong_named(names, tables, blocks, name, broken),
     }
 }
 
-/// A fault in the name of a declared type. The element of an array is judged with the array.
+/// Adds the fault in the name of a declared type. The element of an array is judged with the array.
 fn wrong_name(
     names: &TextNames,
     tables: &TextTables,
     blocks: bool,
     declared: &VariableType,
-) -> Option<Broken>
+    broken: &mut BrokenRules,
+)
     ensures { (text : Declared) → ServesText names.now text → ServesTables tables.now text
-        → Finds (wrong_name text blocks declared.now) result }
+        → Collects (wrong_name text blocks declared.now) broken.old broken.new }
 {
     match declared {
-        VariableType::Simple(simple) => wrong_simple(names, tables, blocks, simple),
-        VariableType::Array(_) => None,
+        VariableType::Simple(simple) => wrong_simple(names, tables, blocks, simple, broken),
+        VariableType::Array(_) => {}
     }
 }
 
@@ -164,60 +169,98 @@ fn is_started(tables: &TextTables, declaring: Declaring) -> bool
     is_block_type(tables, declaring.declared) && declaring.initial.is_some()
 }
 
-/// A fault in a declaration's type: an unknown or wrong name (C1, C3), an input or output with parts, an instance with an
-/// initial value (C3).
-fn wrong_declaring(names: &TextNames, tables: &TextTables, declaring: Declaring) -> Option<Broken>
+/// Adds the faults in a declaration's type: an unknown or wrong name (C1, C3), an input or output with parts, an
+/// instance with an initial value (C3).
+fn wrong_declaring(
+    names: &TextNames,
+    tables: &TextTables,
+    declaring: Declaring,
+    broken: &mut BrokenRules,
+)
     ensures { (text : Declared) → ServesText names.now text → ServesTables tables.now text
-        → Finds (wrong_declaring text (declaring_view declaring.entry)) result }
+        → Collects (wrong_declaring text (declaring_view declaring.entry)) broken.old broken.new }
 {
     let declared = declaring.declared;
     let place = place_of_type(declared);
-    either(
-        either(
-            wrong_name(names, tables, may_be_instance(declaring.role), declared),
-            in_case(has_parts(tables, declaring), Rule::WrongType, place),
-        ),
-        in_case(is_started(tables, declaring), Rule::WrongType, place),
-    )
+    wrong_name(
+        names,
+        tables,
+        may_be_instance(declaring.role),
+        declared,
+        broken,
+    );
+    broken.add_in_case(has_parts(tables, declaring), Reason::HasParts, place);
+    broken.add_in_case(
+        is_started(tables, declaring),
+        Reason::InstanceWithValue,
+        place,
+    );
 }
 
-/// A fault in the types of declarations.
-pub fn first_wrong_declaring(
+/// Adds the faults in the types of declarations.
+pub fn wrong_declarings(
     names: &TextNames,
     tables: &TextTables,
-    declarings: &[Declaring],
-) -> Option<Broken>
+    entries: &[Entry],
+    broken: &mut BrokenRules,
+)
     ensures { (text : Declared) → ServesText names.now text → ServesTables tables.now text
-        → Finds (flat_map (wrong_declaring text) (map declaring_view declarings.now)) result }
+        → Collects (flat_map (λ e. of_each (wrong_declaring text) (declaring_of e)) (map entry_view entries.now))
+        broken.old broken.new }
 {
-    for declaring in declarings {
-        if let Some(broken) = wrong_declaring(names, tables, *declaring) {
-            return Some(broken);
+    for entry in entries {
+        if let Some(declaring) = entry.declaring() {
+            wrong_declaring(names, tables, declaring, broken);
         }
     }
-    None
 }
 
-/// A fault in the type of an array's elements, which must not be a block.
-pub fn wrong_element(names: &TextNames, tables: &TextTables, array: &ArrayType) -> Option<Broken>
+/// Adds the fault in the type of an array's elements, which must not be a block.
+pub fn wrong_element(
+    names: &TextNames,
+    tables: &TextTables,
+    array: &ArrayType,
+    broken: &mut BrokenRules,
+)
     ensures { (text : Declared) → ServesText names.now text → ServesTables tables.now text
-        → Finds (wrong_element text array.now) result }
+        → Collects (wrong_element text array.now) broken.old broken.new }
 {
-    wrong_simple(names, tables, false, &array.element)
+    wrong_simple(names, tables, false, &array.element, broken);
 }
 
-/// A fault in the type of a function's result: its name, or that it has parts.
-pub fn wrong_result(names: &TextNames, tables: &TextTables, declared: &SimpleType) -> Option<Broken>
+/// Adds the faults in the type of a function's result: its name, or that it has parts.
+fn wrong_result(
+    names: &TextNames,
+    tables: &TextTables,
+    declared: &SimpleType,
+    broken: &mut BrokenRules,
+)
     ensures { (text : Declared) → ServesText names.now text → ServesTables tables.now text
-        → Finds (wrong_result text declared.now) result }
+        → Collects (wrong_result text declared.now) broken.old broken.new }
 {
     let typing = tables.typing_of_type(PlaceType::Simple(declared));
-    either(
-        wrong_simple(names, tables, false, declared),
-        in_case(
-            is_composite(typing),
-            Rule::WrongType,
-            place_of_simple(declared),
-        ),
-    )
+    wrong_simple(names, tables, false, declared, broken);
+    broken.add_in_case(
+        is_composite(typing),
+        Reason::HasParts,
+        place_of_simple(declared),
+    );
+}
+
+/// Adds the faults in the results of functions (C1, C3).
+pub fn wrong_results(
+    names: &TextNames,
+    tables: &TextTables,
+    entries: &[Entry],
+    broken: &mut BrokenRules,
+)
+    ensures { (text : Declared) → ServesText names.now text → ServesTables tables.now text
+        → Collects (flat_map (λ e. of_each (wrong_result text) (result_of e)) (map entry_view entries.now)) broken.old
+        broken.new }
+{
+    for entry in entries {
+        if let Some(declared) = entry.result() {
+            wrong_result(names, tables, declared, broken);
+        }
+    }
 }

@@ -3,33 +3,30 @@
 ghost use Rattle.std.specs.Prelude.{◌≡◌, map};
 ghost use Rattle.std.specs.List.{flat_map};
 ghost use Rattle.st_rules.specs.Environments.{Environment};
-ghost use Rattle.st_rules.specs.Faults.{Finds};
+ghost use Rattle.st_rules.specs.Collecting.{Collects};
 ghost use Rattle.symbols.specs.Serving.{Serves};
 ghost use Rattle.st_check.specs.Roots.{root_view, wrong_root};
 
 use crate::roots::Root;
-use st_rules::Broken;
+use st_rules::BrokenRules;
 use st_typing::wrong_expression;
 use symbols::UnitNames;
 
-/// A fault in an expression, by the demand of its place.
+/// Adds the faults in an expression, by the demand of its place.
 #[tactic(auto, unfolding(crate::specs::Roots::wrong_root))]
-pub fn wrong_root(names: &UnitNames, root: Root) -> Option<Broken>
+fn wrong_root(names: &UnitNames, root: Root, broken: &mut BrokenRules)
     ensures { (env : Environment) → Serves names.now env
-        → Finds (wrong_root env (root_view root.entry)) result }
+        → Collects (wrong_root env (root_view root.entry)) broken.old broken.new }
 {
-    wrong_expression(names, root.demand, root.tree)
+    wrong_expression(names, root.demand, root.tree, broken);
 }
 
-/// A fault in expressions, by the demands of their places.
-pub fn first_wrong_root(names: &UnitNames, roots: &[Root]) -> Option<Broken>
+/// Adds the faults in expressions, by the demands of their places.
+pub fn wrong_roots(names: &UnitNames, roots: &[Root], broken: &mut BrokenRules)
     ensures { (env : Environment) → Serves names.now env
-        → Finds (flat_map (wrong_root env) (map root_view roots.now)) result }
+        → Collects (flat_map (wrong_root env) (map root_view roots.now)) broken.old broken.new }
 {
     for root in roots {
-        if let Some(broken) = wrong_root(names, *root) {
-            return Some(broken);
-        }
+        wrong_root(names, *root, broken);
     }
-    None
 }

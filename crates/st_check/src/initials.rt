@@ -1,19 +1,16 @@
 //! Initial values, by the types of the variables and fields that get them (C1, C3, C4).
 
-ghost use Rattle.std.specs.Prelude.{◌≡◌, ◌||◌, [], map, option_map, is_some, if◌then◌else◌};
+ghost use Rattle.std.specs.Prelude.{◌≡◌, ◌||◌, map, option_map, is_some, if◌then◌else◌};
 ghost use Rattle.std.specs.List.{flat_map};
-ghost use Rattle.st_types.specs.Initials.{elements_of, list, members_of, structure};
-ghost use Rattle.st_types.specs.InitialViews.{initial_view, element_view, member_view};
+ghost use Rattle.st_types.specs.Initials.{elements_of, members_of};
+ghost use Rattle.st_types.specs.InitialViews.{element_view, member_view};
 ghost use Rattle.st_meaning.specs.NameTypes.{Declared};
-ghost use Rattle.st_meaning.specs.ResolvedUnits.{field_of};
-ghost use Rattle.st_rules.specs.declared.rule.Rule.TheVariants.{UnknownName};
+ghost use Rattle.st_rules.specs.Collecting.{Collects};
 ghost use Rattle.st_rules.specs.ExpressionRules.{wrong_literal};
-ghost use Rattle.st_rules.specs.Faults.{breaking, Finds, unless};
 ghost use Rattle.st_rules.specs.InitialRules.{array_in, definition_at, is_structure, is_unknown, unread_value};
-ghost use Rattle.st_rules.specs.InitialRules.{wrong_constant, wrong_count, wrong_counts, wrong_fields, wrong_start};
-ghost use Rattle.st_rules.specs.InitialRules.{wrong_start_of};
-ghost use Rattle.st_rules.specs.Roots.{demand_of_typing};
-ghost use Rattle.st_rules.specs.Typings.{is_nothing, kind_of, allows, settled, typing_of_literal, typing_of_reading};
+ghost use Rattle.st_rules.specs.InitialRules.{wrong_constant, wrong_count, wrong_counts, wrong_fields, wrong_list};
+ghost use Rattle.st_rules.specs.InitialRules.{wrong_structure, wrong_start};
+ghost use Rattle.st_rules.specs.Typings.{is_nothing, kind_of, typing_of_literal, typing_of_reading};
 ghost use Rattle.symbols.specs.Enumerated.{reading_view};
 ghost use Rattle.symbols.specs.Fields.{ServesFields};
 ghost use Rattle.symbols.specs.PlaceTypes.{place_type_view};
@@ -22,13 +19,11 @@ ghost use Rattle.symbols.specs.Texts.{ServesText};
 ghost use Rattle.st_decl.specs.StartViews.{start_view};
 
 use st_decl::{Start, array_at, field_of};
-use st_rules::{Broken, Rule, Typing};
-use st_types::{
-    Identifier, Initial, InitialElement, InitialMember, Kind, Literal, SimpleType, TypeDefinition,
-};
+use st_rules::{BrokenRules, Purpose, Reason, Typing};
+use st_types::{Initial, InitialElement, InitialMember, Kind, Literal, SimpleType, TypeDefinition};
 use st_typing::{
-    allows, demand_of_typing, either, is_nothing, kind_of, place_of_literal, settled,
-    typing_of_place, unless, wrong_number, wrong_reading,
+    allows, demand_of_typing, is_nothing, kind_of, place_of_literal, settled, type_word,
+    typing_of_place, wrong_number, wrong_reading,
 };
 use symbols::{FieldNames, PlaceType, Reading, TextNames, TextTables};
 
@@ -56,64 +51,70 @@ fn typing_of_literal(tables: &TextTables, literal: &Literal) -> Typing
     }
 }
 
-/// A name that stands for no value of an enumerated type, if the type that it is for is not known.
-fn unread_value(tables: &TextTables, literal: &Literal) -> Option<Broken>
-    ensures { (text : Declared) → ServesTables tables.now text → Finds (unread_value text literal.now) result }
+/// Adds a name that stands for no value of an enumerated type, if the type that it is for is not known.
+fn unread_value(tables: &TextTables, literal: &Literal, broken: &mut BrokenRules)
+    ensures { (text : Declared) → ServesTables tables.now text
+        → Collects (unread_value text literal.now) broken.old broken.new }
 {
     match literal {
-        Literal::Enumerated(value) => wrong_reading(value.place, tables.reading_written(value)),
-        _ => None,
+        Literal::Enumerated(value) => {
+            wrong_reading(value.place, tables.reading_written(value), broken);
+        }
+        _ => {}
     }
 }
 
-/// A number outside its type, or a name that stands for no value of an enumerated type.
-fn wrong_literal(tables: &TextTables, offered: Option<Kind>, literal: &Literal) -> Option<Broken>
+/// Adds a number outside its type, or a name that stands for no value of an enumerated type.
+fn wrong_literal(
+    tables: &TextTables,
+    offered: Option<Kind>,
+    literal: &Literal,
+    broken: &mut BrokenRules,
+)
     ensures { (text : Declared) → ServesTables tables.now text
-        → Finds (wrong_literal text offered literal.now) result }
+        → Collects (wrong_literal text offered literal.now) broken.old broken.new }
 {
     match literal {
-        Literal::Number(number) => wrong_number(offered, number),
-        Literal::Truth(_, _) => None,
-        Literal::Duration(_, _) => None,
-        Literal::Enumerated(value) => wrong_reading(value.place, tables.reading_written(value)),
+        Literal::Number(number) => wrong_number(offered, number, broken),
+        Literal::Truth(_, _) => {}
+        Literal::Duration(_, _) => {}
+        Literal::Enumerated(value) => {
+            wrong_reading(value.place, tables.reading_written(value), broken);
+        }
     }
 }
 
-/// A fault in a literal itself, for this typing.
-fn wrong_in_constant(tables: &TextTables, typing: Typing, literal: &Literal) -> Option<Broken>
+/// Adds the fault in a literal itself, for this typing.
+fn wrong_in_constant(
+    tables: &TextTables,
+    typing: Typing,
+    literal: &Literal,
+    broken: &mut BrokenRules,
+)
     ensures { (text : Declared) → ServesTables tables.now text
-        → Finds (if is_nothing typing then unread_value text literal.now
-        else wrong_literal text (kind_of typing) literal.now) result }
+        → Collects (if is_nothing typing then unread_value text literal.now
+        else wrong_literal text (kind_of typing) literal.now) broken.old broken.new }
 {
     if is_nothing(typing) {
-        unread_value(tables, literal)
+        unread_value(tables, literal, broken);
     } else {
-        wrong_literal(tables, kind_of(typing), literal)
+        wrong_literal(tables, kind_of(typing), literal, broken);
     }
 }
 
-/// Whether a variable of the typing takes the constant.
-fn takes_constant(tables: &TextTables, typing: Typing, literal: &Literal) -> bool
-    ensures { (text : Declared) → ServesTables tables.now text → result
-        ≡ allows (demand_of_typing typing) (settled (kind_of typing) (typing_of_literal text literal.now)) }
-{
-    let given = settled(kind_of(typing), typing_of_literal(tables, literal));
-    allows(demand_of_typing(typing), given)
-}
-
-/// A fault in a constant: it isn't of its variable's type, or is wrong in itself.
-fn wrong_constant(tables: &TextTables, typing: Typing, literal: &Literal) -> Option<Broken>
+/// Adds the faults in a constant: it isn't of its variable's type, or is wrong in itself.
+fn wrong_constant(tables: &TextTables, typing: Typing, literal: &Literal, broken: &mut BrokenRules)
     ensures { (text : Declared) → ServesTables tables.now text
-        → Finds (wrong_constant text typing literal.now) result }
+        → Collects (wrong_constant text typing literal.now) broken.old broken.new }
 {
-    either(
-        unless(
-            takes_constant(tables, typing, literal),
-            Rule::WrongType,
-            place_of_literal(literal),
-        ),
-        wrong_in_constant(tables, typing, literal),
-    )
+    let demand = demand_of_typing(Purpose::Initial, typing);
+    let given = typing_of_literal(tables, literal);
+    broken.add_unless(
+        allows(demand, settled(kind_of(typing), given)),
+        Reason::Mismatch(demand, given),
+        place_of_literal(literal),
+    );
+    wrong_in_constant(tables, typing, literal, broken);
 }
 
 /// Whether the type is not known, so that nothing is asked of a value.
@@ -146,129 +147,77 @@ fn is_structure(names: &TextNames, declared: Option<PlaceType>) -> bool
     }
 }
 
-/// A count outside its type.
-fn wrong_count(element: &InitialElement) -> Option<Broken>
-    ensures { Finds (wrong_count (element_view element.now)) result }
+/// Adds a count outside its type.
+fn wrong_count(element: &InitialElement, broken: &mut BrokenRules)
+    ensures { Collects (wrong_count (element_view element.now)) broken.old broken.new }
 {
     match element {
-        InitialElement::Single(_) => None,
-        InitialElement::Repeated(count, _) => wrong_number(None, count),
-        InitialElement::Defaults(count) => wrong_number(None, count),
+        InitialElement::Single(_) => {}
+        InitialElement::Repeated(count, _) => wrong_number(None, count, broken),
+        InitialElement::Defaults(count) => wrong_number(None, count, broken),
     }
 }
 
-fn wrong_counts(elements: &[InitialElement]) -> Option<Broken>
-    ensures { Finds (wrong_counts (elements_of (map element_view elements.now))) result }
+fn wrong_counts(elements: &[InitialElement], broken: &mut BrokenRules)
+    ensures { Collects (wrong_counts (elements_of (map element_view elements.now))) broken.old broken.new }
 {
     for element in elements {
-        if let Some(broken) = wrong_count(element) {
-            return Some(broken);
-        }
-    }
-    None
-}
-
-/// A field that the structure doesn't have.
-fn wrong_field<'a>(
-    fields: &FieldNames<'a>,
-    declared: Option<PlaceType<'a>>,
-    name: &Identifier,
-) -> Option<Broken>
-    ensures { (text : Declared) → ServesFields fields.now text → Finds (breaking UnknownName
-        (unless (is_some (field_of text (option_map place_type_view declared.entry) name.now.name)) name.now.place))
-        result }
-{
-    match field_of(fields, declared, &name.name) {
-        Some(_) => None,
-        None => Some(Broken {
-            rule: Rule::UnknownName,
-            place: name.place,
-        }),
+        wrong_count(element, broken);
     }
 }
 
-/// A field that the structure doesn't have, among these.
+/// Adds the fields that a structure of the type doesn't have.
 fn wrong_fields<'a>(
     fields: &FieldNames<'a>,
-    declared: Option<PlaceType<'a>>,
+    declared: PlaceType<'a>,
     members: &[InitialMember],
-) -> Option<Broken>
-    ensures { (text : Declared) → ServesFields fields.now text → Finds
-        (wrong_fields text (option_map place_type_view declared.entry) (members_of (map member_view members.now)))
-        result }
+    broken: &mut BrokenRules,
+)
+    ensures { (text : Declared) → ServesFields fields.now text
+        → Collects (wrong_fields text (place_type_view declared.entry) (members_of (map member_view members.now)))
+        broken.old broken.new }
 {
     for member in members {
-        if let Some(broken) = wrong_field(fields, declared, &member.name) {
-            return Some(broken);
-        }
-    }
-    None
-}
-
-/// A field that the type doesn't have, if it is a structure.
-fn wrong_fields_where<'a>(
-    fields: &FieldNames<'a>,
-    structured: bool,
-    declared: Option<PlaceType<'a>>,
-    members: &[InitialMember],
-) -> Option<Broken>
-    ensures { (text : Declared) → ServesFields fields.now text → Finds (if structured
-        then wrong_fields text (option_map place_type_view declared.entry) (members_of (map member_view members.now))
-        else []) result }
-{
-    if structured {
-        wrong_fields(fields, declared, members)
-    } else {
-        None
+        let is_field = field_of(fields, Some(declared), &member.name.name).is_some();
+        let reason = Reason::NoMember(type_word(declared));
+        broken.add_unless(is_field, reason, member.name.place);
     }
 }
 
-/// Whether a list is allowed: for an array, or for an unknown type.
+/// Whether a list may be given: for an array, and where the type is not known.
 fn takes_list<'a>(
     names: &TextNames<'a>,
     tables: &TextTables<'a>,
     declared: Option<PlaceType<'a>>,
 ) -> bool
-    ensures { (text : Declared) → ServesText names.now text → ServesTables tables.now text → result
-        ≡ (is_unknown text (option_map place_type_view declared.entry)
+    ensures { (text : Declared) → ServesText names.now text → ServesTables tables.now text
+        → result ≡ (is_unknown text (option_map place_type_view declared.entry)
         || is_some (array_in (definition_at text (option_map place_type_view declared.entry)))) }
 {
     is_unknown(tables, declared) || is_array(names, declared)
 }
 
-/// Whether a structure's value is allowed: for a structure, or for an unknown type.
-fn takes_structure<'a>(
-    names: &TextNames<'a>,
-    tables: &TextTables<'a>,
-    declared: Option<PlaceType<'a>>,
-) -> bool
-    ensures { (text : Declared) → ServesText names.now text → ServesTables tables.now text → result
-        ≡ (is_unknown text (option_map place_type_view declared.entry)
-        || is_structure (definition_at text (option_map place_type_view declared.entry))) }
-{
-    is_unknown(tables, declared) || is_structure(names, declared)
-}
-
-/// A fault in a list, whose `[` is at the place: it isn't for an array, or a count is outside its type.
+/// Adds a list for what isn't an array.
 fn wrong_list<'a>(
     names: &TextNames<'a>,
     tables: &TextTables<'a>,
     declared: Option<PlaceType<'a>>,
     place: usize,
-    elements: &[InitialElement],
-) -> Option<Broken>
+    broken: &mut BrokenRules,
+)
     ensures { (text : Declared) → ServesText names.now text → ServesTables tables.now text
-        → Finds (wrong_start_of text (option_map place_type_view declared.entry)
-        (list place (elements_of (map element_view elements.now)))) result }
+        → Collects (wrong_list text (option_map place_type_view declared.entry) place) broken.old broken.new }
 {
-    either(
-        unless(takes_list(names, tables, declared), Rule::WrongType, place),
-        wrong_counts(elements),
-    )
+    if let Some(given) = declared {
+        broken.add_unless(
+            takes_list(names, tables, declared),
+            Reason::ListForOther(type_word(given)),
+            place,
+        );
+    }
 }
 
-/// A fault in a structure's value, whose `(` is at the place: it isn't for a structure, or has a field that the structure
-/// doesn't have.
+/// Adds fields for what isn't a structure, or the fields that a structure doesn't have.
 fn wrong_structure<'a>(
     names: &TextNames<'a>,
     tables: &TextTables<'a>,
@@ -276,59 +225,64 @@ fn wrong_structure<'a>(
     declared: Option<PlaceType<'a>>,
     place: usize,
     members: &[InitialMember],
-) -> Option<Broken>
+    broken: &mut BrokenRules,
+)
     ensures { (text : Declared) → ServesText names.now text → ServesTables tables.now text
-        → ServesFields fields.now text → Finds (wrong_start_of text (option_map place_type_view declared.entry)
-        (structure place (members_of (map member_view members.now)))) result }
+        → ServesFields fields.now text
+        → Collects (wrong_structure text (option_map place_type_view declared.entry) place
+        (members_of (map member_view members.now))) broken.old broken.new }
 {
-    let structured = is_structure(names, declared);
-    either(
-        unless(
-            takes_structure(names, tables, declared),
-            Rule::WrongType,
-            place,
-        ),
-        wrong_fields_where(fields, structured, declared, members),
-    )
+    let Some(given) = declared else {
+        return;
+    };
+    if is_structure(names, declared) {
+        wrong_fields(fields, given, members, broken);
+    } else {
+        let reason = Reason::FieldsForOther(type_word(given));
+        broken.add_unless(is_unknown(tables, declared), reason, place);
+    }
 }
 
-/// A fault in an initial value for a type. Values inside it are not looked at.
-fn wrong_start_of<'a>(
+/// Adds the faults in an initial value for a type. Values inside it are not looked at.
+fn wrong_start<'a>(
     names: &TextNames<'a>,
     tables: &TextTables<'a>,
     fields: &FieldNames<'a>,
-    declared: Option<PlaceType<'a>>,
-    initial: &Initial,
-) -> Option<Broken>
+    start: Start<'a>,
+    broken: &mut BrokenRules,
+)
     ensures { (text : Declared) → ServesText names.now text → ServesTables tables.now text
-        → ServesFields fields.now text → Finds (wrong_start_of text (option_map place_type_view declared.entry)
-        (initial_view initial.now)) result }
+        → ServesFields fields.now text
+        → Collects (wrong_start text (start_view start.entry)) broken.old broken.new }
 {
-    match initial {
+    let declared = start.declared;
+    match start.initial {
         Initial::Constant(literal) => {
-            wrong_constant(tables, typing_of_place(tables, declared), literal)
+            wrong_constant(tables, typing_of_place(tables, declared), literal, broken);
         }
-        Initial::List(place, elements) => wrong_list(names, tables, declared, *place, elements),
+        Initial::List(place, elements) => {
+            wrong_list(names, tables, declared, *place, broken);
+            wrong_counts(elements, broken);
+        }
         Initial::Structure(place, members) => {
-            wrong_structure(names, tables, fields, declared, *place, members)
+            wrong_structure(names, tables, fields, declared, *place, members, broken);
         }
     }
 }
 
-/// A fault in one of these initial values, none of them looked into.
-pub fn first_wrong_start<'a>(
+/// Adds the faults in these initial values, none of them looked into.
+pub fn wrong_starts_of<'a>(
     names: &TextNames<'a>,
     tables: &TextTables<'a>,
     fields: &FieldNames<'a>,
     starts: &[Start<'a>],
-) -> Option<Broken>
+    broken: &mut BrokenRules,
+)
     ensures { (text : Declared) → ServesText names.now text → ServesTables tables.now text
-        → ServesFields fields.now text → Finds (flat_map (wrong_start text) (map start_view starts.now)) result }
+        → ServesFields fields.now text
+        → Collects (flat_map (wrong_start text) (map start_view starts.now)) broken.old broken.new }
 {
     for start in starts {
-        if let Some(broken) = wrong_start_of(names, tables, fields, start.declared, start.initial) {
-            return Some(broken);
-        }
+        wrong_start(names, tables, fields, *start, broken);
     }
-    None
 }

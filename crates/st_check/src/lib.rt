@@ -19,7 +19,6 @@ mod invocations;
 mod listings;
 mod lookups;
 mod priorities;
-mod results;
 mod roots;
 mod selections;
 mod starts;
@@ -28,5 +27,5 @@ mod types;
 
 pub use bodies::wrong_bodies;
 pub use checked::{Checked, check};
-pub use checking::judge;
+pub use checking::{judge, judge_all};
 pub use st_decl::CheckError;

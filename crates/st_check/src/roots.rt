@@ -17,7 +17,7 @@ ghost use Rattle.st_check.specs.Roots.{root_view, roots_of_selector, roots_of_ta
 
 use crate::listings::Listed;
 use crate::selections::type_of_place;
-use st_rules::{Demand, Sorts};
+use st_rules::{Demand, Purpose, Sorts};
 use st_types::{Argument, Arm, Expr, Kind, Name, Selector, Stmt, Variable};
 use st_typing::demand_of_type;
 use std::alloc::{AllocError, Global};
@@ -46,7 +46,7 @@ fn push_root<'a>(
 fn condition() -> Demand
     ensures { result ≡ condition }
 {
-    Demand::Asked(Some(Kind::Bool), Sorts::Any)
+    Demand::Asked(Some(Kind::Bool), Sorts::Any, Purpose::Condition)
 }
 
 fn push_selector<'a>(roots: &mut Vec<Root<'a>>, selector: &'a Selector) -> Result<(), AllocError>
@@ -56,7 +56,8 @@ fn push_selector<'a>(roots: &mut Vec<Root<'a>>, selector: &'a Selector) -> Resul
     match selector {
         Selector::Member(_) => Ok(()),
         Selector::Subscript(subscript) => {
-            push_root(roots, Demand::Asked(None, Sorts::Whole), subscript)
+            let demand = Demand::Asked(None, Sorts::Whole, Purpose::Subscript);
+            push_root(roots, demand, subscript)
         }
     }
 }
@@ -97,7 +98,12 @@ fn push_argument<'a>(
     match argument {
         Argument::Input(input, value) => {
             let declared = input_of(names, instance, &input.name);
-            push_root(roots, demand_of_type(names.tables, declared), value)
+            let purpose = Purpose::Input(input.place);
+            push_root(
+                roots,
+                demand_of_type(names.tables, purpose, declared),
+                value,
+            )
         }
         Argument::Output(_, _) => Ok(()),
     }
@@ -174,14 +180,20 @@ fn push_own<'a>(
     match statement {
         Stmt::Assign(variable, value) => {
             let declared = type_of_place(names, variable);
-            push_root(roots, demand_of_type(names.tables, declared), value)
+            let purpose = Purpose::Assigned(variable.name.place);
+            push_root(
+                roots,
+                demand_of_type(names.tables, purpose, declared),
+                value,
+            )
         }
         Stmt::Invoke(instance, arguments) => {
             push_arguments(roots, names, &instance.name, arguments)
         }
         Stmt::If(arms, _) => push_conditions(roots, arms),
         Stmt::Case(selector, _, _) => {
-            push_root(roots, Demand::Asked(None, Sorts::Selecting), selector)
+            let demand = Demand::Asked(None, Sorts::Selecting, Purpose::Selector);
+            push_root(roots, demand, selector)
         }
         Stmt::For {
             control,
@@ -191,9 +203,10 @@ fn push_own<'a>(
             body: _,
         } => {
             let declared = names.type_of_name(&control.name);
+            let purpose = Purpose::Count(control.place);
             push_counts(
                 roots,
-                demand_of_type(names.tables, declared),
+                demand_of_type(names.tables, purpose, declared),
                 start,
                 limit,
                 step,

@@ -6,15 +6,15 @@ ghost use Rattle.st_types.specs.ExpressionViews.{selector_view, variable_view};
 ghost use Rattle.st_meaning.specs.NameTypes.{Declared};
 ghost use Rattle.st_rules.specs.Environments.{Environment, is_instance, type_of_place};
 ghost use Rattle.st_rules.specs.ExpressionRules.{wrong_selectors, wrong_variable};
-ghost use Rattle.st_rules.specs.Faults.{Finds};
+ghost use Rattle.st_rules.specs.Collecting.{Collects};
 ghost use Rattle.st_rules.specs.TargetRules.{passes_instance};
 ghost use Rattle.symbols.specs.PlaceTypes.{place_type_view};
 ghost use Rattle.symbols.specs.Serving.{Serves};
 ghost use Rattle.symbols.specs.Tables.{ServesTables};
 
-use st_rules::{Broken, Rule};
+use st_rules::{Broken, BrokenRules, Reason};
 use st_types::{Selector, SimpleType, Variable};
-use st_typing::{is_nothing, selected_type, type_after_selectors, wrong_selector};
+use st_typing::{select, selected_type, type_after_selectors};
 use symbols::{PlaceType, TextTables, UnitNames};
 
 /// The type of the part that a variable selects.
@@ -28,47 +28,37 @@ pub fn type_of_place<'a>(names: &UnitNames<'_, 'a>, variable: &Variable) -> Opti
     }
 }
 
-/// A fault in the selectors after the name at a place.
+/// Adds the fault in the selectors after the name at a place.
 fn wrong_selectors<'a>(
     tables: &TextTables<'a>,
     place: usize,
     declared: PlaceType<'a>,
     selectors: &[Selector],
-) -> Option<Broken>
-    ensures { (text : Declared) → ServesTables tables.now text → Finds
-        (wrong_selectors text place (place_type_view declared.entry)
-        (selectors_of (map selector_view selectors.now))) result }
+    broken: &mut BrokenRules,
+)
+    ensures { (text : Declared) → ServesTables tables.now text
+        → Collects (wrong_selectors text place (place_type_view declared.entry)
+        (selectors_of (map selector_view selectors.now))) broken.old broken.new }
 {
-    let mut behind = declared;
+    let mut found = Some(declared);
     for selector in selectors {
-        match selected_type(tables, behind, selector) {
-            Some(next) => behind = next,
-            None => {
-                if is_nothing(tables.typing_of_type(behind)) {
-                    return None;
-                }
-                return Some(wrong_selector(place, selector));
-            }
-        }
+        found = select(tables, place, found, selector, broken);
     }
-    None
 }
 
-/// A variable that isn't declared, or a wrong selection.
-pub fn wrong_variable(names: &UnitNames, variable: &Variable) -> Option<Broken>
+/// Adds a variable that isn't declared, or a wrong selection.
+pub fn wrong_variable(names: &UnitNames, variable: &Variable, broken: &mut BrokenRules)
     ensures { (env : Environment) → Serves names.now env
-        → Finds (wrong_variable env (variable_view variable.now)) result }
+        → Collects (wrong_variable env (variable_view variable.now)) broken.old broken.new }
 {
+    let place = variable.name.place;
     match names.type_of_name(&variable.name.name) {
-        Some(declared) => wrong_selectors(
-            names.tables,
-            variable.name.place,
-            declared,
-            &variable.selectors,
-        ),
-        None => Some(Broken {
-            rule: Rule::UnknownName,
-            place: variable.name.place,
+        Some(declared) => {
+            wrong_selectors(names.tables, place, declared, &variable.selectors, broken);
+        }
+        None => broken.add(Broken {
+            reason: Reason::Undeclared,
+            place,
         }),
     }
 }

@@ -97,6 +97,9 @@ fn needed(size: usize, code: &[Instr]) -> usize
 ///
 /// It has at most 16,384 instructions, and at most 4,096 places for values of functions. The memory is the least that the
 /// program fits, for which the code is made again.
+///
+/// M1 if the values of its functions take too many places, M2 if it has too many instructions, M3 if memory runs out.
+/// `NotLinked` for a tree that isn't linked: no text gives one.
 pub fn compile(
     alloc: Global,
     library: &SlotLibrary,

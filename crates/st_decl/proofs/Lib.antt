@@ -1,5 +1,4 @@
 pub mod StandardLemmas
-pub mod FindLemmas
 pub mod PushLemmas
 pub mod FlatLemmas
 pub mod NumberLemmas
@@ -14,4 +13,5 @@ pub mod GraphWays
 pub mod DeepLemmas
 pub mod PlaceLemmas
 pub mod JudgeLemmas
-pub mod FaultLemmas
+pub mod EntryLemmas
+pub mod ScopeLemmas

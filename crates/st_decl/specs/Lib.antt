@@ -1,5 +1,5 @@
-pub mod Places
 pub mod DeclaringViews
+pub mod Entries
 pub mod StartViews
 pub mod Judgements
 pub mod Flattened

@@ -1,84 +1,48 @@
-//! The arrays of a text, as one list: those that are types of their own, and those without a name.
+//! The arrays of a text, with a name or without, and their bounds (C8).
 
-ghost use Rattle.std.specs.Prelude.{◌≡◌, ◌++◌, map, IfOk};
+ghost use Rattle.std.specs.Prelude.{◌≡◌, map, IfOk};
 ghost use Rattle.std.specs.List.{flat_map};
-ghost use Rattle.st_types.specs.DeclarationViews.{type_declaration_view, type_definition_view};
-ghost use Rattle.st_types.specs.SourceViews.{element_view, source_view};
-ghost use Rattle.st_rules.specs.DeclaredTypes.{array_of_definition, array_of_type, named_arrays_of_element};
+ghost use Rattle.st_rules.specs.Collecting.{Collects};
+ghost use Rattle.st_rules.specs.TypeRules.{bounds_of, wrong_bounds};
+ghost use Rattle.st_rules.specs.DeclaredTypes.{array_of_type};
 ghost use Rattle.st_decl.specs.DeclaringViews.{declaring_view};
+ghost use Rattle.st_decl.specs.Entries.{of_each, entry_view, array_of};
 
+use crate::bounds::{bound, has_wrong_bounds};
 use crate::declarings::Declaring;
-use st_types::{ArrayType, LibraryElement, Source, TypeDeclaration, TypeDefinition, VariableType};
+use crate::entries::Entry;
+use st_rules::{Bounds, BrokenRules, Reason};
+use st_types::{ArrayType, VariableType};
 use std::alloc::{AllocError, Global};
 
-fn push_definition<'a>(
-    arrays: &mut Vec<&'a ArrayType>,
-    definition: &'a TypeDefinition,
-) -> Result<(), AllocError>
-    ensures { IfOk result (λ done. map (λ a. a.now) arrays.new.items ≡ map (λ a. a.now) arrays.old.items
-        ++ array_of_definition (type_definition_view definition.now)) }
+fn bounds_of(array: &ArrayType) -> Bounds
+    ensures { result ≡ bounds_of array.now }
 {
-    match definition {
-        TypeDefinition::Array(array) => {
-            arrays.push(array)?;
-            Ok(())
-        }
-        TypeDefinition::Structure(_) => Ok(()),
-        TypeDefinition::Enumeration(_) => Ok(()),
+    Bounds {
+        lower: bound(&array.lower),
+        upper: bound(&array.upper),
     }
 }
 
-fn push_types<'a>(
-    arrays: &mut Vec<&'a ArrayType>,
-    types: &'a [TypeDeclaration],
-) -> Result<(), AllocError>
-    ensures { IfOk result (λ done. map (λ a. a.now) arrays.new.items ≡ map (λ a. a.now) arrays.old.items
-        ++ flat_map (λ t. array_of_definition t.definition) (map type_declaration_view types.now)) }
+/// Adds an array whose bounds are reversed or too wide.
+fn wrong_array(array: &ArrayType, broken: &mut BrokenRules)
+    ensures { Collects (wrong_bounds array.now) broken.old broken.new }
 {
-    for declaration in types {
-        push_definition(arrays, &declaration.definition)?;
-    }
-    Ok(())
+    broken.add_in_case(
+        has_wrong_bounds(array),
+        Reason::WrongBounds(bounds_of(array)),
+        array.lower.place,
+    );
 }
 
-fn push_element<'a>(
-    arrays: &mut Vec<&'a ArrayType>,
-    element: &'a LibraryElement,
-) -> Result<(), AllocError>
-    ensures { IfOk result (λ done. map (λ a. a.now) arrays.new.items ≡ map (λ a. a.now) arrays.old.items
-        ++ named_arrays_of_element (element_view element.now)) }
+/// Adds the arrays whose bounds are reversed or too wide (C8).
+pub fn wrong_arrays(entries: &[Entry], broken: &mut BrokenRules)
+    ensures { Collects (flat_map (λ e. of_each wrong_bounds (array_of e)) (map entry_view entries.now)) broken.old
+        broken.new }
 {
-    match element {
-        LibraryElement::Types(types) => push_types(arrays, types),
-        LibraryElement::Unit(_) => Ok(()),
-        LibraryElement::Configuration(_) => Ok(()),
-    }
-}
-
-/// The arrays that are types of their own.
-pub fn named_arrays<'a>(alloc: Global, source: &'a Source) -> Result<Vec<&'a ArrayType>, AllocError>
-    ensures { IfOk result
-        (λ arrays. map (λ a. a.now) arrays.items ≡ flat_map named_arrays_of_element (source_view source.now)) }
-{
-    let mut arrays = Vec::new(alloc);
-    for element in &source.elements {
-        push_element(&mut arrays, element)?;
-    }
-    Ok(arrays)
-}
-
-fn push_array<'a>(
-    arrays: &mut Vec<&'a ArrayType>,
-    declared: &'a VariableType,
-) -> Result<(), AllocError>
-    ensures { IfOk result (λ done. map (λ a. a.now) arrays.new.items ≡ map (λ a. a.now) arrays.old.items
-        ++ array_of_type declared.now) }
-{
-    match declared {
-        VariableType::Simple(_) => Ok(()),
-        VariableType::Array(array) => {
-            arrays.push(array)?;
-            Ok(())
+    for entry in entries {
+        if let Some(array) = entry.array() {
+            wrong_array(array, broken);
         }
     }
 }
@@ -93,7 +57,10 @@ pub fn unnamed_arrays<'a>(
 {
     let mut arrays = Vec::new(alloc);
     for declaring in declarings {
-        push_array(&mut arrays, declaring.declared)?;
+        match declaring.declared {
+            VariableType::Simple(_) => {}
+            VariableType::Array(array) => arrays.push(array)?,
+        }
     }
     Ok(arrays)
 }

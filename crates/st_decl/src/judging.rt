@@ -1,10 +1,11 @@
 //! The answers when a text is judged.
 
-ghost use Rattle.std.specs.Prelude.{◌≡◌, ℕ, List};
-ghost use Rattle.st_rules.specs.Faults.{breaking, Finds};
-ghost use Rattle.symbols.specs.Searches.{FindsPlace};
+ghost use Rattle.std.specs.Prelude.{◌≡◌, List, slice_get};
+ghost use Rattle.st_rules.specs.declared.rule.Broken.{Broken};
+ghost use Rattle.st_decl.specs.Judgements.{HasChecked, Judges, answer_of};
 
-use st_rules::{Broken, Rule};
+use st_rules::{Broken, BrokenRules};
+use std::alloc::AllocError;
 use thiserror::Error;
 
 /// Why a text is not accepted.
@@ -18,12 +19,14 @@ pub enum CheckError {
     OutOfMemory,
 }
 
-/// The rule, if there is a place at which it is broken.
-pub fn broken_at(rule: Rule, place: Option<usize>) -> Option<Broken>
-    ensures { (places : List ℕ) → FindsPlace places place → Finds (breaking rule places) result }
+/// The answer when a check for one broken rule ended so.
+pub fn answered(ended: Result<(), AllocError>, broken: &BrokenRules) -> Result<(), CheckError>
+    ensures answer { result ≡ answer_of ended (slice_get broken.now.found.items 0) }
+    ensures judged { (faults : List Broken) → HasChecked faults ended broken.now → Judges faults result }
 {
-    match place {
-        Some(place) => Some(Broken { rule, place }),
-        None => None,
+    match (broken.first(), ended) {
+        (Some(first), _) => Err(CheckError::Broken(first)),
+        (None, Ok(())) => Ok(()),
+        (None, Err(_)) => Err(CheckError::OutOfMemory),
     }
 }

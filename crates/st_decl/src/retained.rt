@@ -1,79 +1,43 @@
-//! Globals at an address that a block retains.
+//! Globals at an address in a block of retained ones (C11).
 
-ghost use Rattle.std.specs.Prelude.{◌≡◌, ◌++◌, map, IfOk};
+ghost use Rattle.std.specs.Prelude.{map};
 ghost use Rattle.std.specs.List.{flat_map};
-ghost use Rattle.st_types.specs.ConfigurationViews.{global_declaration_view, global_block_view, configuration_view};
-ghost use Rattle.st_types.specs.SourceViews.{element_view, source_view};
-ghost use Rattle.st_rules.specs.TypeRules.{retained_address, retained_addresses_of};
+ghost use Rattle.st_types.specs.ConfigurationViews.{global_declaration_view};
+ghost use Rattle.st_rules.specs.declared.reason.Reason.TheVariants.{RetainedAddress};
+ghost use Rattle.st_rules.specs.Collecting.{Collects};
+ghost use Rattle.st_rules.specs.Faults.{breaking};
+ghost use Rattle.st_rules.specs.TypeRules.{retained_address};
+ghost use Rattle.st_decl.specs.Entries.{entry_view, retained_address_of};
 
-use st_types::{
-    Configuration, GlobalBlock, GlobalDeclaration, GlobalNames, GlobalQualifier, LibraryElement,
-    Source,
-};
-use std::alloc::{AllocError, Global};
+use crate::entries::Entry;
+use st_rules::{BrokenRules, Reason};
+use st_types::{GlobalDeclaration, GlobalNames, GlobalQualifier};
 
-fn push_address(
-    places: &mut Vec<usize>,
+fn retained_address(
     qualifier: Option<GlobalQualifier>,
     declaration: &GlobalDeclaration,
-) -> Result<(), AllocError>
-    ensures { IfOk result (λ done. places.new.items ≡ places.old.items
-        ++ retained_address qualifier (global_declaration_view declaration.now).names) }
+    broken: &mut BrokenRules,
+)
+    ensures { Collects (breaking RetainedAddress
+        (retained_address qualifier (global_declaration_view declaration.now).names)) broken.old broken.new }
 {
+    let is_retained = matches!(qualifier, Some(GlobalQualifier::Retain));
     match &declaration.names {
-        GlobalNames::Located(name, _) => match qualifier {
-            Some(GlobalQualifier::Retain) => {
-                places.push(name.place)?;
-                Ok(())
-            }
-            _ => Ok(()),
-        },
-        GlobalNames::Listed(_) => Ok(()),
+        GlobalNames::Located(name, _) => {
+            broken.add_in_case(is_retained, Reason::RetainedAddress, name.place);
+        }
+        GlobalNames::Listed(_) => {}
     }
 }
 
-fn push_block(places: &mut Vec<usize>, block: &GlobalBlock) -> Result<(), AllocError>
-    ensures { IfOk result (λ done. places.new.items ≡ places.old.items
-        ++ flat_map (λ d. retained_address (global_block_view block.now).qualifier d.names)
-        (global_block_view block.now).declarations) }
+/// Adds globals that are retained and have an address (C11).
+pub fn retained_addresses(entries: &[Entry], broken: &mut BrokenRules)
+    ensures { Collects (flat_map (λ e. breaking RetainedAddress (retained_address_of e)) (map entry_view entries.now))
+        broken.old broken.new }
 {
-    for declaration in &block.declarations {
-        push_address(places, block.qualifier, declaration)?;
-    }
-    Ok(())
-}
-
-fn push_blocks(places: &mut Vec<usize>, blocks: &[GlobalBlock]) -> Result<(), AllocError>
-    ensures { IfOk result (λ done. places.new.items ≡ places.old.items
-        ++ flat_map (λ b. flat_map (λ d. retained_address b.qualifier d.names) b.declarations)
-        (map global_block_view blocks.now)) }
-{
-    for block in blocks {
-        push_block(places, block)?;
-    }
-    Ok(())
-}
-
-fn push_element(places: &mut Vec<usize>, element: &LibraryElement) -> Result<(), AllocError>
-    ensures { IfOk result (λ done. places.new.items ≡ places.old.items
-        ++ retained_addresses_of (element_view element.now)) }
-{
-    match element {
-        LibraryElement::Types(_) => Ok(()),
-        LibraryElement::Unit(_) => Ok(()),
-        LibraryElement::Configuration(configuration) => {
-            push_blocks(places, &configuration.globals)
+    for entry in entries {
+        if let Entry::Global(qualifier, declaration) = entry {
+            retained_address(*qualifier, declaration, broken);
         }
     }
-}
-
-/// The places of globals with an address in a block of retained ones (C11).
-pub fn retained_addresses(alloc: Global, source: &Source) -> Result<Vec<usize>, AllocError>
-    ensures { IfOk result (λ places. places.items ≡ flat_map retained_addresses_of (source_view source.now)) }
-{
-    let mut places = Vec::new(alloc);
-    for element in &source.elements {
-        push_element(&mut places, element)?;
-    }
-    Ok(places)
 }

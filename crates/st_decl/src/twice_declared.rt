@@ -1,95 +1,129 @@
-//! Names that are declared twice, or that are taken.
+//! Names that are declared twice, or that are taken (C2).
 
-ghost use Rattle.std.specs.Prelude.{◌≡◌, ◌++◌, ℕ, List, map, is_some, IfOk};
-ghost use Rattle.std.specs.List.{flat_map, list_any};
+ghost use Rattle.std.specs.Prelude.{◌≡◌, ℕ, List, map, option_map, IfOk};
+ghost use Rattle.std.specs.List.{flat_map};
 ghost use Rattle.st_types.specs.SourceViews.{source_view};
-ghost use Rattle.st_meaning.specs.NameTypes.{is_named};
-ghost use Rattle.st_rules.specs.Places.{places_where, repeats};
 ghost use Rattle.st_types.specs.declared.identifier.Identifier.{Identifier};
+ghost use Rattle.st_rules.specs.declared.reason.Reason.TheVariants.{StandardName};
+ghost use Rattle.st_rules.specs.Collecting.{Adds, Covers, Collects};
+ghost use Rattle.st_rules.specs.Faults.{breaking, in_case};
+ghost use Rattle.st_rules.specs.Places.{first_named};
 ghost use Rattle.st_rules.specs.NameScopes.{names_of_text, variables_of_text};
-ghost use Rattle.st_rules.specs.TwiceDeclared.{is_standard, is_taken, twice_declared};
+ghost use Rattle.st_rules.specs.TwiceDeclared.{is_standard, repeated, wrong_variable_name, twice_declared};
 ghost use Rattle.symbols.specs.Found.{found};
-ghost use Rattle.symbols.specs.Searches.{FindsPlace};
-ghost use Rattle.st_decl.specs.Places.{first};
 
 use crate::names_of::{names_of_text, variables_of_text};
 use crate::scopes::scopes_of;
 use crate::standard::is_standard;
+use st_rules::{Broken, BrokenRules, Reason};
 use st_types::{Identifier, Source};
 use std::alloc::{AllocError, Global};
-use symbols::{Index, first_repeat, index_of};
+use symbols::Index;
 
-/// A name that occurs again in one of these scopes.
-fn repeat_in_scopes(alloc: Global, scopes: &[Vec<&Identifier>]) -> Result<Option<usize>, AllocError>
-    ensures { IfOk result (λ place. FindsPlace
-        (flat_map repeats (map (λ s. map (λ x. x.now) s.items) scopes.now)) place) }
+/// Adds each later declaration of a name in a scope, with the place of the first.
+fn repeated(
+    alloc: Global,
+    names: &[&Identifier],
+    broken: &mut BrokenRules,
+) -> Result<(), AllocError>
+    ensures adds { Adds (repeated (map (λ x. x.now) names.now)) broken.old broken.new }
+    ensures covers { IfOk result (λ done. Covers (repeated (map (λ x. x.now) names.now)) broken.new) }
+{
+    let mut places = Index::new(alloc);
+    for name in names {
+        if let Some(first) = places.find(&name.name) {
+            broken.add(Broken {
+                reason: Reason::DeclaredBefore(first),
+                place: name.place,
+            });
+        }
+        places.add(&name.name, name.place)?;
+    }
+    Ok(())
+}
+
+/// Adds the names that occur again in one of these scopes.
+fn repeated_in_scopes(
+    alloc: Global,
+    scopes: &[Vec<&Identifier>],
+    broken: &mut BrokenRules,
+) -> Result<(), AllocError>
+    ensures adds { Adds (flat_map repeated (map (λ s. map (λ x. x.now) s.items) scopes.now)) broken.old broken.new }
+    ensures covers { IfOk result
+        (λ done. Covers (flat_map repeated (map (λ s. map (λ x. x.now) s.items) scopes.now)) broken.new) }
 {
     for scope in scopes {
-        if let Some(place) = first_repeat(alloc, scope)? {
-            return Ok(Some(place));
-        }
+        repeated(alloc, scope, broken)?;
     }
-    Ok(None)
+    Ok(())
 }
 
-/// The place of a name that is one of a standard function or block.
-fn first_standard(names: &[&Identifier]) -> Option<usize>
-    ensures { result ≡ first (places_where (λ x. is_standard x.name) (map (λ x. x.now) names.now)) }
+/// Adds the names that a standard function or block has.
+fn standard_names(names: &[&Identifier], broken: &mut BrokenRules)
+    ensures { Collects (flat_map (λ x. breaking StandardName (in_case (is_standard x.name) x.place))
+        (map (λ x. x.now) names.now)) broken.old broken.new }
 {
     for name in names {
-        if is_standard(&name.name) {
-            return Some(name.place);
-        }
+        broken.add_in_case(is_standard(&name.name), Reason::StandardName, name.place);
     }
-    None
 }
 
-/// Whether a variable has the name of a standard function or block, or one that the index has.
-fn is_taken(index: &Index<()>, variable: &Identifier) -> bool
+/// Adds a variable if its name is that of a standard function or block, or one that the index has, by its place.
+fn taken_name(index: &Index<usize>, variable: &Identifier, broken: &mut BrokenRules)
     ensures { (names : List Identifier)
-        → ((q : List ℕ) → is_some (found index.now q) ≡ list_any (is_named q) names)
-        → result ≡ is_taken names variable.now }
+        → ((q : List ℕ) → found index.now q ≡ option_map (λ x. x.place) (first_named names q))
+        → Collects (wrong_variable_name names variable.now) broken.old broken.new }
 {
-    is_standard(&variable.name) || index.find(&variable.name).is_some()
+    if is_standard(&variable.name) {
+        broken.add(Broken {
+            reason: Reason::StandardName,
+            place: variable.place,
+        });
+    } else if let Some(place) = index.find(&variable.name) {
+        broken.add(Broken {
+            reason: Reason::NameOfUnit(place),
+            place: variable.place,
+        });
+    }
 }
 
-/// The place of a variable whose name is taken.
-fn first_taken(index: &Index<()>, variables: &[&Identifier]) -> Option<usize>
+fn taken_names(index: &Index<usize>, variables: &[&Identifier], broken: &mut BrokenRules)
     ensures { (names : List Identifier)
-        → ((q : List ℕ) → is_some (found index.now q) ≡ list_any (is_named q) names)
-        → result ≡ first (places_where (is_taken names) (map (λ x. x.now) variables.now)) }
+        → ((q : List ℕ) → found index.now q ≡ option_map (λ x. x.place) (first_named names q))
+        → Collects (flat_map (wrong_variable_name names) (map (λ x. x.now) variables.now)) broken.old broken.new }
 {
     for variable in variables {
-        if is_taken(index, variable) {
-            return Some(variable.place);
-        }
+        taken_name(index, variable, broken);
     }
-    None
 }
 
-/// A name that is taken: of a type or unit, or of a variable.
-fn first_refused(alloc: Global, source: &Source) -> Result<Option<usize>, AllocError>
-    ensures { IfOk result (λ place. FindsPlace
-        (places_where (λ x. is_standard x.name) (names_of_text (source_view source.now))
-        ++ places_where (is_taken (names_of_text (source_view source.now))) (variables_of_text (source_view source.now)))
-        place) }
+/// The places of names; of a name that occurs again, the first.
+fn places_of<'a>(alloc: Global, names: &[&'a Identifier]) -> Result<Index<'a, usize>, AllocError>
+    ensures { IfOk result (λ index. (q : List ℕ) → found index q
+        ≡ option_map (λ x. x.place) (first_named (map (λ x. x.now) names.now) q)) }
 {
-    let names = names_of_text(alloc, &source.elements)?;
-    if let Some(place) = first_standard(&names) {
-        return Ok(Some(place));
+    let mut index = Index::new(alloc);
+    for name in names {
+        index.add(&name.name, name.place)?;
     }
-    let index = index_of(alloc, &names)?;
-    let variables = variables_of_text(alloc, &source.elements)?;
-    Ok(first_taken(&index, &variables))
+    Ok(index)
 }
 
-/// A place at which a name is declared twice, or is taken (C2).
-pub fn declared_twice(alloc: Global, source: &Source) -> Result<Option<usize>, AllocError>
-    ensures finds { IfOk result (λ place. FindsPlace (twice_declared (source_view source.now)) place) }
+/// Adds the places at which a name is declared twice, or is taken (C2).
+pub fn twice_declared(
+    alloc: Global,
+    source: &Source,
+    broken: &mut BrokenRules,
+) -> Result<(), AllocError>
+    ensures adds { Adds (twice_declared (source_view source.now)) broken.old broken.new }
+    ensures covers { IfOk result (λ done. Covers (twice_declared (source_view source.now)) broken.new) }
 {
     let scopes = scopes_of(alloc, source)?;
-    if let Some(place) = repeat_in_scopes(alloc, &scopes)? {
-        return Ok(Some(place));
-    }
-    first_refused(alloc, source)
+    repeated_in_scopes(alloc, &scopes, broken)?;
+    let names = names_of_text(alloc, &source.elements)?;
+    standard_names(&names, broken);
+    let index = places_of(alloc, &names)?;
+    let variables = variables_of_text(alloc, &source.elements)?;
+    taken_names(&index, &variables, broken);
+    Ok(())
 }

@@ -17,6 +17,7 @@ use Rattle.st_rules.specs.Places.{places_where, repeats}
 use Rattle.st_rules.specs.NameScopes.{names_of_element, names_of_text, variables_of_text, scopes_of_element}
 use Rattle.st_rules.specs.TwiceDeclared.{is_standard, is_taken, twice_declared}
 use Rattle.st_rules.specs.Environments.{is_own_block, is_block}
+use Rattle.layout.proofs.NameLaws.{names_free}
 use Rattle.st_link.proofs.Among.{Among, here, later, in_back, in_map, in_flat, none_passes}
 use Rattle.st_link.proofs.FoundNames.{unit_found, unit_in, type_found, type_in_source}
 use Rattle.st_types.proofs.ListLemmas.{append_first, append_second}
@@ -95,15 +96,13 @@ names_right source h =
     let n = names_of_text source in
     let first = repeats n in
     let scopes = flat_map repeats (flat_map scopes_of_element source) in
-    let standard = places_where (λ x. is_standard x.name) n in
-    let taken = places_where (is_taken n) (variables_of_text source) in
-    let front = append_first ((first ++ scopes) ++ standard) taken h in
+    let free = names_free source h in
     record {
       all = h;
-      once = append_first first scopes (append_first (first ++ scopes) standard front);
-      scopes = append_second first scopes (append_first (first ++ scopes) standard front);
-      free = append_second (first ++ scopes) standard front;
-      untaken = append_second ((first ++ scopes) ++ standard) taken h;
+      once = append_first first scopes free.again;
+      scopes = append_second first scopes free.again;
+      free = free.standard;
+      untaken = free.taken;
     }
 
 no_block_by : (source : Source) → NamesRight source → (x : Name) (t : TypeDeclaration) (block : List TypeDeclaration)

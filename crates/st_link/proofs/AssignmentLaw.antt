@@ -25,10 +25,12 @@ use Rattle.st_meaning.specs.Execution.{assigning, exec}
 use Rattle.st_meaning.specs.Runs.{store_of}
 use Rattle.st_meaning.specs.ResolvedUnits.{resolved_stmt}
 use Rattle.st_meaning.specs.NameTypes.{kind_among, kind_of_variable}
-use Rattle.st_meaning.specs.Resolution.{resolved_expr, resolved_variable, resolved_selectors}
-use Rattle.st_rules.specs.declared.rule.Rule.TheVariants.{NotAssignable}
+use Rattle.st_meaning.specs.Resolution.{resolved_expr, resolved_variable, resolved_selectors, place_of_variable}
+use Rattle.st_rules.specs.declared.reason.Reason.{Reason}
 use Rattle.st_rules.specs.declared.rule.Broken.{Broken}
-use Rattle.st_rules.specs.declared.demand.Sorts.TheVariants.{NoSort as no_sort}
+use Rattle.st_rules.specs.declared.demand.Sorts.TheVariants.{Any as any, NoSort as no_sort}
+use Rattle.st_rules.specs.declared.demand.Purpose.{Purpose}
+use Rattle.st_rules.specs.declared.demand.Purpose.TheVariants as purposes
 use Rattle.st_rules.specs.declared.demand.Demand.TheVariants.{Asked as asked}
 use Rattle.st_rules.specs.declared.typings.Typing.{Typing}
 use Rattle.st_rules.specs.declared.typings.Typing.TheVariants.{Untyped as untyped, Elementary as elementary}
@@ -36,12 +38,13 @@ use Rattle.st_rules.specs.declared.typings.Typing.TheVariants.{Composite as comp
 use Rattle.st_rules.specs.Faults.{breaking, unless}
 use Rattle.st_rules.specs.Environments.{Environment, type_of_place, section_of}
 use Rattle.st_rules.specs.Demands.{exactly}
-use Rattle.st_rules.specs.Typings.{kind_of, is_untyped_typing, is_nothing, typing_of, typing_of_type, settled, allows}
+use Rattle.st_rules.specs.Typings.{kind_of, is_untyped_typing, is_nothing, typing_of, typing_of_type, settled, fits}
 use Rattle.st_rules.specs.Nodes.{nodes_of, nodes_of_place}
 use Rattle.st_rules.specs.ExpressionRules.{wrong_variable, wrong_node, wrong_expression}
 use Rattle.st_rules.specs.Statements.{Context, placed}
 use Rattle.st_rules.specs.Roots.{demand_of_typing, demand_of_type, wrong_nodes}
-use Rattle.st_rules.specs.TargetRules.{is_fixed, is_assignable, wrong_target, wrong_targets, wrong_for}
+use Rattle.st_rules.specs.TargetRules.{is_fixed, is_assignable, unassignable, wrong_target, wrong_targets}
+use Rattle.st_rules.specs.TargetRules.{wrong_for}
 use Rattle.st_rules.specs.CallRules.{wrong_invocation}
 use Rattle.st_rules.specs.LabelRules.{wrong_case}
 use Rattle.st_rules.specs.BodyRules.{wrong_exit, wrong_statement}
@@ -94,13 +97,13 @@ assigned_succeeds s p v k h of = succeeds_as {A = Store} (λ _. Unit {0}) (Keeps
     (assigned_there s p v k h of) (λ t is. assigned_keeps s p v t is)
 
 -- the demand of a target
-pub composite_refused : (t : Typing) → allows (asked None no_sort) t ≡ true → is_nothing t ≡ false → ⊥
+pub composite_refused : (t : Typing) → fits None no_sort t ≡ true → is_nothing t ≡ false → ⊥
 composite_refused untyped h i = cc
 composite_refused (elementary k) h i = cc
 composite_refused composite h i = cc
 composite_refused nothing h i = cc
 
-pub exact_kind : (k : Kind) (t : Typing) → allows (exactly k) t ≡ true → is_nothing t ≡ false → t ≡ elementary k
+pub exact_kind : (k : Kind) (t : Typing) → fits (Some k) any t ≡ true → is_nothing t ≡ false → t ≡ elementary k
 exact_kind k untyped h i = absurd (cc)
 exact_kind k (elementary l) h i = ap (λ (j : Kind). elementary j) (same_kind_is l k (and_parts (same_kind l k) _ h).0)
 exact_kind k composite h i = absurd (cc)
@@ -108,23 +111,24 @@ exact_kind k nothing h i = absurd (cc)
 
 -- an assignment to a place of an elementary type, from its parts
 assigning_alike : (env : Environment) (w : Scope) (s : Store) (u v : Units) (i j : StuckFaults) → Premises env w s u v
-    → (x : Identifier) (xs : Selectors) (e : Expr) (there : IsThere env x xs) → is_fixed (section_of env x.name) ≡ false
+    → (purpose : Purpose) (x : Identifier) (xs : Selectors) (e : Expr) (there : IsThere env x xs)
+    → is_fixed (section_of env x.name) ≡ false
     → flat_map (wrong_node env) (nodes_of_place env (variable x xs)) ≡ [] → (t : Typing)
     → typing_of_type env.text (Some there.behind.type_is) ≡ t → is_nothing t ≡ false → is_untyped_typing t ≡ false
-    → wrong_expression env (demand_of_typing t) e ≡ [] → (b : ℕ)
+    → wrong_expression env (demand_of_typing purpose t) e ≡ [] → (b : ℕ)
     → EndsAlikeIn {A = End} (λ r. Keeps s (store_of r))
     (assigning (with_units u i w) (resolved_variable env.text env.unit (variable x xs))
     (resolved_expr env.text env.unit (kind_of t) e) s b)
     (assigning (with_units v j w) (resolved_variable env.text env.unit (variable x xs))
     (resolved_expr env.text env.unit (kind_of t) e) s b)
-assigning_alike env w s u v i j p x xs e there fixed parts untyped is k n h b = absurd (cc)
-assigning_alike env w s u v i j p x xs e there fixed parts nothing is k n h b = absurd (cc)
-assigning_alike env w s u v i j p x xs e there fixed parts composite is k n h b =
-    let d = asked None no_sort in
+assigning_alike env w s u v i j p purpose x xs e there fixed parts untyped is k n h b = absurd (cc)
+assigning_alike env w s u v i j p purpose x xs e there fixed parts nothing is k n h b = absurd (cc)
+assigning_alike env w s u v i j p purpose x xs e there fixed parts composite is k n h b =
+    let d = asked None no_sort purpose in
     absurd (composite_refused (settled None (typing_of env e)) (asked_right env d e h)
     (settled_known None (typing_of env e) (typing_known env p.known None e (inside env d e h))))
-assigning_alike env w s u v i j p x xs e there fixed parts (elementary k) is known n h b =
-    let d = exactly k in
+assigning_alike env w s u v i j p purpose x xs e there fixed parts (elementary k) is known n h b =
+    let d = exactly k purpose in
     let t = there.behind.type_is in
     let kind : settled (Some k) (typing_of env e) ≡ elementary k =
     exact_kind k (settled (Some k) (typing_of env e)) (asked_right env d e h)
@@ -152,11 +156,11 @@ assigning_alike env w s u v i j p x xs e there fixed parts (elementary k) is kno
     (assigned_succeeds s q n k (p.agrees.stored k place fixed among) of))
     (λ r f kept. (refl, kept))))
 
-pub assignable_there : (o : Option VariableType) (t : VariableType) (b : Bool) (at : ℕ) → o ≡ Some t
-    → breaking NotAssignable (if is_some o then unless b at else []) ≡ [] → b ≡ true
-assignable_there (Some u) t true at is h = refl
-assignable_there (Some u) t false at is h = absurd (cc)
-assignable_there None t b at is h = absurd (cc)
+pub assignable_there : (reason : Reason) (o : Option VariableType) (t : VariableType) (b : Bool) (at : ℕ) → o ≡ Some t
+    → breaking reason (if is_some o then unless b at else []) ≡ [] → b ≡ true
+assignable_there reason (Some u) t true at is h = refl
+assignable_there reason (Some u) t false at is h = absurd (cc)
+assignable_there reason None t b at is h = absurd (cc)
 
 -- the parts of an assignment in which nothing is wrong
 abbrev in_nodes : Environment → Variable → Expr → List Broken
@@ -180,10 +184,10 @@ target_right env c v e h = sym (append-nil (wrong_target env c v))
 
 pub nodes_right : (env : Environment) (c : Context) (v : Variable) (e : Expr)
     → wrong_statement env (placed c (assign v e)) ≡ []
-    → (wrong_expression env (demand_of_type env (type_of_place env v)) e ≡ [])
+    → (wrong_expression env (demand_of_type env (purposes.Assigned (place_of_variable v)) (type_of_place env v)) e ≡ [])
     × (flat_map (wrong_node env) (nodes_of_place env v) ≡ [])
 nodes_right env c v e h =
-    let d = demand_of_type env (type_of_place env v) in
+    let d = demand_of_type env (purposes.Assigned (place_of_variable v)) (type_of_place env v) in
     let one = nodes_of env d e in
     let two = nodes_of_place env v in
     let all : in_nodes env v e ≡ [] =
@@ -200,7 +204,7 @@ nodes_right env c v e h =
 assign_alike : (env : Environment) (w : Scope) (s : Store) (u v : Units) (i j : StuckFaults) → Premises env w s u v
     → (c : Context) (x : Identifier) (xs : Selectors) (e : Expr)
     → wrong_target env c (variable x xs) ≡ []
-    → wrong_expression env (demand_of_type env (type_of_place env (variable x xs))) e ≡ []
+    → wrong_expression env (demand_of_type env (purposes.Assigned x.place) (type_of_place env (variable x xs))) e ≡ []
     → flat_map (wrong_node env) (nodes_of_place env (variable x xs)) ≡ [] → (b : ℕ)
     → EndsAlikeIn {A = End} (λ r. Keeps s (store_of r))
     (assigning (with_units u i w) (resolved_variable env.text env.unit (variable x xs))
@@ -209,13 +213,15 @@ assign_alike : (env : Environment) (w : Scope) (s : Store) (u v : Units) (i j : 
     (resolved_expr env.text env.unit (kind_of_variable env.text env.unit (variable x xs)) e) s b)
 assign_alike env w s u v i j p c x xs e target h parts b =
     let v' = variable x xs in
+    let reason = unassignable env c v' in
     let there = variable_is_there env p.known x xs (append_first (wrong_variable env v')
-    (breaking NotAssignable (if is_some (type_of_place env v') then unless (is_assignable env c v') x.place else []))
+    (breaking reason (if is_some (type_of_place env v') then unless (is_assignable env c v') x.place else []))
     target) in
     let is = type_there env x xs there in
-    let assignable = assignable_there (type_of_place env v') there.behind.type_is (is_assignable env c v') x.place is
+    let assignable =
+    assignable_there reason (type_of_place env v') there.behind.type_is (is_assignable env c v') x.place is
     (append_second (wrong_variable env v')
-    (breaking NotAssignable (if is_some (type_of_place env v') then unless (is_assignable env c v') x.place else []))
+    (breaking reason (if is_some (type_of_place env v') then unless (is_assignable env c v') x.place else []))
     target) in
     let free = (and_parts (not (is_fixed (section_of env x.name))) _
     (and_parts (not (is_fixed (section_of env x.name)) && _) _ assignable).0).0 in
@@ -225,10 +231,11 @@ assign_alike env w s u v i j p c x xs e target h parts b =
     (assigning (with_units u i w) (resolved_variable env.text env.unit v') (resolved_expr env.text env.unit k e) s b)
     (assigning (with_units v j w) (resolved_variable env.text env.unit v') (resolved_expr env.text env.unit k e) s b))
     (sym kind)
-    (assigning_alike env w s u v i j p x xs e there (false_from_not (is_fixed (section_of env x.name)) free) parts
+    (assigning_alike env w s u v i j p (purposes.Assigned x.place) x xs e there
+    (false_from_not (is_fixed (section_of env x.name)) free) parts
     (typing_of_type env.text (Some there.behind.type_is)) refl there.behind.known
     (sym (untyped_declared env.text (Some there.behind.type_is)))
-    (subst (λ o. wrong_expression env (demand_of_type env o) e ≡ []) is h) b)
+    (subst (λ o. wrong_expression env (demand_of_type env (purposes.Assigned x.place) o) e ≡ []) is h) b)
 
 -- an assignment as a statement
 pub assignment_alike : (env : Environment) (w : Scope) (s : Store) (u v : Units) (i j : StuckFaults) → Premises env w s u v

@@ -7,9 +7,10 @@ use Rattle.st_types.specs.declared.data_type.VariableType.{VariableType}
 use Rattle.st_types.specs.Statements.{Argument, invoke}
 use Rattle.st_meaning.specs.Failures.{StuckFaults}
 use Rattle.st_meaning.specs.Scopes.{Units, Scope}
-use Rattle.st_rules.specs.declared.rule.Rule.TheVariants.{WrongType, WrongArguments}
+use Rattle.st_rules.specs.declared.reason.Reason.TheVariants.{NotInstance}
 use Rattle.st_rules.specs.declared.rule.Broken.{Broken}
 use Rattle.st_rules.specs.Faults.{breaking, unless}
+use Rattle.st_rules.specs.Reasons.{type_word}
 use Rattle.st_rules.specs.Environments.{Environment, type_of_name, is_instance}
 use Rattle.st_rules.specs.Typings.{typing_of_type, is_nothing}
 use Rattle.st_rules.specs.CallRules.{wrong_arguments, wrong_copy, wrong_instance}
@@ -29,9 +30,8 @@ statements_are_sound env w s u v i j c xs b agrees units known calls h =
 abbrev instance_faults : Environment → Identifier → List Argument → VariableType → Bool → Bool → List Broken
 instance_faults env x arguments t called nothing =
     if called
-    then breaking WrongArguments (wrong_arguments env x.name [] arguments)
-    ++ flat_map (wrong_copy env x.name) arguments
-    else breaking WrongType (unless nothing x.place)
+    then wrong_arguments env (type_word t) x.name [] arguments ++ flat_map (wrong_copy env x.name) arguments
+    else breaking (NotInstance (type_word t)) (unless nothing x.place)
 
 not_called : (env : Environment) (x : Identifier) (arguments : List Argument) (t : VariableType) (a b : Bool)
     → a ≡ false → b ≡ false → instance_faults env x arguments t a b ≡ [] → ⊥

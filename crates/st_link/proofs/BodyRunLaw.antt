@@ -30,6 +30,7 @@ use Rattle.st_link.proofs.RunsAlike.{RunsAlike, both_as}
 use Rattle.st_link.proofs.LoopLaw.{Leaves}
 use Rattle.st_link.proofs.StatementParts.{statement_right}
 use Rattle.st_link.proofs.StatementLaw.{exec_all_alike}
+use Rattle.st_rules.specs.Reasons.{type_word}
 use Rattle.st_link.proofs.CallLaw.{invoking_alike}
 use Rattle.st_link.proofs.TextParts.{RightText, invoked}
 
@@ -144,7 +145,7 @@ module _ (text : Declared) (library : Library) (image : Store) (now : ℕ) (i j 
       invoking_alike env w u v i j (Keeps s) agrees kept (units.functions r.unit) known x called.block called.named
       (right.inputs called.block) (right.outputs called.block)
       (λ z more. (stands_kept more stands).instances r itself x.name called.block called.named called.is)
-      c arguments so called.fit called.copies
+      c (type_word (types.Simple (Named called.block))) arguments so called.fit called.copies
       (ran_alike r s stands body x.name called.block called.named called.is) t keeps in
       subst (λ (xs : Stmts). RunsAlike (Leaves (Keeps s)) (exec_all (with_units u i w) xs s) (exec_all (with_units v j w) xs s))
       (sym body.statements)

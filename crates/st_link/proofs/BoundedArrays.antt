@@ -29,7 +29,8 @@ use Rattle.st_meaning.specs.Operators.{natural, number_of}
 use Rattle.st_meaning.specs.Scopes.{Name}
 use Rattle.st_meaning.specs.StandardBlocks.{StandardBlock, block_of, outputs_of}
 use Rattle.st_rules.specs.declared.limits.TheConstants.{MAX_ELEMENTS}
-use Rattle.st_rules.specs.declared.rule.Rule.TheVariants.{DeclaredTwice, TooDeep, WrongBounds, RetainedAddress}
+use Rattle.st_rules.specs.declared.reason.Reason.{Reason}
+use Rattle.st_rules.specs.declared.reason.Reason.TheVariants.{WrongBounds, RetainedAddress}
 use Rattle.st_rules.specs.DeclaredTypes.{Declaring, field, variable_of, declarings_of_element}
 use Rattle.st_rules.specs.DeclaredTypes.{declarings_of_definition}
 use Rattle.st_rules.specs.DeclaredTypes.{declarings_in, array_of_definition, named_arrays_of_element}
@@ -41,7 +42,8 @@ use Rattle.st_rules.specs.InitialRules.{too_long}
 use Rattle.st_rules.specs.Rules.{environment, starts_in, wrong_declarations, wrong_types, wrong_starts, wrong_bodies}
 use Rattle.st_rules.specs.Rules.{IsWellTyped}
 use Rattle.st_rules.specs.TwiceDeclared.{twice_declared}
-use Rattle.st_rules.specs.TypeRules.{has_wrong_bounds, wrong_bounds, elements_of_array, retained_addresses_of}
+use Rattle.st_rules.specs.TypeRules.{has_wrong_bounds, bounds_of, wrong_bounds, elements_of_array}
+use Rattle.st_rules.specs.TypeRules.{retained_addresses_of}
 use Rattle.layout.specs.Types.{of_kind, of_elements, defined_composition, instance_of}
 use Rattle.layout.specs.Types.{instance_parts, BlockType, composition_of}
 use Rattle.st_link.specs.Soundness.{IsTypeIn, of_variable, of_part}
@@ -72,6 +74,9 @@ pub no_case : (b : Bool) (at : ℕ) → in_case b at ≡ [] → b ≡ false
 no_case true at h = absurd (cc)
 no_case false at h = refl
 
+pub no_breaking : (reason : Reason) (b : Bool) (at : ℕ) → breaking reason (in_case b at) ≡ [] → b ≡ false
+no_breaking reason b at h = no_case b at (places_none reason (in_case b at) h)
+
 -- the bounds of a text's arrays
 bounds_right : (source : Source) → IsWellTyped source → flat_map wrong_bounds (arrays_in source) ≡ []
 bounds_right source h =
@@ -80,14 +85,14 @@ bounds_right source h =
     let c = wrong_starts source in
     let d = wrong_bodies source in
     let declarations = append_first a b (append_first (a ++ b) c (append_first ((a ++ b) ++ c) d h)) in
-    let twice = breaking DeclaredTwice (twice_declared source) in
-    let deep = breaking TooDeep (too_deep source) in
-    let bounds = breaking WrongBounds (flat_map wrong_bounds (arrays_in source)) in
-    let long = breaking WrongBounds (flat_map (too_long (declared_in source)) (starts_in source)) in
+    let twice = twice_declared source in
+    let deep = too_deep source in
+    let bounds = flat_map wrong_bounds (arrays_in source) in
+    let long = flat_map (too_long (declared_in source)) (starts_in source) in
     let addresses = breaking RetainedAddress (flat_map retained_addresses_of source) in
     let front = append_first ((twice ++ deep) ++ bounds) long
     (append_first (((twice ++ deep) ++ bounds) ++ long) addresses declarations) in
-    places_none WrongBounds (flat_map wrong_bounds (arrays_in source)) (append_second (twice ++ deep) bounds front)
+    append_second (twice ++ deep) bounds front
 
 module _ (source : Source) (right : TypesRight source) where
   abbrev text : Declared
@@ -231,6 +236,8 @@ pub arrays_bounded : (source : Source) → IsWellTyped source → TypesRight sou
 arrays_bounded source h right u unit s typed a is =
     let listed = types_listed source right u unit s typed in
     let among = elements_listed source right s listed a is in
-    let wrong = no_case (has_wrong_bounds a) a.lower.place (none_of wrong_bounds among (bounds_right source h)) in
+    let places = places_none (WrongBounds (bounds_of a)) (in_case (has_wrong_bounds a) a.lower.place)
+    (none_of wrong_bounds among (bounds_right source h)) in
+    let wrong = no_case (has_wrong_bounds a) a.lower.place places in
     has_elements (number_of a.upper) (number_of a.lower)
     (or_parts (int_lt (number_of a.upper) (number_of a.lower)) (nat_lt MAX_ELEMENTS (elements_of_array a)) wrong).0

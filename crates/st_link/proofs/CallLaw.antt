@@ -25,8 +25,11 @@ use Rattle.st_meaning.specs.Execution.{given_inputs, assigned_inputs, copied_out
 use Rattle.st_meaning.specs.NameTypes.{kind_among, block_variable, is_input, is_output}
 use Rattle.st_meaning.specs.Resolution.{resolved_expr}
 use Rattle.st_meaning.specs.ResolvedUnits.{resolved_argument, resolved_stmt}
-use Rattle.st_rules.specs.declared.rule.Rule.{Rule}
-use Rattle.st_rules.specs.declared.rule.Rule.TheVariants.{WrongType, NotAssignable}
+use Rattle.st_rules.specs.declared.reason.Reason.{Reason}
+use Rattle.st_rules.specs.declared.reason.TypeWord.{TypeWord}
+use Rattle.st_rules.specs.declared.rule.Broken.{Broken}
+use Rattle.st_rules.specs.declared.demand.Purpose.{Purpose}
+use Rattle.st_rules.specs.declared.demand.Purpose.TheVariants as purposes
 use Rattle.st_rules.specs.declared.demand.Sorts.TheVariants.{NoSort as no_sort}
 use Rattle.st_rules.specs.declared.demand.Demand.TheVariants.{Asked as asked}
 use Rattle.st_rules.specs.declared.typings.Typing.{Typing}
@@ -42,7 +45,7 @@ use Rattle.st_rules.specs.ExpressionRules.{wrong_variable, wrong_node, wrong_exp
 use Rattle.st_rules.specs.Statements.{Context}
 use Rattle.st_rules.specs.Roots.{demand_of_typing, demand_of_type, roots_of_argument, targets_of_arguments}
 use Rattle.st_rules.specs.Roots.{nodes_of_root}
-use Rattle.st_rules.specs.TargetRules.{is_fixed, is_assignable, wrong_target}
+use Rattle.st_rules.specs.TargetRules.{is_fixed, is_assignable, unassignable, wrong_target}
 use Rattle.st_rules.specs.CallRules.{wrong_arguments, wrong_copy}
 use Rattle.st_rules.proofs.TypingLaws.{kind_of_declared, untyped_declared}
 use Rattle.st_link.specs.Soundness.{IsOf, with_units, IsPlace, root, Agrees, Keeps, UnitsAgree, IsKnown}
@@ -59,13 +62,14 @@ use Rattle.st_types.proofs.TestLemmas.{false_from_not}
 use Rattle.st_types.proofs.ListLemmas.{append_first, append_second}
 
 -- places of a rule that is not broken
-pub places_none : (rule : Rule) (ps : List ℕ) → breaking rule ps ≡ [] → ps ≡ []
-places_none rule [] h = refl
-places_none rule (p ∷ ps) h = absurd (cc)
+pub places_none : (reason : Reason) (ps : List ℕ) → breaking reason ps ≡ [] → ps ≡ []
+places_none reason [] h = refl
+places_none reason (p ∷ ps) h = absurd (cc)
 
-pub place_right : (b : Bool) (at : ℕ) (rest : List ℕ) → unless b at ++ rest ≡ [] → (b ≡ true) × (rest ≡ [])
-place_right true at rest h = (refl, h)
-place_right false at rest h = absurd (cc)
+pub place_right : (reason : Reason) (b : Bool) (at : ℕ) (rest : List Broken)
+    → breaking reason (unless b at) ++ rest ≡ [] → (b ≡ true) × (rest ≡ [])
+place_right reason true at rest h = (refl, h)
+place_right reason false at rest h = absurd (cc)
 
 pub some_there : {A : Type 0} (o : Option A) → is_some o ≡ true → (a : A) × (o ≡ Some a)
 some_there (Some a) h = (a, refl)
@@ -80,22 +84,24 @@ pub target_is : (env : Environment) → AreKnown env → (c : Context) (x : Iden
     → wrong_target env c (variable x xs) ≡ [] → IsTarget env x xs
 target_is env known c x xs h =
     let v = variable x xs in
-    let faults = breaking NotAssignable
+    let faults = breaking (unassignable env c v)
     (if is_some (type_of_place env v) then unless (is_assignable env c v) x.place else []) in
     let there = variable_is_there env known x xs (append_first (wrong_variable env v) faults h) in
-    let assignable = assignable_there (type_of_place env v) there.behind.type_is (is_assignable env c v) x.place
+    let assignable =
+    assignable_there (unassignable env c v) (type_of_place env v) there.behind.type_is (is_assignable env c v) x.place
     (type_there env x xs there) (append_second (wrong_variable env v) faults h) in
     let outer = (and_parts (not (is_fixed (section_of env x.name)) && _) _ assignable).0 in
     let free = (and_parts (not (is_fixed (section_of env x.name))) _ outer).0 in
     record { there = there; free = false_from_not (is_fixed (section_of env x.name)) free }
 
 -- a type that its place demands, and the elementary type that both are
-pub demanded_kind : (t u : Typing) → is_nothing t ≡ false → is_untyped_typing t ≡ false → is_nothing u ≡ false
-    → allows (demand_of_typing t) u ≡ true → (k : Kind) × (t ≡ elementary k) × (u ≡ elementary k)
-demanded_kind untyped u h i j m = absurd (cc)
-demanded_kind nothing u h i j m = absurd (cc)
-demanded_kind composite u h i j m = absurd (composite_refused u m j)
-demanded_kind (elementary k) u h i j m = (k, refl, exact_kind k u m j)
+pub demanded_kind : (p : Purpose) (t u : Typing) → is_nothing t ≡ false → is_untyped_typing t ≡ false
+    → is_nothing u ≡ false → allows (demand_of_typing p t) u ≡ true
+    → (k : Kind) × (t ≡ elementary k) × (u ≡ elementary k)
+demanded_kind p untyped u h i j m = absurd (cc)
+demanded_kind p nothing u h i j m = absurd (cc)
+demanded_kind p composite u h i j m = absurd (composite_refused u m j)
+demanded_kind p (elementary k) u h i j m = (k, refl, exact_kind k u m j)
 
 module _ (env : Environment) (w : Scope) (u v : Units) (i j : StuckFaults) (I : Store → Type 0)
     (agrees : (s : Store) → I s → Agrees env w s) (kept : (s t : Store) → I s → Keeps s t → I t)
@@ -115,25 +121,25 @@ module _ (env : Environment) (w : Scope) (u v : Units) (i j : StuckFaults) (I : 
     pub among : kind_among env.text.types t ≡ Some kind
     pub alike : RunsAlike (IsOf kind) (value one s (tree (Some kind) e)) (value two s (tree (Some kind) e))
 
-  valued_by : (t : VariableType) (e : Expr) (ty : Typing) → typing_of_type env.text (Some t) ≡ ty
-      → is_nothing ty ≡ false → is_untyped_typing ty ≡ false → wrong_expression env (demand_of_typing ty) e ≡ []
+  valued_by : (p : Purpose) (t : VariableType) (e : Expr) (ty : Typing) → typing_of_type env.text (Some t) ≡ ty
+      → is_nothing ty ≡ false → is_untyped_typing ty ≡ false → wrong_expression env (demand_of_typing p ty) e ≡ []
       → (s : Store) → I s → Valued t e s
-  valued_by t e untyped is k n h s has = absurd (cc)
-  valued_by t e nothing is k n h s has = absurd (cc)
-  valued_by t e composite is k n h s has =
-      let d = asked None no_sort in
+  valued_by p t e untyped is k n h s has = absurd (cc)
+  valued_by p t e nothing is k n h s has = absurd (cc)
+  valued_by p t e composite is k n h s has =
+      let d = asked None no_sort p in
       absurd (composite_refused (settled None (typing_of env e)) (asked_right env d e h)
       (settled_known None (typing_of env e) (typing_known env known None e (inside env d e h))))
-  valued_by t e (elementary k) is n m h s has = record {
+  valued_by p t e (elementary k) is n m h s has = record {
     kind = k;
     among = kind_of_declared env.text (Some t) ∙ ap kind_of is;
-    alike = exact_alike env w u v i j I agrees kept units known k e h s has;
+    alike = exact_alike env w u v i j I agrees kept units known k p e h s has;
   }
 
-  valued : (t : VariableType) (e : Expr) → IsKnown env.text t
-      → wrong_expression env (demand_of_type env (Some t)) e ≡ []
+  valued : (p : Purpose) (t : VariableType) (e : Expr) → IsKnown env.text t
+      → wrong_expression env (demand_of_type env p (Some t)) e ≡ []
       → (s : Store) → I s → Valued t e s
-  valued t e is h s has = valued_by t e (typing_of_type env.text (Some t)) refl is
+  valued p t e is h s has = valued_by p t e (typing_of_type env.text (Some t)) refl is
       (sym (untyped_declared env.text (Some t))) h s has
 
   module _ (x b : Identifier) (named : type_of_name env x.name ≡ Some (types.Simple (Named b)))
@@ -170,14 +176,16 @@ module _ (env : Environment) (w : Scope) (u v : Units) (i j : StuckFaults) (I : 
 
     first_given : (y : Identifier) (e : Expr) (rest : List Argument) (t : VariableType)
         → input_of env x.name y.name ≡ Some t
-        → wrong_expression env (demand_of_type env (input_of env x.name y.name)) e ≡ [] → (s : Store) → I s
+        → wrong_expression env (demand_of_type env (purposes.Input y.place) (input_of env x.name y.name)) e ≡ []
+        → (s : Store) → I s
         → RunsAlike AreGiven (given_inputs one s (arguments_in rest)) (given_inputs two s (arguments_in rest))
         → RunsAlike AreGiven (given_inputs one s (arguments_in (given y e ∷ rest)))
         (given_inputs two s (arguments_in (given y e ∷ rest)))
     first_given y e rest t is h s has others =
         let input = sym (input_is y.name) ∙ is in
-        let worth = valued t e (inputs_known y.name t input)
-        (subst (λ (o : Option VariableType). wrong_expression env (demand_of_type env o) e ≡ []) is h) s has in
+        let p = purposes.Input y.place in
+        let worth = valued p t e (inputs_known y.name t input)
+        (subst (λ (o : Option VariableType). wrong_expression env (demand_of_type env p o) e ≡ []) is h) s has in
         let kind : option_and_then (kind_among env.text.types) (input_of env x.name y.name) ≡ Some worth.kind =
         ap (option_and_then (kind_among env.text.types)) is ∙ worth.among in
         subst (λ (o : Option Kind). RunsAlike AreGiven
@@ -191,21 +199,22 @@ module _ (env : Environment) (w : Scope) (u v : Units) (i j : StuckFaults) (I : 
           fit,
         ))))
 
-    given_alike : (before : List Name) (arguments : List Argument) → wrong_arguments env x.name before arguments ≡ []
+    given_alike : (block : TypeWord) (before : List Name) (arguments : List Argument)
+        → wrong_arguments env block x.name before arguments ≡ []
         → RootsRight env (flat_map (roots_of_argument env x.name) arguments) → (s : Store) → I s
         → RunsAlike AreGiven (given_inputs one s (arguments_in arguments)) (given_inputs two s (arguments_in arguments))
-    given_alike before [] h roots s has = both_give AreGiven [] tt
-    given_alike before (given y e ∷ rest) h roots s has =
-        let right = place_right _ y.place (wrong_arguments env x.name (y.name ∷ before) rest) h in
+    given_alike block before [] h roots s has = both_give AreGiven [] tt
+    given_alike block before (given y e ∷ rest) h roots s has =
+        let right = place_right _ _ y.place (wrong_arguments env block x.name (y.name ∷ before) rest) h in
         let input = some_there (input_of env x.name y.name)
         (and_parts (is_some (input_of env x.name y.name)) _ right.0).0 in
-        let root = first_root env (demand_of_type env (input_of env x.name y.name)) e
+        let root = first_root env (demand_of_type env (purposes.Input y.place) (input_of env x.name y.name)) e
         (flat_map (roots_of_argument env x.name) rest) roots in
         first_given y e rest input.0 input.1 root.0 s has
-        (given_alike (y.name ∷ before) rest right.1 root.1 s has)
-    given_alike before (copied y z ∷ rest) h roots s has =
-        let right = place_right _ y.place (wrong_arguments env x.name (y.name ∷ before) rest) h in
-        given_alike (y.name ∷ before) rest right.1 roots s has
+        (given_alike block (y.name ∷ before) rest right.1 root.1 s has)
+    given_alike block before (copied y z ∷ rest) h roots s has =
+        let right = place_right _ _ y.place (wrong_arguments env block x.name (y.name ∷ before) rest) h in
+        given_alike block (y.name ∷ before) rest right.1 roots s has
 
     -- inputs that are assigned
     inputs_alike : (vs : List (Name × Datum)) → AreGiven vs → (s : Store) → I s
@@ -221,7 +230,8 @@ module _ (env : Environment) (w : Scope) (u v : Units) (i j : StuckFaults) (I : 
     -- outputs that are copied
     first_copied : (c : Context) (y z : Identifier) (zs : Selectors) (rest : List Argument) (t : VariableType)
         → output_of env x.name y.name ≡ Some t → IsTarget env z zs
-        → allows (demand_of_type env (output_of env x.name y.name)) (typing_of_variable env (variable z zs)) ≡ true
+        → allows (demand_of_type env (purposes.Output y.place) (output_of env x.name y.name))
+        (typing_of_variable env (variable z zs)) ≡ true
         → flat_map (wrong_node env) (nodes_of_place env (variable z zs)) ≡ [] → (s : Store) → I s
         → ((r : Store) → I r
         → RunsAlike I (copied_outputs one site (arguments_in rest) r) (copied_outputs two site (arguments_in rest) r))
@@ -230,11 +240,12 @@ module _ (env : Environment) (w : Scope) (u v : Units) (i j : StuckFaults) (I : 
     first_copied c y z zs rest t is target right parts s has others =
         let r = target.there.behind.type_is in
         let output = sym (output_is y.name) ∙ is in
-        let kinds = demanded_kind (typing_of_type env.text (Some t)) (typing_of_type env.text (Some r))
+        let p = purposes.Output y.place in
+        let kinds = demanded_kind p (typing_of_type env.text (Some t)) (typing_of_type env.text (Some r))
         (outputs_known y.name t output) (sym (untyped_declared env.text (Some t))) target.there.behind.known
-        (subst (λ (o : Option VariableType). allows (demand_of_type env (Some t)) (typing_of_type env.text o) ≡ true)
+        (subst (λ (o : Option VariableType). allows (demand_of_type env p (Some t)) (typing_of_type env.text o) ≡ true)
         (type_there env z zs target.there)
-        (subst (λ (o : Option VariableType). allows (demand_of_type env o) (typing_of_variable env (variable z zs))
+        (subst (λ (o : Option VariableType). allows (demand_of_type env p o) (typing_of_variable env (variable z zs))
         ≡ true) is right)) in
         let k = kinds.0 in
         let source : kind_among env.text.types t ≡ Some k =
@@ -254,20 +265,20 @@ module _ (env : Environment) (w : Scope) (u v : Units) (i j : StuckFaults) (I : 
         (assigned_succeeds s p n k ((agrees s has).stored k place target.free goal) of)))
         (λ q it. others q it)))
 
-    copied_alike : (c : Context) (before : List Name) (arguments : List Argument)
-        → wrong_arguments env x.name before arguments ≡ [] → flat_map (wrong_copy env x.name) arguments ≡ []
+    copied_alike : (c : Context) (block : TypeWord) (before : List Name) (arguments : List Argument)
+        → wrong_arguments env block x.name before arguments ≡ [] → flat_map (wrong_copy env x.name) arguments ≡ []
         → flat_map (wrong_target env c) (targets_of_arguments arguments) ≡ []
         → flat_map (wrong_node env) (flat_map (nodes_of_place env) (targets_of_arguments arguments)) ≡ []
         → (s : Store) → I s
         → RunsAlike I (copied_outputs one site (arguments_in arguments) s)
         (copied_outputs two site (arguments_in arguments) s)
-    copied_alike c before [] h copies targets parts s has = both_give I s has
-    copied_alike c before (given y e ∷ rest) h copies targets parts s has =
-        let right = place_right _ y.place (wrong_arguments env x.name (y.name ∷ before) rest) h in
-        copied_alike c (y.name ∷ before) rest right.1 copies targets parts s has
-    copied_alike c before (copied y (variable z zs) ∷ rest) h copies targets parts s has =
+    copied_alike c block before [] h copies targets parts s has = both_give I s has
+    copied_alike c block before (given y e ∷ rest) h copies targets parts s has =
+        let right = place_right _ _ y.place (wrong_arguments env block x.name (y.name ∷ before) rest) h in
+        copied_alike c block (y.name ∷ before) rest right.1 copies targets parts s has
+    copied_alike c block before (copied y (variable z zs) ∷ rest) h copies targets parts s has =
         let a = variable z zs in
-        let right = place_right _ y.place (wrong_arguments env x.name (y.name ∷ before) rest) h in
+        let right = place_right _ _ y.place (wrong_arguments env block x.name (y.name ∷ before) rest) h in
         let output = some_there (output_of env x.name y.name)
         (and_parts (is_some (output_of env x.name y.name)) _ right.0).0 in
         let copy = wrong_copy env x.name (copied y a) in
@@ -279,29 +290,30 @@ module _ (env : Environment) (w : Scope) (u v : Units) (i j : StuckFaults) (I : 
         let split : flat_map (wrong_node env) nodes ++ flat_map (wrong_node env) other_nodes ≡ [] =
         sym (flat_map-append (wrong_node env) nodes other_nodes) ∙ parts in
         first_copied c y z zs rest output.0 output.1 (target_is env known c z zs (append_first target other_targets targets))
-        (unless_right WrongType _ z.place (append_first copy other_copies copies))
+        (unless_right _ _ z.place (append_first copy other_copies copies))
         (append_first (flat_map (wrong_node env) nodes) (flat_map (wrong_node env) other_nodes) split) s has
-        (λ r is. copied_alike c (y.name ∷ before) rest right.1 (append_second copy other_copies copies)
+        (λ r is. copied_alike c block (y.name ∷ before) rest right.1 (append_second copy other_copies copies)
         (append_second target other_targets targets)
         (append_second (flat_map (wrong_node env) nodes) (flat_map (wrong_node env) other_nodes) split) r is)
 
-    pub invoking_alike : (c : Context) (arguments : List Argument) → StatementRight env c (invoke x arguments)
-        → wrong_arguments env x.name [] arguments ≡ [] → flat_map (wrong_copy env x.name) arguments ≡ []
+    pub invoking_alike : (c : Context) (block : TypeWord) (arguments : List Argument)
+        → StatementRight env c (invoke x arguments)
+        → wrong_arguments env block x.name [] arguments ≡ [] → flat_map (wrong_copy env x.name) arguments ≡ []
         → ((s : Store) → I s → RunsAlike I (ran_block one site (block_named w.body.instances x.name) s)
         (ran_block two site (block_named w.body.instances x.name) s)) → (s : Store) → I s
         → RunsAlike (Leaves I) (exec one (resolved_stmt env.text env.unit (invoke x arguments)) s)
         (exec two (resolved_stmt env.text env.unit (invoke x arguments)) s)
-    invoking_alike c arguments right fit copies ran s has =
+    invoking_alike c block arguments right fit copies ran s has =
         let roots = flat_map (nodes_of_root env) (flat_map (roots_of_argument env x.name) arguments) in
         let parts = flat_map (nodes_of_place env) (targets_of_arguments arguments) in
         let split : flat_map (wrong_node env) roots ++ flat_map (wrong_node env) parts ≡ [] =
         sym (flat_map-append (wrong_node env) roots parts) ∙ right.nodes in
         both_tick (both_then
-        (given_alike [] arguments fit
+        (given_alike block [] arguments fit
         (append_first (flat_map (wrong_node env) roots) (flat_map (wrong_node env) parts) split) s has)
         (λ vs given. both_then (inputs_alike vs given s has)
         (λ t is. both_then (ran t is)
         (λ r was. both_then
-        (copied_alike c [] arguments fit copies right.targets
+        (copied_alike c block [] arguments fit copies right.targets
         (append_second (flat_map (wrong_node env) roots) (flat_map (wrong_node env) parts) split) r was)
         (λ z done. both_give (Leaves I) (goes_on z) done)))))

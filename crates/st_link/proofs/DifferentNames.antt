@@ -22,7 +22,7 @@ use Rattle.st_rules.specs.NameScopes.{names_of_text, variables_of_block, variabl
 use Rattle.st_rules.specs.NameScopes.{scopes_of_type}
 use Rattle.st_rules.specs.NameScopes.{scopes_in_variables, scopes_in_globals, listed_names, globals_of_block}
 use Rattle.st_rules.specs.NameScopes.{globals_of}
-use Rattle.st_rules.specs.NameScopes.{names_in, scopes_of_element, scopes_of}
+use Rattle.st_rules.specs.NameScopes.{names_in, scopes_of_element}
 use Rattle.st_rules.specs.InitialScopes.{scopes_in_optional}
 use Rattle.st_rules.specs.Places.{places_where, repeats}
 use Rattle.st_rules.specs.TwiceDeclared.{is_standard, is_taken, twice_declared}
@@ -43,7 +43,7 @@ use Rattle.st_link.specs.Homes.{are_names_different}
 use Rattle.st_link.proofs.SoundMembers.{names_append}
 use Rattle.st_types.proofs.ListLemmas.{append_parts, flat_parts, all_append, map_map}
 use Rattle.std.proofs.lemmas.Bool.{not_from_false, or_parts, and_parts, and_from}
-use Rattle.layout.proofs.NameLaws.{not_repeated, later_differ, instances_differ}
+use Rattle.layout.proofs.NameLaws.{not_repeated, later_differ, instances_differ, names_free}
 use Rattle.std.proofs.lemmas.List.{map-append}
 use Rattle.st_types.proofs.TestLemmas.{false_from_not}
 use Rattle.std.proofs.lemmas.List.Folds.{list_any-append}
@@ -348,13 +348,10 @@ record AreScopesEmpty (source : Source) : Type 0 where
 
 scopes_empty : (source : Source) → twice_declared source ≡ [] → AreScopesEmpty source
 scopes_empty source h =
-    let a = append_parts (flat_map repeats (scopes_of source)
-    ++ places_where (λ x. is_standard x.name) (names_of_text source))
-    (places_where (is_taken (names_of_text source)) (variables_of_text source)) h in
-    let b = append_parts (flat_map repeats (scopes_of source))
-    (places_where (λ x. is_standard x.name) (names_of_text source)) a.0 in
-    let c = append_parts (repeats (names_of_text source)) (flat_map repeats (flat_map scopes_of_element source)) b.0 in
-    record { text = c.0; elements = c.1; variables = a.1 }
+    let free = names_free source h in
+    let c = append_parts (repeats (names_of_text source)) (flat_map repeats (flat_map scopes_of_element source))
+    free.again in
+    record { text = c.0; elements = c.1; variables = free.taken }
 
 pub names_differ : (source : Source) → twice_declared source ≡ [] → are_names_different (declared_in source) ≡ true
 names_differ source h =

@@ -27,6 +27,7 @@ use Rattle.st_meaning.specs.StandardFunctions.{Standard, standard_of}
 use Rattle.st_rules.specs.declared.demand.Sorts.TheVariants.{Any as any, Whole as whole}
 use Rattle.st_rules.specs.declared.demand.Demand.{Demand}
 use Rattle.st_rules.specs.declared.demand.Demand.TheVariants.{Operand as operand, Asked as asked}
+use Rattle.st_rules.specs.declared.demand.Purpose.TheVariants as purposes
 use Rattle.st_rules.specs.declared.typings.Typing.TheVariants.{Elementary as elementary}
 use Rattle.st_rules.specs.Readings.{reading_among, wrong_reading}
 use Rattle.st_rules.specs.Environments.{Environment, own, callee_of, callee_of_sort, type_of_name}
@@ -164,66 +165,68 @@ module _ (env : Environment) (t : Table) (orderly : IsOrderly env) (serves : Ser
   abbrev called : Name → Option Standard → Exprs → Option SlotExpr
   called f o es = option_and_then (λ xs. linked_call t f o xs) (linked_all t es)
 
-  standard_linked : (std : Standard) (f : Name) (es : Exprs) → AreLinked es
-      → (count_of es == length (demands_of_standard std (common_kind std (kinds_of (typings_of env es))))) ≡ true
+  standard_linked : (at : ℕ) (std : Standard) (f : Name) (es : Exprs) → AreLinked es
+      → (count_of es == length (demands_of_standard at std (common_kind std (kinds_of (typings_of env es))))) ≡ true
       → flat_map (wrong_node env)
-      (nodes_of_all env (demands_of_standard std (common_kind std (kinds_of (typings_of env es)))) es) ≡ []
+      (nodes_of_all env (demands_of_standard at std (common_kind std (kinds_of (typings_of env es)))) es) ≡ []
       → IsLinked (called f (Some std)
       (resolved_exprs env.text env.unit (expected_kinds std (own_kinds env.text env.unit es)) es))
-  standard_linked std f es all n h =
+  standard_linked at std f es all n h =
       let ks = kinds_of (typings_of env es) in
-      let ds = demands_of_standard std (common_kind std ks) in
+      let ds = demands_of_standard at std (common_kind std ks) in
       let same : resolved_exprs env.text env.unit (expected_kinds std (own_kinds env.text env.unit es)) es
       ≡ resolved_exprs env.text env.unit (map expected_of ds) es =
       ap (λ q. resolved_exprs env.text env.unit (expected_kinds std q) es) (all_kinds_told env es)
-      ∙ standard_expected env.text env.unit std ks es in
+      ∙ standard_expected env.text env.unit at std ks es in
       subst (λ (q : Exprs). IsLinked (called f (Some std) q)) (sym same)
       (linked_and (λ xs. linked_call t f (Some std) xs)
       (linked_all t (resolved_exprs env.text env.unit (map expected_of ds) es))
-      (all ds n (standard_asked std (common_kind std ks)) h) (λ xs. record { value = compute std xs; is = refl }))
+      (all ds n (standard_asked at std (common_kind std ks)) h) (λ xs. record { value = compute std xs; is = refl }))
 
-  own_linked : (f : Name) (inputs : List (Option Kind)) (result : Option Kind) (es : Exprs)
+  own_linked : (at : ℕ) (f : Name) (inputs : List (Option Kind)) (result : Option Kind) (es : Exprs)
       → callee_of env f ≡ Some (own inputs result) → AreLinked es
-      → (count_of es == length (map (λ i. asked i any) inputs)) ≡ true
-      → flat_map (wrong_node env) (nodes_of_all env (map (λ i. asked i any) inputs) es) ≡ []
+      → (count_of es == length (map (λ i. asked i any (purposes.Argument at)) inputs)) ≡ true
+      → flat_map (wrong_node env) (nodes_of_all env (map (λ i. asked i any (purposes.Argument at)) inputs) es) ≡ []
       → IsLinked (called f None (resolved_exprs env.text env.unit inputs es))
-  own_linked f inputs result es is all n h =
-      let ds = map (λ i. asked i any) inputs in
+  own_linked at f inputs result es is all n h =
+      let ds = map (λ i. asked i any (purposes.Argument at)) inputs in
       subst (λ (q : List (Option Kind)). IsLinked (called f None (resolved_exprs env.text env.unit q es)))
-      (inputs_expected inputs)
+      (inputs_expected at inputs)
       (linked_and (λ xs. linked_call t f None xs)
       (linked_all t (resolved_exprs env.text env.unit (map expected_of ds) es))
-      (all ds n (inputs_asked inputs) h)
+      (all ds n (inputs_asked at inputs) h)
       (λ xs. linked_map (λ i. call i xs) (named_in t.functions f) (serves.functions f inputs result is)))
 
   unit_linked : (at : ℕ) (f : Name) (es : Exprs) (o : Option OrganisationUnit)
       → callee_of env f ≡ own_callee env.text o → AreLinked es
-      → wrong_call at (own_callee env.text o) (demands_of env (own_callee env.text o) es) es ≡ []
-      → flat_map (wrong_node env) (nodes_of_all env (demands_of env (own_callee env.text o) es) es) ≡ []
+      → wrong_call at (own_callee env.text o) (demands_of env at (own_callee env.text o) es) es ≡ []
+      → flat_map (wrong_node env) (nodes_of_all env (demands_of env at (own_callee env.text o) es) es) ≡ []
       → IsLinked (called f None (resolved_exprs env.text env.unit (inputs_of_unit env.text o) es))
   unit_linked at f es None is all n h = absurd (cc)
   unit_linked at f es (Some g) is all n h = by_sort g.sort g.blocks is n h
     where
       by_sort : (sort : UnitSort) (bs : List VariableBlock) → callee_of env f ≡ callee_of_sort env.text sort bs
-          → wrong_call at (callee_of_sort env.text sort bs) (demands_of env (callee_of_sort env.text sort bs) es) es
+          → wrong_call at (callee_of_sort env.text sort bs) (demands_of env at (callee_of_sort env.text sort bs) es) es
           ≡ []
-          → flat_map (wrong_node env) (nodes_of_all env (demands_of env (callee_of_sort env.text sort bs) es) es) ≡ []
+          → flat_map (wrong_node env) (nodes_of_all env (demands_of env at (callee_of_sort env.text sort bs) es) es)
+          ≡ []
           → IsLinked (called f None (resolved_exprs env.text env.unit (inputs_of_function env.text sort bs) es))
       by_sort (Function q) bs e m k =
-          own_linked f (input_kinds env.text bs) (result_kind env.text (Function q)) es e all (count_right _ at m) k
+          own_linked at f (input_kinds env.text bs) (result_kind env.text (Function q)) es e all
+          (count_right _ _ at m) k
       by_sort FunctionBlock bs e m k = absurd (cc)
       by_sort Program bs e m k = absurd (cc)
 
   call_linked : (at : ℕ) (f : Name) (es : Exprs) (o : Option Standard) → callee_of env f ≡ callee_by env f o
       → AreLinked es
-      → wrong_call at (callee_by env f o) (demands_of env (callee_by env f o) es) es ≡ []
-      → flat_map (wrong_node env) (nodes_of_all env (demands_of env (callee_by env f o) es) es) ≡ []
+      → wrong_call at (callee_by env f o) (demands_of env at (callee_by env f o) es) es ≡ []
+      → flat_map (wrong_node env) (nodes_of_all env (demands_of env at (callee_by env f o) es) es) ≡ []
       → IsLinked (called f o (resolved_exprs env.text env.unit
       (elim o [
         | Some std ↦ expected_kinds std (own_kinds env.text env.unit es)
         | None ↦ inputs_of_unit env.text (unit_named env.text.units f)
       ]) es))
-  call_linked at f es (Some std) is all n h = standard_linked std f es all (count_right _ at n) h
+  call_linked at f es (Some std) is all n h = standard_linked at std f es all (count_right _ _ at n) h
   call_linked at f es None is all n h = unit_linked at f es (unit_named env.text.units f) is all n h
 
   -- a variable that exists
@@ -258,7 +261,7 @@ module _ (env : Environment) (t : Table) (orderly : IsOrderly env) (serves : Ser
     expr_linked k (named.call f es) h l is =
         call_linked f.place f.name es (standard_of f.name) refl (exprs_linked es) (own_part env k (named.call f es) h)
         (append_second (wrong_part env k (named.call f es))
-        (flat_map (wrong_node env) (nodes_of_all env (demands_of env (callee_of env f.name) es) es)) h)
+        (flat_map (wrong_node env) (nodes_of_all env (demands_of env f.place (callee_of env f.name) es) es)) h)
     expr_linked k (parenthesis at e) h l is = expr_linked k e h l is
     expr_linked k (named.unary op at e) h l is =
         linked_map (unary op) (linked t (resolved_expr env.text env.unit k e))
@@ -288,13 +291,13 @@ module _ (env : Environment) (t : Table) (orderly : IsOrderly env) (serves : Ser
     exprs_linked no_exprs (d ∷ ds) n a h = absurd (too_few (length ds) n)
     exprs_linked (expr_then e es) [] n a h = absurd (too_many (count_of es) n)
     exprs_linked (expr_then e es) (operand k ∷ ds) n a h = absurd (never a)
-    exprs_linked (expr_then e es) (asked k ss ∷ ds) n a h =
-        let d = asked k ss in
+    exprs_linked (expr_then e es) (asked k ss p ∷ ds) n a h =
+        let d = asked k ss p in
         let split : wrong_expression env d e ++ flat_map (wrong_node env) (nodes_of_all env ds es) ≡ [] =
         sym (flat_map-append (wrong_node env) (nodes_of env d e) (nodes_of_all env ds es)) ∙ h in
         let here = append_first (wrong_expression env d e) (flat_map (wrong_node env) (nodes_of_all env ds es)) split in
         let rest = append_second (wrong_expression env d e) (flat_map (wrong_node env) (nodes_of_all env ds es)) split in
-        let kind = kind_asked env orderly.known k ss e here in
+        let kind = kind_asked env orderly.known k ss p e here in
         let ls = map expected_of ds in
         linked_and (λ x. option_map (one_then x) (linked_all t (resolved_exprs env.text env.unit ls es)))
         (linked t (resolved_expr env.text env.unit k e))
@@ -322,14 +325,14 @@ module _ (env : Environment) (t : Table) (orderly : IsOrderly env) (serves : Ser
         let one = then_some (type_after_selectors env.text xs) (selected_type env.text s (subscript e)) r is in
         let a = element_part env.text orderly.names s one.0 one.1 in
         let p = has_elements env.text n s one.0 within a in
-        let d = asked None whole in
+        let d = asked None whole purposes.Subscript in
         let split : wrong_expression env d e ++ flat_map (wrong_node env) (nodes_of_selectors env xs) ≡ [] =
         sym (flat_map-append (wrong_node env) (nodes_of env d e) (nodes_of_selectors env xs)) ∙ h in
         let here =
         append_first (wrong_expression env d e) (flat_map (wrong_node env) (nodes_of_selectors env xs)) split in
         let others =
         append_second (wrong_expression env d e) (flat_map (wrong_node env) (nodes_of_selectors env xs)) split in
-        let number = kind_asked env orderly.known None whole e here in
+        let number = kind_asked env orderly.known None whole purposes.Subscript e here in
         let index = expr_linked None e (inside env d e here) number.0 number.1 in
         let inner = of_part (subscript e) typed one.1 in
         let rest = selectors_linked xs p.depth one.0 inner p.within r one.2 k kind others in

@@ -1,5 +1,5 @@
 -- No type of a unit's variables is too deep in a text that breaks no rule on declarations.
-use Rattle.std.proofs.Common.{◌≡◌, ℕ, ◌+◌, Bool, true, false, ◌||◌, if◌then◌else◌, List, [], ◌∷◌, ◌++◌, Option, Some}
+use Rattle.std.proofs.Common.{◌≡◌, ◌+◌, Bool, true, false, ◌||◌, if◌then◌else◌, List, [], ◌∷◌, ◌++◌, Option, Some}
 use Rattle.std.proofs.Common.{None, refl, sym, ap, ◌∙◌, subst}
 use Rattle.std.specs.Prelude.{is_some}
 use Rattle.std.specs.List.{list_any, flat_map}
@@ -22,14 +22,16 @@ use Rattle.st_meaning.specs.StandardBlocks.{StandardBlock, block_of}
 use Rattle.st_meaning.specs.StandardFunctions.{standard_of}
 use Rattle.st_rules.specs.Containment.{elementary, named, row, part_of_type, parts_of_unit, parts_of_definition}
 use Rattle.st_rules.specs.Containment.{parts_of_standard, parts_named, has_chain, is_too_deep, is_wrong_unit}
-use Rattle.st_rules.specs.Containment.{too_deep_types, too_deep_units, too_deep_array, too_deep}
+use Rattle.st_rules.specs.Containment.{reason_of_depth, too_deep_types, too_deep_units, too_deep_array, too_deep}
 use Rattle.st_rules.specs.DeclaredTypes.{variable_of, Declaring, array_of_type, declarings_in, unnamed_arrays_in}
 use Rattle.st_rules.specs.Environments.{is_block}
-use Rattle.st_rules.specs.Faults.{in_case}
+use Rattle.st_rules.specs.Faults.{breaking, in_case}
 use Rattle.st_rules.specs.NameScopes.{names_of_element}
 use Rattle.st_rules.specs.TwiceDeclared.{is_standard}
 use Rattle.st_rules.specs.declared.typings.Typing.TheVariants.{Composite as composite, Nothing as nothing}
 use Rattle.st_rules.specs.Typings.{typing_of_named, is_nothing}
+use Rattle.st_rules.specs.declared.reason.Reason.TheVariants.{TooDeep}
+use Rattle.st_rules.specs.declared.rule.Broken.{Broken}
 use Rattle.st_rules.specs.declared.limits.TheConstants.{MAX_TYPE_DEPTH}
 use Rattle.st_link.specs.Soundness.{IsKnown}
 use Rattle.st_link.proofs.Among.{Among, here, in_flat, none_of, none_passes}
@@ -41,7 +43,7 @@ use Rattle.layout.specs.Types.{is_within_depth}
 use Rattle.layout.proofs.LibraryLemmas.{no_enumeration}
 use Rattle.layout.proofs.ListLemmas.{same_name}
 use Rattle.st_link.proofs.ChainLemmas.{without_chain}
-use Rattle.st_link.proofs.BoundedArrays.{no_case}
+use Rattle.st_link.proofs.BoundedArrays.{no_breaking}
 use Rattle.st_types.proofs.ListLemmas.{append_first, append_second}
 use Rattle.st_types.proofs.TestLemmas.{or_first}
 use Rattle.st_types.proofs.OptionLemmas.{none_is}
@@ -70,7 +72,7 @@ module _ (source : Source) (right : TypesRight source) (names : NamesRight sourc
   abbrev text : Declared
   text = declared_in source
 
-  abbrev arrays : List ℕ
+  abbrev arrays : List Broken
   arrays = flat_map (too_deep_array (declared_in source)) (unnamed_arrays_in source)
 
   types_shallow : too_deep_types text ≡ []
@@ -107,9 +109,9 @@ module _ (source : Source) (right : TypesRight source) (names : NamesRight sourc
       let t = found.declaration in
       subst (λ (y : Name). has_chain text (MAX_TYPE_DEPTH + 1) (named y) ≡ false)
       (sym (same_name x t.name.name found.named))
-      (no_case (is_too_deep text (named t.name.name)) t.name.place
-      (none_of (λ (e : TypeDeclaration). in_case (is_too_deep text (named e.name.name)) e.name.place) found.among
-      types_shallow))
+      (no_breaking (reason_of_depth text t.name.name) (is_too_deep text (named t.name.name)) t.name.place
+      (none_of (λ (e : TypeDeclaration). breaking (reason_of_depth text e.name.name)
+      (in_case (is_too_deep text (named e.name.name)) e.name.place)) found.among types_shallow))
 
   block_shallow : (x : Name) → block_of x ≡ None → is_block text x ≡ true
       → has_chain text (MAX_TYPE_DEPTH + 1) (named x) ≡ false
@@ -117,9 +119,10 @@ module _ (source : Source) (right : TypesRight source) (names : NamesRight sourc
       let d = own_block text x own is in
       let found = unit_found text.units x d.unit d.declared in
       let u = d.unit in
-      let wrong = no_case (is_wrong_unit text u.sort u.name.name) u.name.place
-      (none_of (λ (e : OrganisationUnit). in_case (is_wrong_unit text e.sort e.name.name) e.name.place) found.among
-      units_shallow) in
+      let wrong =
+      no_breaking (reason_of_depth text u.name.name) (is_wrong_unit text u.sort u.name.name) u.name.place
+      (none_of (λ (e : OrganisationUnit). breaking (reason_of_depth text e.name.name)
+      (in_case (is_wrong_unit text e.sort e.name.name) e.name.place)) found.among units_shallow) in
       subst (λ (y : Name). has_chain text (MAX_TYPE_DEPTH + 1) (named y) ≡ false)
       (sym (same_name x u.name.name found.named))
       (ap (λ (s : UnitSort). is_wrong_unit text s u.name.name) (sym d.sort) ∙ wrong)
@@ -162,7 +165,8 @@ module _ (source : Source) (right : TypesRight source) (names : NamesRight sourc
       let array = in_flat (λ (e : Declaring). array_of_type e.declared)
       (variable_among source right u v.block d unit v.there v.found.among)
       (subst (λ (t : VariableType). Among a (array_of_type t)) (sym v.found.declared) here) in
-      no_case (is_too_deep text (row a.element)) a.place (none_of (too_deep_array text) array arrays_shallow)
+      no_breaking TooDeep (is_too_deep text (row a.element)) a.place
+      (none_of (too_deep_array text) array arrays_shallow)
 
   array_by : (u : OrganisationUnit) → Among (sources.unit u) source → (x : Name) (a : ArrayType) (b : Bool)
       → (if b then result_type u.sort else type_in_blocks u.blocks x) ≡ Some (types.Array a)
@@ -191,7 +195,7 @@ module _ (source : Source) (right : TypesRight source) (names : NamesRight sourc
   unnamed_shallow : (d : Declaring) → Among d (declarings_in source) → (a : ArrayType) → d.declared ≡ types.Array a
       → has_chain text (MAX_TYPE_DEPTH + 1) (row a.element) ≡ false
   unnamed_shallow d among a is =
-      no_case (is_too_deep text (row a.element)) a.place
+      no_breaking TooDeep (is_too_deep text (row a.element)) a.place
       (none_of (too_deep_array text)
       (in_flat (λ (e : Declaring). array_of_type e.declared) among
       (subst (λ (t : VariableType). Among a (array_of_type t)) (sym is) here)) arrays_shallow)

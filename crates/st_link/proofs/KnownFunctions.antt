@@ -19,7 +19,7 @@ use Rattle.st_types.specs.Sources as sources
 use Rattle.st_types.specs.Sources.{Source}
 use Rattle.st_meaning.specs.NameTypes.{Declared, declared_in, kind_among, is_input, kinds_of_declaration}
 use Rattle.st_meaning.specs.NameTypes.{kinds_of_declarations, input_kinds}
-use Rattle.st_rules.specs.declared.rule.Rule.TheVariants.{WrongType}
+use Rattle.st_rules.specs.declared.reason.Reason.TheVariants.{HasParts}
 use Rattle.st_rules.specs.declared.typings.Typing.{Typing}
 use Rattle.st_rules.specs.declared.typings.Typing.TheVariants.{Untyped as untyped, Elementary as elementary}
 use Rattle.st_rules.specs.declared.typings.Typing.TheVariants.{Composite as composite, Nothing as nothing}
@@ -48,7 +48,7 @@ has_kind text t known whole =
     subst (λ (o : Option Kind). is_some o ≡ true) (sym (kind_of_declared text (Some t)))
     (kind_some (typing_of_type text (Some t)) known (sym (untyped_declared text (Some t))) whole)
 
-not_in_case : (b : Bool) (at : ℕ) → breaking WrongType (in_case b at) ≡ [] → b ≡ false
+not_in_case : (b : Bool) (at : ℕ) → breaking HasParts (in_case b at) ≡ [] → b ≡ false
 not_in_case true at h = absurd (cc)
 not_in_case false at h = refl
 
@@ -125,5 +125,5 @@ module _ (source : Source) (right : TypesRight source) where
       → is_some (kind_among (declared_in source).types (types.Simple s)) ≡ true
   result_has_kind u s unit is = has_kind text (types.Simple s) (result_known source right u s unit is)
       (not_in_case _ (place_of_simple s) (append_second (wrong_simple text false s)
-      (breaking WrongType (in_case (is_composite (typing_of_type text (Some (types.Simple s)))) (place_of_simple s)))
+      (breaking HasParts (in_case (is_composite (typing_of_type text (Some (types.Simple s)))) (place_of_simple s)))
       (result_right source right u s unit is)))

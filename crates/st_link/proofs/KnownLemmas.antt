@@ -18,7 +18,7 @@ use Rattle.st_meaning.specs.NameTypes.{Declared, selected_type, type_after_selec
 use Rattle.st_meaning.specs.Operators.{or_kind}
 use Rattle.st_meaning.specs.StandardFunctions.{Standard, ABS, MIN, MAX, LIMIT, SEL, SHL, SHR, ROL, ROR, CONVERT}
 use Rattle.st_meaning.specs.Resolution.{is_joining, standard_kind}
-use Rattle.st_rules.specs.declared.rule.Rule.TheVariants.{UnknownName, WrongType}
+use Rattle.st_rules.specs.declared.reason.Reason.TheVariants.{Undeclared, NoMember, NotArray}
 use Rattle.st_rules.specs.declared.rule.Broken.{Broken}
 use Rattle.st_rules.specs.declared.demand.Demand.{Demand}
 use Rattle.st_rules.specs.declared.demand.Demand.TheVariants.{Operand as operand}
@@ -26,6 +26,7 @@ use Rattle.st_rules.specs.declared.typings.Typing.{Typing}
 use Rattle.st_rules.specs.declared.typings.Typing.TheVariants.{Untyped as untyped, Elementary as elementary}
 use Rattle.st_rules.specs.declared.typings.Typing.TheVariants.{Composite as composite, Nothing as nothing}
 use Rattle.st_rules.specs.Faults.{breaking}
+use Rattle.st_rules.specs.Reasons.{type_word}
 use Rattle.st_rules.specs.Readings.{Reading, reading_among, reading_of_name, reading_written, wrong_reading}
 use Rattle.st_rules.specs.Readings as readings
 use Rattle.st_rules.specs.Environments.{Environment, Callee, standard, own, callee_of, type_of_name, type_of_place}
@@ -70,7 +71,7 @@ pub record Leads (text : Declared) (t : VariableType) (xs : Selectors) : Type 0 
 abbrev selector_faults : Declared → ℕ → Selector → Selectors → VariableType → Option VariableType → List Broken
 selector_faults text at x xs t o = elim o [
   | Some u ↦ wrong_selectors text at u xs
-  | None ↦ if is_nothing (typing_of_type text (Some t)) then [] else wrong_selector at x
+  | None ↦ if is_nothing (typing_of_type text (Some t)) then [] else wrong_selector at t x
 ]
 
 one_selector : (text : Declared) (at : ℕ) (x : Selector) (xs : Selectors) (t : VariableType) (o : Option VariableType)
@@ -79,11 +80,11 @@ one_selector : (text : Declared) (at : ℕ) (x : Selector) (xs : Selectors) (t :
     → (u : VariableType) × (o ≡ Some u) × (wrong_selectors text at u xs ≡ [])
 one_selector text at x xs t (Some u) is known h = (u, refl, h)
 one_selector text at (member x) xs t None is known h =
-    let wrong = breaking UnknownName (x.place ∷ []) in
+    let wrong = breaking (NoMember (type_word t)) (x.place ∷ []) in
     let none : wrong ≡ [] = subst (λ b. ◌≡◌ {A = List Broken} (if b then [] else wrong) []) known h in
     absurd (cc)
 one_selector text at (subscript e) xs t None is known h =
-    let wrong = breaking WrongType (at ∷ []) in
+    let wrong = breaking (NotArray (type_word t)) (at ∷ []) in
     let none : wrong ≡ [] = subst (λ b. ◌≡◌ {A = List Broken} (if b then [] else wrong) []) known h in
     absurd (cc)
 
@@ -108,7 +109,7 @@ pub record IsThere (env : Environment) (x : Identifier) (xs : Selectors) : Type 
 
 abbrev variable_faults : Environment → Identifier → Selectors → Option VariableType → List Broken
 variable_faults env x xs o =
-    elim o [ Some t ↦ wrong_selectors env.text x.place t xs | None ↦ breaking UnknownName (x.place ∷ []) ]
+    elim o [ Some t ↦ wrong_selectors env.text x.place t xs | None ↦ breaking Undeclared (x.place ∷ []) ]
 
 variable_named : (env : Environment) → AreKnown env → (x : Identifier) (xs : Selectors) (o : Option VariableType)
     → type_of_name env x.name ≡ o
@@ -200,7 +201,8 @@ pub typing_known : (env : Environment) → AreKnown env → (k : Option Kind) (e
 typing_known env known k (literal l) h = literal_known env.text k l env refl (own_part env k (literal l) h)
 typing_known env known k (read v) h = read_known env known k v (own_part env k (read v) h)
 typing_known env known k (call f es) h =
-    call_known env known f.place f.name (demands_of env (callee_of env f.name) es) es (kinds_of (typings_of env es))
+    call_known env known f.place f.name (demands_of env f.place (callee_of env f.name) es) es
+    (kinds_of (typings_of env es))
     (callee_of env f.name) refl (own_part env k (call f es) h)
 typing_known env known k (parenthesis at e) h = typing_known env known k e h
 typing_known env known k (unary op at e) h =

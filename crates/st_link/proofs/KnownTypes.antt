@@ -27,7 +27,7 @@ use Rattle.st_meaning.specs.Scopes.{Name}
 use Rattle.st_meaning.specs.NameTypes.{Declared, declared_in, is_named, type_named, unit_named, elementary, result_type}
 use Rattle.st_meaning.specs.NameTypes.{type_in_blocks, variable_type, member_kind, sections_of, variable_of_block}
 use Rattle.st_meaning.specs.NameTypes.{block_variable, member_type, selected_type, is_output, type_in_sections, element_type, field_type}
-use Rattle.st_rules.specs.declared.rule.Rule.TheVariants.{WrongType}
+use Rattle.st_rules.specs.declared.reason.Reason.TheVariants.{HasParts, InstanceWithValue}
 use Rattle.st_rules.specs.Faults.{breaking, in_case}
 use Rattle.st_rules.specs.Environments.{is_block, is_block_type}
 use Rattle.st_rules.specs.Typings.{typing_of_named, typing_of_type, is_nothing, is_composite}
@@ -77,17 +77,17 @@ pub record TypesRight (source : Source) : Type 0 where
 -- the three rules on a declaration
 pub record DeclaringRight (text : Declared) (d : Declaring) : Type 0 where
   pub name : wrong_name text (may_be_instance d.role) d.declared ≡ []
-  pub whole : breaking WrongType
+  pub whole : breaking HasParts
       (in_case (is_without_parts d.role && is_composite (typing_of_type text (Some d.declared)))
       (place_of_type d.declared)) ≡ []
 
 pub declaring_right : (text : Declared) (d : Declaring) → wrong_declaring text d ≡ [] → DeclaringRight text d
 declaring_right text d h =
     let one = wrong_name text (may_be_instance d.role) d.declared in
-    let two = breaking WrongType
+    let two = breaking HasParts
     (in_case (is_without_parts d.role && is_composite (typing_of_type text (Some d.declared)))
     (place_of_type d.declared)) in
-    let three = breaking WrongType (in_case (is_block_type text d.declared && is_some d.initial)
+    let three = breaking InstanceWithValue (in_case (is_block_type text d.declared && is_some d.initial)
     (place_of_type d.declared)) in
     let front = append_first (one ++ two) three h in
     record { name = append_first one two front; whole = append_second one two front }
@@ -140,7 +140,7 @@ module _ (source : Source) (right : TypesRight source) where
   pub result_known : (u : OrganisationUnit) (s : SimpleType) → Among (sources.unit u) source → u.sort ≡ function s
       → IsKnown text (types.Simple s)
   result_known u s unit is = simple_known text false s
-      (append_first (wrong_simple text false s) (breaking WrongType
+      (append_first (wrong_simple text false s) (breaking HasParts
       (in_case (is_composite (typing_of_type text (Some (types.Simple s)))) (place_of_simple s)))
       (result_right u s unit is))
 

@@ -1,14 +1,14 @@
 -- Consequences of a name not being a wrong type.
 use Rattle.std.proofs.Common.{◌≡◌, refl, ℕ, Bool, true, false, ◌||◌, if◌then◌else◌, List, [], ◌∷◌}
-use Rattle.st_rules.specs.declared.rule.Rule.TheVariants.{UnknownName, WrongType}
+use Rattle.st_rules.specs.declared.reason.Reason.TheVariants.{Undeclared, NotType, NoInstanceAllowed}
 use Rattle.st_rules.specs.declared.rule.Broken.{Broken}
 use Rattle.st_rules.specs.Faults.{breaking, unless}
 
 -- the faults of a name by whether it is a type's, a block's and another unit's, and whether an instance is allowed there
 abbrev pub named_faults : Bool → Bool → Bool → Bool → ℕ → List Broken
 named_faults type block other may at =
-    if type then [] else if block then breaking WrongType (unless may at)
-    else if other then breaking WrongType (at ∷ []) else breaking UnknownName (at ∷ [])
+    if type then [] else if block then breaking NoInstanceAllowed (unless may at)
+    else if other then breaking NotType (at ∷ []) else breaking Undeclared (at ∷ [])
 
 -- it is a type's or a block's
 pub named_something : (type block other may : Bool) (at : ℕ) → named_faults type block other may at ≡ []

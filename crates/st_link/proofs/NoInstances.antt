@@ -17,7 +17,7 @@ use Rattle.st_meaning.specs.StandardFunctions.{standard_of}
 use Rattle.st_meaning.specs.Scopes.{Name}
 use Rattle.st_meaning.specs.NameTypes.{Declared, declared_in, is_named, type_named, unit_named, result_type}
 use Rattle.st_meaning.specs.NameTypes.{type_in_blocks, variable_type}
-use Rattle.st_rules.specs.declared.rule.Rule.TheVariants.{WrongType}
+use Rattle.st_rules.specs.declared.reason.Reason.TheVariants.{HasParts}
 use Rattle.st_rules.specs.Faults.{breaking, in_case}
 use Rattle.st_rules.specs.Environments.{is_block, is_instance}
 use Rattle.st_rules.specs.Typings.{typing_of_type, is_composite}
@@ -47,7 +47,7 @@ module _ (source : Source) (right : TypesRight source) (names : NamesRight sourc
   text = declared_in source
 
   result_simple : wrong_simple text false result ≡ []
-  result_simple = append_first (wrong_simple text false result) (breaking WrongType
+  result_simple = append_first (wrong_simple text false result) (breaking HasParts
       (in_case (is_composite (typing_of_type text (Some (types.Simple result)))) (place_of_simple result)))
       (result_right source right u result unit sort)
 

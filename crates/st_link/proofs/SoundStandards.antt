@@ -21,13 +21,15 @@ use Rattle.st_meaning.specs.Resolution.{common_kind, standard_kind}
 use Rattle.st_rules.specs.declared.demand.Sorts.{Sorts}
 use Rattle.st_rules.specs.declared.demand.Demand.{Demand}
 use Rattle.st_rules.specs.declared.demand.Demand.TheVariants.{Asked as asked}
+use Rattle.st_rules.specs.declared.demand.Purpose.{Purpose}
+use Rattle.st_rules.specs.declared.demand.Purpose.TheVariants.{Argument}
 use Rattle.st_rules.specs.declared.demand.Sorts.TheVariants.{Any as any}
 use Rattle.st_rules.specs.declared.typings.Typing.{Typing}
 use Rattle.st_rules.specs.declared.typings.Typing.TheVariants.{Untyped as untyped, Elementary as elementary}
 use Rattle.st_rules.specs.declared.typings.Typing.TheVariants.{Composite as composite, Nothing as nothing}
 use Rattle.st_rules.specs.Environments.{Environment}
 use Rattle.st_rules.specs.Demands.{expected_of, demands_of_standard}
-use Rattle.st_rules.specs.Typings.{kind_of, kinds_of, typing_of, typings_of, settled, allows}
+use Rattle.st_rules.specs.Typings.{kind_of, kinds_of, typing_of, typings_of, settled, fits, allows}
 use Rattle.st_link.specs.Soundness.{IsOf, AreOf}
 use Rattle.st_link.proofs.Alikes.{Succeeds, Gives, failed}
 use Rattle.st_link.proofs.OperatorLemmas.{is_of_kind, in_range_gives, same_kinds}
@@ -59,7 +61,7 @@ own_typed nothing k l h i = absurd (cc)
 
 -- an operand of the common type
 common_typed : (c : Option Kind) (t : Typing) (ss : Sorts) (k l : Kind) → settled c t ≡ elementary k
-    → allows (asked c ss) (elementary k) ≡ true → or_kind c (Some Lint) ≡ Some l → (c ≡ None → kind_of t ≡ None) → k ≡ l
+    → fits c ss (elementary k) ≡ true → or_kind c (Some Lint) ≡ Some l → (c ≡ None → kind_of t ≡ None) → k ≡ l
 common_typed (Some c) t ss k l h m i u =
     same_kind_is k c (and_parts (same_kind k c) _ m).0 ∙ some_same c l i
 common_typed None untyped ss k l h m i u = sym (elementary_same Lint k h) ∙ some_same Lint l i
@@ -100,100 +102,108 @@ converted k l x true h =
 converted k l x false h = absurd (cc)
 
 -- one operand, without an expected type
-abbrev lone : Environment → Sorts → Expr → Datum → Type 0
-lone env ss e v = FitsPlace env (asked None ss) e v
+abbrev lone : Environment → Sorts → Purpose → Expr → Datum → Type 0
+lone env ss p e v = FitsPlace env (asked None ss p) e v
 
-lone_kind : (env : Environment) (ss : Sorts) (e : Expr) (v : Datum) (l : Kind) → lone env ss e v
+lone_kind : (env : Environment) (ss : Sorts) (p : Purpose) (e : Expr) (v : Datum) (l : Kind) → lone env ss p e v
     → or_kind (kind_of (typing_of env e)) (Some Lint) ≡ Some l → IsOf l v
-lone_kind env ss e v l h i = is_of_kind h.kind l v (own_typed (typing_of env e) h.kind l h.typed i) h.is_of
+lone_kind env ss p e v l h i = is_of_kind h.kind l v (own_typed (typing_of env e) h.kind l h.typed i) h.is_of
 
-shift_succeeds : (env : Environment) (move : ℕ → ℕ → ℕ → ℕ) (ss : Sorts) (e : Expr) (v n : Datum) (l : Kind)
-    → lone env ss e v → or_kind (kind_of (typing_of env e)) (Some Lint) ≡ Some l
+shift_succeeds : (env : Environment) (move : ℕ → ℕ → ℕ → ℕ) (ss : Sorts) (p : Purpose) (e : Expr) (v n : Datum)
+    (l : Kind)
+    → lone env ss p e v → or_kind (kind_of (typing_of env e)) (Some Lint) ≡ Some l
     → Succeeds (IsOf l) (failing (shifted move v n.number))
-shift_succeeds env move ss e v n l h i =
-    let is = lone_kind env ss e v l h i in
+shift_succeeds env move ss p e v n l h i =
+    let is = lone_kind env ss p e v l h i in
     of_kind_gives l l v (shifted move v n.number) is.kind refl (shifted_gives move v n.number)
 
-operand_is : (env : Environment) (c : Option Kind) (ss : Sorts) (e : Expr) (v : Datum) (l : Kind)
-    → FitsPlace env (asked c ss) e v → or_kind c (Some Lint) ≡ Some l → (c ≡ None → kind_of (typing_of env e) ≡ None)
+operand_is : (env : Environment) (c : Option Kind) (ss : Sorts) (p : Purpose) (e : Expr) (v : Datum) (l : Kind)
+    → FitsPlace env (asked c ss p) e v → or_kind c (Some Lint) ≡ Some l → (c ≡ None → kind_of (typing_of env e) ≡ None)
     → IsOf l v
-operand_is env c ss e v l h i u =
+operand_is env c ss p e v l h i u =
     is_of_kind h.kind l v (common_typed c (typing_of env e) ss h.kind l h.typed h.right i u) h.is_of
 
 -- operands of one type, of which the first two or all three exist
 abbrev kind_in : Environment → Expr → Option Kind
 kind_in env e = kind_of (typing_of env e)
 
-lesser_is : (env : Environment) (ss : Sorts) (a b : Expr) (x y : Datum) (l : Kind) (t : Bool)
-    → FitsPlace env (asked (or_kind (kind_in env a) (kind_in env b)) ss) a x
-    → FitsPlace env (asked (or_kind (kind_in env a) (kind_in env b)) ss) b y
+lesser_is : (env : Environment) (ss : Sorts) (p : Purpose) (a b : Expr) (x y : Datum) (l : Kind) (t : Bool)
+    → FitsPlace env (asked (or_kind (kind_in env a) (kind_in env b)) ss p) a x
+    → FitsPlace env (asked (or_kind (kind_in env a) (kind_in env b)) ss p) b y
     → or_kind (or_kind (kind_in env a) (kind_in env b)) (Some Lint) ≡ Some l → IsOf l (if t then x else y)
-lesser_is env ss a b x y l t f g i =
+lesser_is env ss p a b x y l t f g i =
     let c = or_kind (kind_in env a) (kind_in env b) in
-    either_is l t x y (operand_is env c ss a x l f i (first_none (kind_in env a) (kind_in env b)))
-    (operand_is env c ss b y l g i (second_none (kind_in env a) (kind_in env b)))
+    either_is l t x y (operand_is env c ss p a x l f i (first_none (kind_in env a) (kind_in env b)))
+    (operand_is env c ss p b y l g i (second_none (kind_in env a) (kind_in env b)))
 
-selected_is : (env : Environment) (ss : Sorts) (a b : Expr) (x y : Datum) (l : Kind) (t : Bool)
-    → FitsPlace env (asked (or_kind (kind_in env a) (kind_in env b)) ss) a x
-    → FitsPlace env (asked (or_kind (kind_in env a) (kind_in env b)) ss) b y
+selected_is : (env : Environment) (ss : Sorts) (p : Purpose) (a b : Expr) (x y : Datum) (l : Kind) (t : Bool)
+    → FitsPlace env (asked (or_kind (kind_in env a) (kind_in env b)) ss p) a x
+    → FitsPlace env (asked (or_kind (kind_in env a) (kind_in env b)) ss p) b y
     → or_kind (or_kind (kind_in env a) (kind_in env b)) (Some Lint) ≡ Some l → IsOf l (if t then y else x)
-selected_is env ss a b x y l t f g i =
+selected_is env ss p a b x y l t f g i =
     let c = or_kind (kind_in env a) (kind_in env b) in
-    either_is l t y x (operand_is env c ss b y l g i (second_none (kind_in env a) (kind_in env b)))
-    (operand_is env c ss a x l f i (first_none (kind_in env a) (kind_in env b)))
+    either_is l t y x (operand_is env c ss p b y l g i (second_none (kind_in env a) (kind_in env b)))
+    (operand_is env c ss p a x l f i (first_none (kind_in env a) (kind_in env b)))
 
-limited_is : (env : Environment) (ss : Sorts) (m a b : Expr) (x y z : Datum) (l : Kind)
-    → FitsPlace env (asked (or_kind (kind_in env m) (or_kind (kind_in env a) (kind_in env b))) ss) m x
-    → FitsPlace env (asked (or_kind (kind_in env m) (or_kind (kind_in env a) (kind_in env b))) ss) a y
-    → FitsPlace env (asked (or_kind (kind_in env m) (or_kind (kind_in env a) (kind_in env b))) ss) b z
+limited_is : (env : Environment) (ss : Sorts) (p : Purpose) (m a b : Expr) (x y z : Datum) (l : Kind)
+    → FitsPlace env (asked (or_kind (kind_in env m) (or_kind (kind_in env a) (kind_in env b))) ss p) m x
+    → FitsPlace env (asked (or_kind (kind_in env m) (or_kind (kind_in env a) (kind_in env b))) ss p) a y
+    → FitsPlace env (asked (or_kind (kind_in env m) (or_kind (kind_in env a) (kind_in env b))) ss p) b z
     → or_kind (or_kind (kind_in env m) (or_kind (kind_in env a) (kind_in env b))) (Some Lint) ≡ Some l
     → IsOf l (lesser (greater y x) z)
-limited_is env ss m a b x y z l f g h i =
+limited_is env ss p m a b x y z l f g h i =
     let j = kind_in env m in
     let k = kind_in env a in
     let n = kind_in env b in
     let c = or_kind j (or_kind k n) in
-    let one = operand_is env c ss m x l f i (first_none j (or_kind k n)) in
-    let two = operand_is env c ss a y l g i (λ e. first_none k n (second_none j (or_kind k n) e)) in
-    let three = operand_is env c ss b z l h i (λ e. second_none k n (second_none j (or_kind k n) e)) in
+    let one = operand_is env c ss p m x l f i (first_none j (or_kind k n)) in
+    let two = operand_is env c ss p a y l g i (λ e. first_none k n (second_none j (or_kind k n) e)) in
+    let three = operand_is env c ss p b z l h i (λ e. second_none k n (second_none j (or_kind k n) e)) in
     either_is l _ (greater y x) z (either_is l _ y x two one) three
 
-absolute_succeeds : (env : Environment) (ss : Sorts) (e : Expr) (v : Datum) (l : Kind) → lone env ss e v
+absolute_succeeds : (env : Environment) (ss : Sorts) (p : Purpose) (e : Expr) (v : Datum) (l : Kind) → lone env ss p e v
     → or_kind (kind_in env e) (Some Lint) ≡ Some l → Succeeds (IsOf l) (standard_value ABS (v ∷ []))
-absolute_succeeds env ss e v l f i =
-    let is = lone_kind env ss e v l f i in
+absolute_succeeds env ss p e v l f i =
+    let is = lone_kind env ss p e v l f i in
     of_kind_gives l l v (in_range v.kind _) is.kind refl (in_range_gives v.kind _)
 
-conversion_succeeds : (env : Environment) (k m l : Kind) (e : Expr) (v : Datum) → FitsPlace env (asked (Some k) any) e v
-    → Some m ≡ Some l → Succeeds (IsOf l) (standard_value (CONVERT k m) (v ∷ []))
-conversion_succeeds env k m l e v f i =
+conversion_succeeds : (env : Environment) (k m l : Kind) (p : Purpose) (e : Expr) (v : Datum)
+    → FitsPlace env (asked (Some k) any p) e v → Some m ≡ Some l
+    → Succeeds (IsOf l) (standard_value (CONVERT k m) (v ∷ []))
+conversion_succeeds env k m l p e v f i =
     let same = (and_parts (same_kind f.kind k) _ f.right).0 in
     let kind : v.kind ≡ k = f.is_of.kind ∙ same_kind_is f.kind k same in
     subst (λ j. Succeeds (IsOf j) (standard_value (CONVERT k m) (v ∷ []))) (some_same m l i)
     (converted k m v (same_kind v.kind k) (same_kinds v.kind k kind))
 
 -- The value of a standard function on arguments that fit is one of its type.
-pub standard_succeeds : (env : Environment) (std : Standard) {es : Exprs} {vs : List Datum} (l : Kind)
-    → FitPlaces env (demands_of_standard std (common_kind std (kinds_of (typings_of env es)))) es vs
+pub standard_succeeds : (env : Environment) (at : ℕ) (std : Standard) {es : Exprs} {vs : List Datum} (l : Kind)
+    → FitPlaces env (demands_of_standard at std (common_kind std (kinds_of (typings_of env es)))) es vs
     → standard_kind std (kinds_of (typings_of env es)) ≡ Some l → Succeeds (IsOf l) (standard_value std vs)
-standard_succeeds env ABS l (one_more f none) i = absolute_succeeds env _ _ _ l f i
-standard_succeeds env MIN l (one_more f (one_more g none)) i = lesser_is env _ _ _ _ _ l _ f g i
-standard_succeeds env MAX l (one_more f (one_more g none)) i = lesser_is env _ _ _ _ _ l _ f g i
-standard_succeeds env LIMIT l (one_more f (one_more g (one_more h none))) i =
-    limited_is env _ _ _ _ _ _ _ l f g h i
-standard_succeeds env SEL l (one_more f (one_more g (one_more h none))) i = selected_is env _ _ _ _ _ l _ g h i
-standard_succeeds env SHL l (one_more f (one_more {v = n} g none)) i = shift_succeeds env bits_up _ _ _ n l f i
-standard_succeeds env SHR l (one_more f (one_more {v = n} g none)) i = shift_succeeds env bits_down _ _ _ n l f i
-standard_succeeds env ROL l (one_more f (one_more {v = n} g none)) i = shift_succeeds env bits_turned _ _ _ n l f i
-standard_succeeds env ROR l (one_more f (one_more {v = n} g none)) i = shift_succeeds env turned_down _ _ _ n l f i
-standard_succeeds env (CONVERT k m) l (one_more f none) i = conversion_succeeds env k m l _ _ f i
+standard_succeeds env at ABS l (one_more f none) i = absolute_succeeds env _ (Argument at) _ _ l f i
+standard_succeeds env at MIN l (one_more f (one_more g none)) i = lesser_is env _ (Argument at) _ _ _ _ l _ f g i
+standard_succeeds env at MAX l (one_more f (one_more g none)) i = lesser_is env _ (Argument at) _ _ _ _ l _ f g i
+standard_succeeds env at LIMIT l (one_more f (one_more g (one_more h none))) i =
+    limited_is env _ (Argument at) _ _ _ _ _ _ l f g h i
+standard_succeeds env at SEL l (one_more f (one_more g (one_more h none))) i =
+    selected_is env _ (Argument at) _ _ _ _ l _ g h i
+standard_succeeds env at SHL l (one_more f (one_more {v = n} g none)) i =
+    shift_succeeds env bits_up _ (Argument at) _ _ n l f i
+standard_succeeds env at SHR l (one_more f (one_more {v = n} g none)) i =
+    shift_succeeds env bits_down _ (Argument at) _ _ n l f i
+standard_succeeds env at ROL l (one_more f (one_more {v = n} g none)) i =
+    shift_succeeds env bits_turned _ (Argument at) _ _ n l f i
+standard_succeeds env at ROR l (one_more f (one_more {v = n} g none)) i =
+    shift_succeeds env turned_down _ (Argument at) _ _ n l f i
+standard_succeeds env at (CONVERT k m) l (one_more f none) i = conversion_succeeds env k m l (Argument at) _ _ f i
 
 -- arguments of a function of the text
-pub inputs_fit : (env : Environment) (inputs : List (Option Kind)) {es : Exprs} {vs : List Datum}
-    → list_all is_some inputs ≡ true → FitPlaces env (map (λ i. asked i any) inputs) es vs → AreOf inputs vs
-inputs_fit env [] s none = tt
-inputs_fit env (Some k ∷ ks) s (one_more f h) = (
+pub inputs_fit : (env : Environment) (at : ℕ) (inputs : List (Option Kind)) {es : Exprs} {vs : List Datum}
+    → list_all is_some inputs ≡ true → FitPlaces env (map (λ i. asked i any (Argument at)) inputs) es vs
+    → AreOf inputs vs
+inputs_fit env at [] s none = tt
+inputs_fit env at (Some k ∷ ks) s (one_more f h) = (
   is_of_kind f.kind k _ (same_kind_is f.kind k (and_parts (same_kind f.kind k) _ f.right).0) f.is_of,
-  inputs_fit env ks s h,
+  inputs_fit env at ks s h,
 )
-inputs_fit env (None ∷ ks) s (one_more f h) = absurd (cc)
+inputs_fit env at (None ∷ ks) s (one_more f h) = absurd (cc)

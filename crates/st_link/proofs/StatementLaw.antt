@@ -31,6 +31,8 @@ use Rattle.st_meaning.specs.ResolvedUnits.{kind_there, resolved_label, resolved_
 use Rattle.st_meaning.specs.ResolvedUnits.{resolved_case_arms}
 use Rattle.st_meaning.specs.Runs.{store_of}
 use Rattle.st_rules.specs.declared.demand.Sorts.TheVariants.{Selecting as selecting}
+use Rattle.st_rules.specs.declared.demand.Purpose.{Purpose}
+use Rattle.st_rules.specs.declared.demand.Purpose.TheVariants as purposes
 use Rattle.st_rules.specs.declared.demand.Demand.{Demand}
 use Rattle.st_rules.specs.declared.demand.Demand.TheVariants.{Asked as asked}
 use Rattle.st_rules.specs.Environments.{Environment, type_of_name, section_of}
@@ -91,11 +93,11 @@ module _ (env : Environment) (w : Scope) (u v : Units) (i j : StuckFaults) (I : 
   premises s is = record { agrees = agrees s is; units = units; known = known }
 
   -- an expression of the type that a place demands
-  pub exact_alike : (k : Kind) (e : Expr) → wrong_expression env (exactly k) e ≡ [] → (s : Store) → I s
+  pub exact_alike : (k : Kind) (p : Purpose) (e : Expr) → wrong_expression env (exactly k p) e ≡ [] → (s : Store) → I s
       → RunsAlike (IsOf k) (value one s (tree (Some k) e)) (value two s (tree (Some k) e))
-  exact_alike k e h s is =
-      let within = inside env (exactly k) e h in
-      let kind = exact_kind k (settled (Some k) (typing_of env e)) (asked_right env (exactly k) e h)
+  exact_alike k p e h s is =
+      let within = inside env (exactly k p) e h in
+      let kind = exact_kind k (settled (Some k) (typing_of env e)) (asked_right env (exactly k p) e h)
       (settled_known (Some k) (typing_of env e) (typing_known env known (Some k) e within)) in
       record { ends = λ b. value_alike env w s u v i j (premises s is) (Some k) e within k kind b }
 
@@ -103,7 +105,8 @@ module _ (env : Environment) (w : Scope) (u v : Units) (i j : StuckFaults) (I : 
       → RunsAlike Whatever (truth_of one (tree (Some Boolean) e) s) (truth_of two (tree (Some Boolean) e) s)
   unfolding truth_of
   test_alike e h s is =
-      both_then (exact_alike Boolean e h s is) (λ x of. both_attempt Whatever i j (condition_of x) (truth_succeeds x of))
+      both_then (exact_alike Boolean purposes.Condition e h s is)
+      (λ x of. both_attempt Whatever i j (condition_of x) (truth_succeeds x of))
 
   -- statements
   abbrev Ends : Run End → Run End → Type 0
@@ -161,27 +164,28 @@ module _ (env : Environment) (w : Scope) (u v : Units) (i j : StuckFaults) (I : 
         (subst (λ m. Gives (IsOf m) (in_range n.kind (n.number +ℤ step))) of.kind
         (in_range_gives n.kind (n.number +ℤ step)))))
 
-    step_alike : (step : Option Expr) → RootsRight env (roots_of_step (exactly k) step) → (s : Store) → I s
+    step_alike : (p : Purpose) (step : Option Expr) → RootsRight env (roots_of_step (exactly k p) step) → (s : Store)
+        → I s
         → RunsAlike {A = ℤ} (λ _. Unit {0}) (step_of one s (option_map (tree (Some k)) step))
         (step_of two s (option_map (tree (Some k)) step))
-    step_alike None h s is = both_give {A = ℤ} (λ _. Unit {0}) (pos 1) tt
-    step_alike (Some e) h s is =
-        both_then (exact_alike k e (first_root env (exactly k) e [] h).0 s is)
+    step_alike p None h s is = both_give {A = ℤ} (λ _. Unit {0}) (pos 1) tt
+    step_alike p (Some e) h s is =
+        both_then (exact_alike k p e (first_root env (exactly k p) e [] h).0 s is)
         (λ n of. both_give {A = ℤ} (λ _. Unit {0}) n.number tt)
 
-    counting_alike : (start limit : Expr) (step : Option Expr) (body body' : Store → Run End)
-        → RootsRight env (node (exactly k) start ∷ node (exactly k) limit ∷ roots_of_step (exactly k) step)
+    counting_alike : (p : Purpose) (start limit : Expr) (step : Option Expr) (body body' : Store → Run End)
+        → RootsRight env (node (exactly k p) start ∷ node (exactly k p) limit ∷ roots_of_step (exactly k p) step)
         → Bodies body body' → (s : Store) → I s
         → Ends
         (counting one here (tree (Some k) start) (tree (Some k) limit) (option_map (tree (Some k)) step) body s)
         (counting two here (tree (Some k) start) (tree (Some k) limit) (option_map (tree (Some k)) step) body' s)
-    counting_alike start limit step body body' h bodies s is =
-        let first = first_root env (exactly k) start
-        (node (exactly k) limit ∷ roots_of_step (exactly k) step) h in
-        let second = first_root env (exactly k) limit (roots_of_step (exactly k) step) first.1 in
-        both_then (exact_alike k start first.0 s is)
-        (λ n of. both_then (exact_alike k limit second.0 s is)
-        (λ m _. both_then (step_alike step second.1 s is)
+    counting_alike p start limit step body body' h bodies s is =
+        let first = first_root env (exactly k p) start
+        (node (exactly k p) limit ∷ roots_of_step (exactly k p) step) h in
+        let second = first_root env (exactly k p) limit (roots_of_step (exactly k p) step) first.1 in
+        both_then (exact_alike k p start first.0 s is)
+        (λ n of. both_then (exact_alike k p limit second.0 s is)
+        (λ m _. both_then (step_alike p step second.1 s is)
         (λ d _. both_then (nonzero_alike d)
         (λ _ _. both_then (assigned_alike s is n of)
         (λ t has. looped_alike I _ _ _ _
@@ -204,6 +208,7 @@ module _ (env : Environment) (w : Scope) (u v : Units) (i j : StuckFaults) (I : 
       let right = statement_right env c (FOR x start limit step xs) h in
       let control = control_right env known c x right.control in
       let k = control.kind in
+      let p = purposes.Count x.place in
       let typing = ap (λ o. typing_of_type env.text o) control.named ∙ control.typed in
       let kind : kind_there env.text (variable_type env.unit x.name) ≡ Some k =
       kind_of_declared env.text (type_of_name env x.name) ∙ ap kind_of typing in
@@ -211,22 +216,23 @@ module _ (env : Environment) (w : Scope) (u v : Units) (i j : StuckFaults) (I : 
       kind_of_declared env.text (Some control.declared) ∙ ap kind_of control.typed in
       let roots = subst
       (λ (d : Demand). RootsRight env (node d start ∷ node d limit ∷ roots_of_step d step))
-      (ap demand_of_typing typing) (roots_right env (FOR x start limit step xs) right.nodes) in
+      (ap (demand_of_typing p) typing) (roots_right env (FOR x start limit step xs) right.nodes) in
       subst (λ (o : Option Kind). Ends
       (counting one (path_in w.frame w.body x.name) (tree o start) (tree o limit) (option_map (tree o) step) body s)
       (counting two (path_in w.frame w.body x.name) (tree o start) (tree o limit) (option_map (tree o) step) body' s))
       (sym kind)
-      (counting_alike x control.declared k control.named control.free among start limit step body body' roots bodies s is)
+      (counting_alike x control.declared k control.named control.free among p start limit step body body' roots bodies s
+      is)
 
   -- the selector of a CASE
-  selector_alike : (e : Expr) → wrong_expression env (asked None selecting) e ≡ [] → (s : Store) → I s
+  selector_alike : (e : Expr) → wrong_expression env (asked None selecting purposes.Selector) e ≡ [] → (s : Store) → I s
       → RunsAlike {A = Datum} (λ _. Unit {0}) (value one s (tree None e)) (value two s (tree None e))
   selector_alike e h s is =
-      let kind = kind_asked env known None selecting e h in
+      let kind = kind_asked env known None selecting purposes.Selector e h in
       both_as {P = IsOf kind.0} (λ _ _. tt) (record {
         ends =
-            λ b. value_alike env w s u v i j (premises s is) None e (inside env (asked None selecting) e h) kind.0 kind.1
-            b;
+            λ b. value_alike env w s u v i j (premises s is) None e
+            (inside env (asked None selecting purposes.Selector) e h) kind.0 kind.1 b;
       })
 
   module _ (calls : (c : Context) (x : Identifier) (arguments : List Argument) (s : Store) → I s
@@ -252,7 +258,7 @@ module _ (env : Environment) (w : Scope) (u v : Units) (i j : StuckFaults) (I : 
       exec_alike c (CASE e arms otherwise) h below s is =
           let right = statement_right env c (CASE e arms otherwise) h in
           let parts = body_split env (statements_of_case_arms c arms) (statements_of c otherwise) below in
-          let selector = first_root env (asked None selecting) e []
+          let selector = first_root env (asked None selecting purposes.Selector) e []
           (roots_right env (CASE e arms otherwise) right.nodes) in
           both_tick (both_then (selector_alike e selector.0 s is)
           (λ n _. case_alike c n.number (own_kind env.text env.unit e) arms parts.0 _ _

@@ -24,10 +24,13 @@ use Rattle.st_meaning.specs.StandardBlocks.{StandardBlock, block_of, inputs_of, 
 use Rattle.st_rules.specs.declared.demand.Sorts.TheVariants.{Selecting as selecting, NoSort as no_sort}
 use Rattle.st_rules.specs.declared.demand.Demand.{Demand}
 use Rattle.st_rules.specs.declared.demand.Demand.TheVariants.{Asked as asked}
-use Rattle.st_rules.specs.declared.rule.Rule.TheVariants.{WrongType}
+use Rattle.st_rules.specs.declared.demand.Purpose.{Purpose}
+use Rattle.st_rules.specs.declared.demand.Purpose.TheVariants as purposes
+use Rattle.st_rules.specs.declared.reason.TypeWord.{TypeWord}
 use Rattle.st_rules.specs.declared.typings.Typing.{Typing}
 use Rattle.st_rules.specs.declared.typings.Typing.TheVariants.{Untyped as untyped, Elementary as elementary}
 use Rattle.st_rules.specs.declared.typings.Typing.TheVariants.{Composite as composite, Nothing as nothing}
+use Rattle.st_rules.specs.Reasons.{type_word}
 use Rattle.st_rules.specs.Environments.{Environment, type_of_name, type_of_place, section_of, is_block, input_of}
 use Rattle.st_rules.specs.Environments.{output_of}
 use Rattle.st_rules.specs.Demands.{condition, exactly}
@@ -78,10 +81,11 @@ module _ (env : Environment) (t : Table) (orderly : IsOrderly env) (serves : Ser
   tree k e = resolved_expr env.text env.unit k e
 
   -- an expression of the type that a place demands
-  exact_linked : (k : Kind) (e : Expr) → wrong_expression env (exactly k) e ≡ [] → IsLinked (linked t (tree (Some k) e))
-  exact_linked k e h =
-      let within = inside env (exactly k) e h in
-      let kind = exact_kind k (settled (Some k) (typing_of env e)) (asked_right env (exactly k) e h)
+  exact_linked : (k : Kind) (p : Purpose) (e : Expr) → wrong_expression env (exactly k p) e ≡ []
+      → IsLinked (linked t (tree (Some k) e))
+  exact_linked k p e h =
+      let within = inside env (exactly k p) e h in
+      let kind = exact_kind k (settled (Some k) (typing_of env e)) (asked_right env (exactly k p) e h)
       (settled_known (Some k) (typing_of env e) (typing_known env orderly.known (Some k) e within)) in
       expr_linked env t orderly serves (Some k) e within k kind
 
@@ -104,23 +108,23 @@ module _ (env : Environment) (t : Table) (orderly : IsOrderly env) (serves : Ser
   assigned k v e = option_and_then (λ p. option_map (assign p) (linked t (tree k e)))
       (linked_target t (resolved_variable env.text env.unit v))
 
-  assigning_linked : (x : Identifier) (xs : Selectors) (e : Expr) (there : IsThere env x xs)
+  assigning_linked : (p : Purpose) (x : Identifier) (xs : Selectors) (e : Expr) (there : IsThere env x xs)
       → is_fixed (section_of env x.name) ≡ false → flat_map (wrong_node env) (nodes_of_place env (variable x xs)) ≡ []
       → (ty : Typing) → typing_of_type env.text (Some there.behind.type_is) ≡ ty → is_nothing ty ≡ false
-      → is_untyped_typing ty ≡ false → wrong_expression env (demand_of_typing ty) e ≡ []
+      → is_untyped_typing ty ≡ false → wrong_expression env (demand_of_typing p ty) e ≡ []
       → IsLinked (assigned (kind_of ty) (variable x xs) e)
-  assigning_linked x xs e there free parts untyped is k n h = absurd (cc)
-  assigning_linked x xs e there free parts nothing is k n h = absurd (cc)
-  assigning_linked x xs e there free parts composite is k n h =
-      let d = asked None no_sort in
+  assigning_linked p x xs e there free parts untyped is k n h = absurd (cc)
+  assigning_linked p x xs e there free parts nothing is k n h = absurd (cc)
+  assigning_linked p x xs e there free parts composite is k n h =
+      let d = asked None no_sort p in
       absurd (composite_refused (settled None (typing_of env e)) (asked_right env d e h)
       (settled_known None (typing_of env e) (typing_known env orderly.known None e (inside env d e h))))
-  assigning_linked x xs e there free parts (elementary k) is known n h =
+  assigning_linked p x xs e there free parts (elementary k) is known n h =
       let among = kind_of_declared env.text (Some there.behind.type_is) ∙ ap kind_of is in
       linked_and (λ p. option_map (assign p) (linked t (tree (Some k) e)))
       (linked_target t (resolved_variable env.text env.unit (variable x xs)))
       (place_linked x xs there k among free parts)
-      (λ p. linked_map (assign p) (linked t (tree (Some k) e)) (exact_linked k e h))
+      (λ q. linked_map (assign q) (linked t (tree (Some k) e)) (exact_linked k p e h))
 
   assign_linked : (c : Context) (x : Identifier) (xs : Selectors) (e : Expr)
       → wrong_statement env (placed c (text.assign (variable x xs) e)) ≡ []
@@ -135,10 +139,10 @@ module _ (env : Environment) (t : Table) (orderly : IsOrderly env) (serves : Ser
       ≡ kind_of (typing_of_type env.text (Some there.behind.type_is)) =
       kind_of_declared env.text (type_of_place env v) ∙ ap (λ o. kind_of (typing_of_type env.text o)) is in
       subst (λ (k : Option Kind). IsLinked (assigned k v e)) (sym kind)
-      (assigning_linked x xs e there target.free right.1
+      (assigning_linked (purposes.Assigned x.place) x xs e there target.free right.1
       (typing_of_type env.text (Some there.behind.type_is)) refl there.behind.known
       (sym (untyped_declared env.text (Some there.behind.type_is)))
-      (subst (λ o. wrong_expression env (demand_of_type env o) e ≡ []) is right.0))
+      (subst (λ o. wrong_expression env (demand_of_type env (purposes.Assigned x.place) o) e ≡ []) is right.0))
 
   -- an expression at a place of a declared type
   record Valued (s : VariableType) (e : Expr) : Type 0 where
@@ -146,24 +150,24 @@ module _ (env : Environment) (t : Table) (orderly : IsOrderly env) (serves : Ser
     pub among : kind_among env.text.types s ≡ Some kind
     pub linked : IsLinked (linked t (tree (Some kind) e))
 
-  valued_by : (s : VariableType) (e : Expr) (ty : Typing) → typing_of_type env.text (Some s) ≡ ty
-      → is_nothing ty ≡ false → is_untyped_typing ty ≡ false → wrong_expression env (demand_of_typing ty) e ≡ []
+  valued_by : (p : Purpose) (s : VariableType) (e : Expr) (ty : Typing) → typing_of_type env.text (Some s) ≡ ty
+      → is_nothing ty ≡ false → is_untyped_typing ty ≡ false → wrong_expression env (demand_of_typing p ty) e ≡ []
       → Valued s e
-  valued_by s e untyped is k n h = absurd (cc)
-  valued_by s e nothing is k n h = absurd (cc)
-  valued_by s e composite is k n h =
-      let d = asked None no_sort in
+  valued_by p s e untyped is k n h = absurd (cc)
+  valued_by p s e nothing is k n h = absurd (cc)
+  valued_by p s e composite is k n h =
+      let d = asked None no_sort p in
       absurd (composite_refused (settled None (typing_of env e)) (asked_right env d e h)
       (settled_known None (typing_of env e) (typing_known env orderly.known None e (inside env d e h))))
-  valued_by s e (elementary k) is n m h = record {
+  valued_by p s e (elementary k) is n m h = record {
     kind = k;
     among = kind_of_declared env.text (Some s) ∙ ap kind_of is;
-    linked = exact_linked k e h;
+    linked = exact_linked k p e h;
   }
 
-  valued : (s : VariableType) (e : Expr) → IsKnown env.text s
-      → wrong_expression env (demand_of_type env (Some s)) e ≡ [] → Valued s e
-  valued s e is h = valued_by s e (typing_of_type env.text (Some s)) refl is
+  valued : (p : Purpose) (s : VariableType) (e : Expr) → IsKnown env.text s
+      → wrong_expression env (demand_of_type env p (Some s)) e ≡ [] → Valued s e
+  valued p s e is h = valued_by p s e (typing_of_type env.text (Some s)) refl is
       (sym (untyped_declared env.text (Some s))) h
 
   -- a call of an instance
@@ -212,12 +216,13 @@ module _ (env : Environment) (t : Table) (orderly : IsOrderly env) (serves : Ser
     output_is y = ap (option_and_then (λ s. block_variable env.text outputs_of is_output s y)) named
 
     given_linked : (y : Identifier) (e : Expr) (s : VariableType) → input_of env x.name y.name ≡ Some s
-        → wrong_expression env (demand_of_type env (input_of env x.name y.name)) e ≡ []
+        → wrong_expression env (demand_of_type env (purposes.Input y.place) (input_of env x.name y.name)) e ≡ []
         → IsLinked (linked_argument t its.members (resolved_argument env.text env.unit x.name (text.given y e)))
     given_linked y e s there h =
         let input = sym (input_is y.name) ∙ there in
-        let worth = valued s e (orderly.inputs b y.name s input)
-        (subst (λ (o : Option VariableType). wrong_expression env (demand_of_type env o) e ≡ []) there h) in
+        let p = purposes.Input y.place in
+        let worth = valued p s e (orderly.inputs b y.name s input)
+        (subst (λ (o : Option VariableType). wrong_expression env (demand_of_type env p o) e ≡ []) there h) in
         let kind : option_and_then (kind_among env.text.types) (input_of env x.name y.name) ≡ Some worth.kind =
         ap (option_and_then (kind_among env.text.types)) there ∙ worth.among in
         subst (λ (o : Option Kind). IsLinked (linked_argument t its.members (text.given y (tree o e)))) (sym kind)
@@ -228,18 +233,20 @@ module _ (env : Environment) (t : Table) (orderly : IsOrderly env) (serves : Ser
 
     copied_linked : (y z : Identifier) (zs : Selectors) (s : VariableType) → output_of env x.name y.name ≡ Some s
         → IsTarget env z zs
-        → allows (demand_of_type env (output_of env x.name y.name)) (typing_of_variable env (variable z zs)) ≡ true
+        → allows (demand_of_type env (purposes.Output y.place) (output_of env x.name y.name))
+        (typing_of_variable env (variable z zs)) ≡ true
         → flat_map (wrong_node env) (nodes_of_place env (variable z zs)) ≡ []
         → IsLinked (linked_argument t its.members
         (resolved_argument env.text env.unit x.name (text.copied y (variable z zs))))
     copied_linked y z zs s there target right parts =
         let r = target.there.behind.type_is in
         let output = sym (output_is y.name) ∙ there in
-        let kinds = demanded_kind (typing_of_type env.text (Some s)) (typing_of_type env.text (Some r))
+        let p = purposes.Output y.place in
+        let kinds = demanded_kind p (typing_of_type env.text (Some s)) (typing_of_type env.text (Some r))
         (orderly.outputs b y.name s output) (sym (untyped_declared env.text (Some s))) target.there.behind.known
-        (subst (λ (o : Option VariableType). allows (demand_of_type env (Some s)) (typing_of_type env.text o) ≡ true)
+        (subst (λ (o : Option VariableType). allows (demand_of_type env p (Some s)) (typing_of_type env.text o) ≡ true)
         (type_there env z zs target.there)
-        (subst (λ (o : Option VariableType). allows (demand_of_type env o) (typing_of_variable env (variable z zs))
+        (subst (λ (o : Option VariableType). allows (demand_of_type env p o) (typing_of_variable env (variable z zs))
         ≡ true) there right)) in
         let k = kinds.0 in
         let from : kind_among env.text.types s ≡ Some k = kind_of_declared env.text (Some s) ∙ ap kind_of kinds.1 in
@@ -262,24 +269,24 @@ module _ (env : Environment) (t : Table) (orderly : IsOrderly env) (serves : Ser
         (linked_argument t its.members (resolved_argument env.text env.unit x.name a)) h
         (λ z. linked_map (λ zs. z ∷ zs) (linked_arguments t its.members (arguments_in rest)) g)
 
-    arguments_linked : (c : Context) (before : List Name) (arguments : List Argument)
-        → wrong_arguments env x.name before arguments ≡ [] → flat_map (wrong_copy env x.name) arguments ≡ []
+    arguments_linked : (c : Context) (block : TypeWord) (before : List Name) (arguments : List Argument)
+        → wrong_arguments env block x.name before arguments ≡ [] → flat_map (wrong_copy env x.name) arguments ≡ []
         → RootsRight env (flat_map (roots_of_argument env x.name) arguments)
         → flat_map (wrong_target env c) (targets_of_arguments arguments) ≡ []
         → flat_map (wrong_node env) (flat_map (nodes_of_place env) (targets_of_arguments arguments)) ≡ []
         → IsLinked (linked_arguments t its.members (arguments_in arguments))
-    arguments_linked c before [] h copies roots targets parts = record { value = []; is = refl }
-    arguments_linked c before (text.given y e ∷ rest) h copies roots targets parts =
-        let right = place_right _ y.place (wrong_arguments env x.name (y.name ∷ before) rest) h in
+    arguments_linked c block before [] h copies roots targets parts = record { value = []; is = refl }
+    arguments_linked c block before (text.given y e ∷ rest) h copies roots targets parts =
+        let right = place_right _ _ y.place (wrong_arguments env block x.name (y.name ∷ before) rest) h in
         let input = some_there (input_of env x.name y.name)
         (and_parts (is_some (input_of env x.name y.name)) _ right.0).0 in
-        let root = first_root env (demand_of_type env (input_of env x.name y.name)) e
+        let root = first_root env (demand_of_type env (purposes.Input y.place) (input_of env x.name y.name)) e
         (flat_map (roots_of_argument env x.name) rest) roots in
         first_linked (text.given y e) rest (given_linked y e input.0 input.1 root.0)
-        (arguments_linked c (y.name ∷ before) rest right.1 copies root.1 targets parts)
-    arguments_linked c before (text.copied y (variable z zs) ∷ rest) h copies roots targets parts =
+        (arguments_linked c block (y.name ∷ before) rest right.1 copies root.1 targets parts)
+    arguments_linked c block before (text.copied y (variable z zs) ∷ rest) h copies roots targets parts =
         let a = variable z zs in
-        let right = place_right _ y.place (wrong_arguments env x.name (y.name ∷ before) rest) h in
+        let right = place_right _ _ y.place (wrong_arguments env block x.name (y.name ∷ before) rest) h in
         let output = some_there (output_of env x.name y.name)
         (and_parts (is_some (output_of env x.name y.name)) _ right.0).0 in
         let copy = wrong_copy env x.name (text.copied y a) in
@@ -293,9 +300,9 @@ module _ (env : Environment) (t : Table) (orderly : IsOrderly env) (serves : Ser
         first_linked (text.copied y a) rest
         (copied_linked y z zs output.0 output.1
         (target_is env orderly.known c z zs (append_first target other_targets targets))
-        (unless_right WrongType _ z.place (append_first copy other_copies copies))
+        (unless_right _ _ z.place (append_first copy other_copies copies))
         (append_first (flat_map (wrong_node env) nodes) (flat_map (wrong_node env) other_nodes) split))
-        (arguments_linked c (y.name ∷ before) rest right.1 (append_second copy other_copies copies) roots
+        (arguments_linked c block (y.name ∷ before) rest right.1 (append_second copy other_copies copies) roots
         (append_second target other_targets targets)
         (append_second (flat_map (wrong_node env) nodes) (flat_map (wrong_node env) other_nodes) split))
 
@@ -330,7 +337,8 @@ module _ (env : Environment) (t : Table) (orderly : IsOrderly env) (serves : Ser
       let split : flat_map (wrong_node env) roots ++ flat_map (wrong_node env) parts ≡ [] =
       sym (flat_map-append (wrong_node env) roots parts) ∙ right.nodes in
       invocation_linked x call.block call.named call.is arguments
-      (arguments_linked x call.block call.named call.is c [] arguments call.fit call.copies
+      (arguments_linked x call.block call.named call.is c (type_word (types.Simple (Named call.block))) [] arguments
+      call.fit call.copies
       (append_first (flat_map (wrong_node env) roots) (flat_map (wrong_node env) parts) split) right.targets
       (append_second (flat_map (wrong_node env) roots) (flat_map (wrong_node env) parts) split))
 
@@ -348,11 +356,11 @@ module _ (env : Environment) (t : Table) (orderly : IsOrderly env) (serves : Ser
             ∙ ap (plain_anchor z.anchor) (y.shape ∙ plain_shape env.text y.depth s k y.within among);
       }
 
-  step_linked : (k : Kind) (step : Option Expr) → RootsRight env (roots_of_step (exactly k) step)
+  step_linked : (k : Kind) (p : Purpose) (step : Option Expr) → RootsRight env (roots_of_step (exactly k p) step)
       → IsLinked (linked_step t (option_map (tree (Some k)) step))
-  step_linked k None h = record { value = None; is = refl }
-  step_linked k (Some e) h =
-      linked_map Some (linked t (tree (Some k) e)) (exact_linked k e (first_root env (exactly k) e [] h).0)
+  step_linked k p None h = record { value = None; is = refl }
+  step_linked k p (Some e) h =
+      linked_map Some (linked t (tree (Some k) e)) (exact_linked k p e (first_root env (exactly k p) e [] h).0)
 
   abbrev counted : Option Kind → Identifier → Expr → Expr → Option Expr → Option SlotStmts → Option SlotStmt
   counted o x start limit step body =
@@ -360,13 +368,14 @@ module _ (env : Environment) (t : Table) (orderly : IsOrderly env) (serves : Ser
       (λ d. option_map (FOR a i n d) body) (linked_step t (option_map (tree o) step))) (linked t (tree o limit)))
       (linked t (tree o start))) (option_and_then control_of (symbol_of t.symbols x.name))
 
-  counting_linked : (k : Kind) (x : Identifier) (start limit : Expr) (step : Option Expr) (body : Option SlotStmts)
+  counting_linked : (k : Kind) (p : Purpose) (x : Identifier) (start limit : Expr) (step : Option Expr)
+      (body : Option SlotStmts)
       → IsLinked (option_and_then control_of (symbol_of t.symbols x.name))
-      → RootsRight env (node (exactly k) start ∷ node (exactly k) limit ∷ roots_of_step (exactly k) step)
+      → RootsRight env (node (exactly k p) start ∷ node (exactly k p) limit ∷ roots_of_step (exactly k p) step)
       → IsLinked body → IsLinked (counted (Some k) x start limit step body)
-  counting_linked k x start limit step body control h bodies =
-      let first = first_root env (exactly k) start (node (exactly k) limit ∷ roots_of_step (exactly k) step) h in
-      let second = first_root env (exactly k) limit (roots_of_step (exactly k) step) first.1 in
+  counting_linked k p x start limit step body control h bodies =
+      let first = first_root env (exactly k p) start (node (exactly k p) limit ∷ roots_of_step (exactly k p) step) h in
+      let second = first_root env (exactly k p) limit (roots_of_step (exactly k p) step) first.1 in
       let from = linked t (tree (Some k) start) in
       let to = linked t (tree (Some k) limit) in
       let by = linked_step t (option_map (tree (Some k)) step) in
@@ -375,9 +384,10 @@ module _ (env : Environment) (t : Table) (orderly : IsOrderly env) (serves : Ser
       (λ i. option_and_then (λ n. option_and_then (λ d. option_map (FOR a i n d) body) by) to) from)
       (option_and_then control_of (symbol_of t.symbols x.name)) control
       (λ a. linked_and (λ i. option_and_then (λ n. option_and_then (λ d. option_map (FOR a i n d) body) by) to) from
-      (exact_linked k start first.0)
-      (λ i. linked_and (λ n. option_and_then (λ d. option_map (FOR a i n d) body) by) to (exact_linked k limit second.0)
-      (λ n. linked_and (λ d. option_map (FOR a i n d) body) by (step_linked k step second.1)
+      (exact_linked k p start first.0)
+      (λ i. linked_and (λ n. option_and_then (λ d. option_map (FOR a i n d) body) by) to
+      (exact_linked k p limit second.0)
+      (λ n. linked_and (λ d. option_map (FOR a i n d) body) by (step_linked k p step second.1)
       (λ d. linked_map (FOR a i n d) body bodies))))
 
   for_linked : (c : Context) (x : Identifier) (start limit : Expr) (step : Option Expr) (xs : Stmts)
@@ -388,6 +398,7 @@ module _ (env : Environment) (t : Table) (orderly : IsOrderly env) (serves : Ser
       let right = statement_right env c (text.FOR x start limit step xs) h in
       let control = control_right env orderly.known c x right.control in
       let k = control.kind in
+      let p = purposes.Count x.place in
       let typing = ap (λ o. typing_of_type env.text o) control.named ∙ control.typed in
       let kind : kind_there env.text (variable_type env.unit x.name) ≡ Some k =
       kind_of_declared env.text (type_of_name env x.name) ∙ ap kind_of typing in
@@ -395,16 +406,17 @@ module _ (env : Environment) (t : Table) (orderly : IsOrderly env) (serves : Ser
       kind_of_declared env.text (Some control.declared) ∙ ap kind_of control.typed in
       let roots = subst
       (λ (d : Demand). RootsRight env (node d start ∷ node d limit ∷ roots_of_step d step))
-      (ap demand_of_typing typing) (roots_right env (text.FOR x start limit step xs) right.nodes) in
+      (ap (demand_of_typing p) typing) (roots_right env (text.FOR x start limit step xs) right.nodes) in
       subst (λ (o : Option Kind). IsLinked (counted o x start limit step body)) (sym kind)
-      (counting_linked k x start limit step body
+      (counting_linked k p x start limit step body
       (control_linked x control.declared k control.named control.free among) roots bodies)
 
   -- the selector of a CASE
-  selector_linked : (e : Expr) → wrong_expression env (asked None selecting) e ≡ [] → IsLinked (linked t (tree None e))
+  selector_linked : (e : Expr) → wrong_expression env (asked None selecting purposes.Selector) e ≡ []
+      → IsLinked (linked t (tree None e))
   selector_linked e h =
-      let kind = kind_asked env orderly.known None selecting e h in
-      expr_linked env t orderly serves None e (inside env (asked None selecting) e h) kind.0 kind.1
+      let kind = kind_asked env orderly.known None selecting purposes.Selector e h in
+      expr_linked env t orderly serves None e (inside env (asked None selecting purposes.Selector) e h) kind.0 kind.1
 
   -- statements in statements
   abbrev body_of : Stmts → Option SlotStmts
@@ -465,7 +477,7 @@ module _ (env : Environment) (t : Table) (orderly : IsOrderly env) (serves : Ser
     stmt_linked c (text.CASE e arms otherwise) h below =
         let right = statement_right env c (text.CASE e arms otherwise) h in
         let parts = body_split env (statements_of_case_arms c arms) (statements_of c otherwise) below in
-        let selector = first_root env (asked None selecting) e []
+        let selector = first_root env (asked None selecting purposes.Selector) e []
         (roots_right env (text.CASE e arms otherwise) right.nodes) in
         case_linked (linked t (tree None e)) (cases_of (own_kind env.text env.unit e) arms) (body_of otherwise)
         (selector_linked e selector.0) (cases_linked c (own_kind env.text env.unit e) arms parts.0)
@@ -475,12 +487,14 @@ module _ (env : Environment) (t : Table) (orderly : IsOrderly env) (serves : Ser
     stmt_linked c (text.WHILE e body) h below =
         let right = statement_right env c (text.WHILE e body) h in
         let test = first_root env condition e [] (roots_right env (text.WHILE e body) right.nodes) in
-        while_linked (linked t (tree (Some Boolean) e)) (body_of body) (exact_linked Boolean e test.0)
+        while_linked (linked t (tree (Some Boolean) e)) (body_of body)
+        (exact_linked Boolean purposes.Condition e test.0)
         (stmts_linked (in_loop c) body below)
     stmt_linked c (text.REPEAT body e) h below =
         let right = statement_right env c (text.REPEAT body e) h in
         let test = first_root env condition e [] (roots_right env (text.REPEAT body e) right.nodes) in
-        repeat_linked (linked t (tree (Some Boolean) e)) (body_of body) (exact_linked Boolean e test.0)
+        repeat_linked (linked t (tree (Some Boolean) e)) (body_of body)
+        (exact_linked Boolean purposes.Condition e test.0)
         (stmts_linked (in_loop c) body below)
     stmt_linked c (text.EXIT at) h below = record { value = EXIT; is = refl }
     stmt_linked c text.RETURN h below = record { value = RETURN; is = refl }
@@ -501,7 +515,8 @@ module _ (env : Environment) (t : Table) (orderly : IsOrderly env) (serves : Ser
     arms_linked c (text.arm_then e body arms) roots below =
         let first = first_root env condition e (conditions_of arms) roots in
         let parts = body_split env (statements_of c body) (statements_of_arms c arms) below in
-        arm_linked (linked t (tree (Some Boolean) e)) (body_of body) (arms_of arms) (exact_linked Boolean e first.0)
+        arm_linked (linked t (tree (Some Boolean) e)) (body_of body) (arms_of arms)
+        (exact_linked Boolean purposes.Condition e first.0)
         (stmts_linked c body parts.0) (arms_linked c arms first.1 parts.1)
 
     cases_linked : (c : Context) (k : Option Kind) (arms : CaseArms) → BodyRight env (statements_of_case_arms c arms)

@@ -8,8 +8,8 @@ use Rattle.st_types.specs.declared.identifier.Identifier.{Identifier}
 use Rattle.st_types.specs.declared.data_type.VariableType.{VariableType}
 use Rattle.st_types.specs.Expressions.{Expr, variable, no_selectors}
 use Rattle.st_types.specs.Statements.{Stmt, Stmts, stmt_then}
-use Rattle.st_rules.specs.declared.rule.Rule.{Rule}
-use Rattle.st_rules.specs.declared.rule.Rule.TheVariants.{UnknownName, WrongType, NotAssignable}
+use Rattle.st_rules.specs.declared.reason.Reason.{Reason}
+use Rattle.st_rules.specs.declared.reason.Reason.TheVariants.{Undeclared, NotControl}
 use Rattle.st_rules.specs.declared.rule.Broken.{Broken}
 use Rattle.st_rules.specs.declared.demand.Sorts.TheVariants.{Whole as whole}
 use Rattle.st_rules.specs.declared.demand.Demand.{Demand}
@@ -21,7 +21,8 @@ use Rattle.st_rules.specs.Nodes.{Node, node, nodes_of, nodes_of_place}
 use Rattle.st_rules.specs.ExpressionRules.{wrong_node, wrong_expression}
 use Rattle.st_rules.specs.Statements.{Context, Placed, placed, statements_below, statements_of}
 use Rattle.st_rules.specs.Roots.{roots_of, targets_of, nodes_of_root, wrong_nodes}
-use Rattle.st_rules.specs.TargetRules.{is_fixed, is_assignable, is_own, is_control, wrong_targets, wrong_for}
+use Rattle.st_rules.specs.TargetRules.{is_fixed, is_assignable, unassignable, is_own, is_control, wrong_targets}
+use Rattle.st_rules.specs.TargetRules.{wrong_for}
 use Rattle.st_rules.specs.CallRules.{wrong_invocation}
 use Rattle.st_rules.specs.LabelRules.{wrong_case}
 use Rattle.st_rules.specs.BodyRules.{wrong_exit, wrong_statement}
@@ -99,9 +100,9 @@ first_root env d e rest h =
     )
 
 -- the control variable of a FOR
-pub unless_right : (rule : Rule) (b : Bool) (at : ℕ) → breaking rule (unless b at) ≡ [] → b ≡ true
-unless_right rule true at h = refl
-unless_right rule false at h = absurd (cc)
+pub unless_right : (reason : Reason) (b : Bool) (at : ℕ) → breaking reason (unless b at) ≡ [] → b ≡ true
+unless_right reason true at h = refl
+unless_right reason false at h = absurd (cc)
 
 pub record IsControlled (env : Environment) (x : Identifier) : Type 0 where
   pub declared : VariableType
@@ -112,19 +113,21 @@ pub record IsControlled (env : Environment) (x : Identifier) : Type 0 where
 
 abbrev control_faults : Environment → Context → Identifier → Option VariableType → List Broken
 control_faults env c x o = elim o [
-  | Some t ↦ breaking WrongType (unless (is_control env x t) x.place)
-      ++ breaking NotAssignable (unless (is_assignable env c (variable x no_selectors)) x.place)
-  | None ↦ breaking UnknownName (x.place ∷ [])
+  | Some t ↦ breaking NotControl (unless (is_control env x t) x.place)
+      ++ breaking (unassignable env c (variable x no_selectors))
+      (unless (is_assignable env c (variable x no_selectors)) x.place)
+  | None ↦ breaking Undeclared (x.place ∷ [])
 ]
 
 control_named : (env : Environment) → AreKnown env → (c : Context) (x : Identifier) (o : Option VariableType)
     → type_of_name env x.name ≡ o → control_faults env c x o ≡ [] → IsControlled env x
 control_named env known c x None is h = absurd (cc)
 control_named env known c x (Some t) is h =
-    let type_faults = breaking WrongType (unless (is_control env x t) x.place) in
-    let target_faults = breaking NotAssignable (unless (is_assignable env c (variable x no_selectors)) x.place) in
-    let right = unless_right WrongType (is_control env x t) x.place (append_first type_faults target_faults h) in
-    let assignable = unless_right NotAssignable (is_assignable env c (variable x no_selectors)) x.place
+    let type_faults = breaking NotControl (unless (is_control env x t) x.place) in
+    let reason = unassignable env c (variable x no_selectors) in
+    let target_faults = breaking reason (unless (is_assignable env c (variable x no_selectors)) x.place) in
+    let right = unless_right NotControl (is_control env x t) x.place (append_first type_faults target_faults h) in
+    let assignable = unless_right reason (is_assignable env c (variable x no_selectors)) x.place
     (append_second type_faults target_faults h) in
     let kind = met_kind None whole (typing_of_type env.text (Some t)) (and_parts (is_own (section_of env x.name)) _ right).1
     (known.types t (of_variable x.name is)) in

@@ -13,9 +13,11 @@ use Rattle.st_types.specs.Units.{OrganisationUnit}
 use Rattle.st_meaning.specs.StandardBlocks.{inputs_of, outputs_of}
 use Rattle.st_meaning.specs.Scopes.{Name}
 use Rattle.st_meaning.specs.NameTypes.{Declared, unit_named, block_variable, is_input, is_output}
-use Rattle.st_rules.specs.declared.rule.Rule.TheVariants.{WrongType, WrongArguments}
+use Rattle.st_rules.specs.declared.reason.TypeWord.{TypeWord}
+use Rattle.st_rules.specs.declared.reason.Reason.TheVariants.{NotInstance}
 use Rattle.st_rules.specs.declared.rule.Broken.{Broken}
 use Rattle.st_rules.specs.Faults.{breaking, unless}
+use Rattle.st_rules.specs.Reasons.{type_word}
 use Rattle.st_rules.specs.Environments.{Environment, type_of_name, is_block}
 use Rattle.st_rules.specs.Typings.{typing_of_type, is_nothing}
 use Rattle.st_rules.specs.CallRules.{wrong_arguments, wrong_copy, wrong_instance}
@@ -23,7 +25,6 @@ use Rattle.st_rules.specs.BodyRules.{wrong_body}
 use Rattle.st_rules.specs.Rules.{environment}
 use Rattle.st_link.specs.Soundness.{IsKnown, of_variable, AreKnown}
 use Rattle.st_link.specs.StatementSoundness.{HasNoInstances}
-use Rattle.st_link.proofs.CallLaw.{places_none}
 use Rattle.st_types.proofs.ListLemmas.{append_first, append_second}
 
 pub record RightText (text : Declared) : Type 0 where
@@ -42,27 +43,26 @@ pub record IsInvoked (env : Environment) (x : Identifier) (arguments : List Argu
   pub block : Identifier
   pub named : type_of_name env x.name ≡ Some (types.Simple (Named block))
   pub is : is_block env.text block.name ≡ true
-  pub fit : wrong_arguments env x.name [] arguments ≡ []
+  pub fit : wrong_arguments env (type_word (types.Simple (Named block))) x.name [] arguments ≡ []
   pub copies : flat_map (wrong_copy env x.name) arguments ≡ []
 
-abbrev faults_of_call : Environment → Identifier → List Argument → Bool → Bool → List Broken
-faults_of_call env x arguments is none =
+abbrev faults_of_call : Environment → TypeWord → Identifier → List Argument → Bool → Bool → List Broken
+faults_of_call env block x arguments is none =
     if is
-    then breaking WrongArguments (wrong_arguments env x.name [] arguments)
-    ++ flat_map (wrong_copy env x.name) arguments
-    else breaking WrongType (unless none x.place)
+    then wrong_arguments env block x.name [] arguments ++ flat_map (wrong_copy env x.name) arguments
+    else breaking (NotInstance block) (unless none x.place)
 
 block_invoked : (env : Environment) (x : Identifier) (arguments : List Argument) (b : Identifier) (is none : Bool)
     → type_of_name env x.name ≡ Some (types.Simple (Named b)) → is_block env.text b.name ≡ is → none ≡ false
-    → faults_of_call env x arguments is none ≡ [] → IsInvoked env x arguments
+    → faults_of_call env (type_word (types.Simple (Named b))) x arguments is none ≡ [] → IsInvoked env x arguments
 block_invoked env x arguments b true none named is not h =
-    let fit = breaking WrongArguments (wrong_arguments env x.name [] arguments) in
+    let fit = wrong_arguments env (type_word (types.Simple (Named b))) x.name [] arguments in
     let copies = flat_map (wrong_copy env x.name) arguments in
     record {
       block = b;
       named = named;
       is = is;
-      fit = places_none WrongArguments (wrong_arguments env x.name [] arguments) (append_first fit copies h);
+      fit = append_first fit copies h;
       copies = append_second fit copies h;
     }
 block_invoked env x arguments b false true named is not h = absurd (cc)

@@ -36,7 +36,7 @@ use Rattle.st_link.proofs.SiteLemmas.{sites_seen}
 use Rattle.symbols.specs.Found.{or_found}
 use Rattle.std.proofs.lemmas.List.Folds.{list_any-append}
 use Rattle.st_types.proofs.OptionLemmas.{is_some_mapped}
-use Rattle.st_decl.proofs.GraphDepths.{none_plus}
+use Rattle.std.proofs.Math.Nat.{zero-add}
 use Rattle.st_link.proofs.SeenLemmas.{or_between}
 
 -- names and the variables that they name
@@ -129,7 +129,7 @@ layout_symbol : (text : Declared) (x : Name) (o : Option (ℕ × Owned))
     → option_map (symbol_at text x) o ≡ option_map (symbol_from text (absolute 0) x) (seen_at o)
 layout_symbol text x None = refl
 layout_symbol text x (Some e) =
-    ap (λ k. Some (record (symbol_at text x e) { anchor = absolute k })) (sym (none_plus e.0))
+    ap (λ k. Some (record (symbol_at text x e) { anchor = absolute k })) (sym (zero-add e.0))
 
 global_symbol : (text : Declared) (vs : List Owned) (globals : List LinkVariable) (x : Name)
     → AreGlobals text vs globals
@@ -184,7 +184,7 @@ member_first text x ds =
         → option_map (part_symbol x) o ≡ option_map (λ e. part_symbol x (part_after 0 e)) o
     none_before None = refl
     none_before (Some e) =
-        ap (λ k. Some (part_symbol x (record { offset = k; shape = e.shape }))) (sym (none_plus e.offset))
+        ap (λ k. Some (part_symbol x (record { offset = k; shape = e.shape }))) (sym (zero-add e.offset))
 
 -- a block's
 pub block_symbols_are : (text : Declared) (vs : List Owned) (globals : List LinkVariable) (u : OrganisationUnit)
@@ -209,7 +209,7 @@ from_first : (text : Declared) (x : Name) (first : ℕ) (o : Option (ℕ × Link
     ≡ option_map (symbol_from text (absolute first) x) o
 from_first text x first None = refl
 from_first text x first (Some e) =
-    ap (λ k. Some (record (symbol_from text (absolute first) x e) { anchor = absolute k })) (none_plus (first + e.0))
+    ap (λ k. Some (record (symbol_from text (absolute first) x e) { anchor = absolute k })) (zero-add (first + e.0))
 
 owned_symbol : (text : Declared) (vs : List Owned) (owner : Owner) (first : ℕ) (ws : List LinkVariable) (x : Name)
     → BeginAt text vs owner first ws
@@ -245,7 +245,7 @@ call_symbol_first : (text : Declared) (x : Name) (o : Option (ℕ × Owned))
     → option_map (call_symbol text x) o ≡ option_map (symbol_from text (own 0) x) (seen_at o)
 call_symbol_first text x None = refl
 call_symbol_first text x (Some e) =
-    ap (λ k. Some (record (call_symbol text x e) { anchor = own k })) (sym (none_plus e.0))
+    ap (λ k. Some (record (call_symbol text x e) { anchor = own k })) (sym (zero-add e.0))
 
 pub sites_of_function : (t : SimpleType) (u : OrganisationUnit)
     → map of_site (sites_of_call t u) ≡ result_of u.name.name t ∷ variables_of_blocks u.blocks

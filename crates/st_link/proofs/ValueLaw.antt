@@ -45,7 +45,10 @@ use Rattle.st_meaning.specs.NameTypes.{kind_among, unit_named, input_kinds, resu
 use Rattle.st_meaning.specs.Resolution.{is_joining, own_kinds, taken_kind, taking_number, taking_literal, operand_kind}
 use Rattle.st_meaning.specs.Resolution.{expected_of_both, common_kind, standard_kind, expected_kinds, inputs_of_unit}
 use Rattle.st_meaning.specs.Resolution.{inputs_of_function, resolved_expr, resolved_exprs, resolved_selectors}
-use Rattle.st_rules.specs.declared.rule.Rule.TheVariants.{WrongType, WrongArguments}
+use Rattle.st_rules.specs.declared.reason.Reason.{Reason}
+use Rattle.st_rules.specs.declared.reason.Reason.TheVariants.{Mismatch, WrongOperands}
+use Rattle.st_rules.specs.declared.demand.Purpose.{Purpose}
+use Rattle.st_rules.specs.declared.demand.Purpose.TheVariants as purposes
 use Rattle.st_rules.specs.declared.demand.Sorts.{Sorts}
 use Rattle.st_rules.specs.declared.demand.Sorts.TheVariants.{Any as any, Whole as whole}
 use Rattle.st_rules.specs.declared.demand.Demand.{Demand}
@@ -60,7 +63,8 @@ use Rattle.st_rules.specs.Demands.{expected_of, demands_of_standard, sorts_of_bi
 use Rattle.st_rules.specs.Typings.{kind_of, kinds_of, is_untyped_typing, is_nothing, typing_of, typings_of}
 use Rattle.st_rules.specs.Typings.{typing_of_type, typing_of_literal, typing_of_number, typing_of_reading}
 use Rattle.st_rules.specs.Typings.{typing_of_kind}
-use Rattle.st_rules.specs.Typings.{typing_of_callee, typing_of_alone, settled, allows, joined, are_operands}
+use Rattle.st_rules.specs.Typings.{typing_of_callee, typing_of_alone, settled, fits, allows, joined}
+use Rattle.st_rules.specs.Typings.{are_operands}
 use Rattle.st_rules.specs.Nodes.{nodes_of, nodes_below, nodes_of_all, nodes_of_selectors, offered, demands_of}
 use Rattle.st_rules.specs.ExpressionRules.{first_byte, count_of, wrong_alone, wrong_call, wrong_part, wrong_node}
 use Rattle.st_rules.specs.ExpressionRules.{wrong_within, wrong_expression}
@@ -80,9 +84,9 @@ pub record Premises (env : Environment) (w : Scope) (s : Store) (u v : Units) : 
   pub units : UnitsAgree env u v
   pub known : AreKnown env
 
-right_there : (b : Bool) (p : ℕ) → breaking WrongType (unless b p) ≡ [] → b ≡ true
-right_there true p h = refl
-right_there false p h = absurd (cc)
+right_there : (reason : Reason) (b : Bool) (p : ℕ) → breaking reason (unless b p) ≡ [] → b ≡ true
+right_there reason true p h = refl
+right_there reason false p h = absurd (cc)
 
 -- operands with known types are of the same elementary type
 pub operands_alike : (ss : Sorts) (t u : Typing) → are_operands ss t u ≡ true → is_nothing t ≡ false
@@ -138,7 +142,9 @@ pub operands_right : (env : Environment) (k : Option Kind) (op : BinaryOperator)
     → wrong_within env k (binary op l r) ≡ []
     → are_operands (sorts_of_binary op) (settled (offered k op (typing_of env l) (typing_of env r)) (typing_of env l))
     (settled (offered k op (typing_of env l) (typing_of env r)) (typing_of env r)) ≡ true
-operands_right env k op l r h = right_there _ (first_byte l) (own_part env k (binary op l r) h)
+operands_right env k op l r h =
+    right_there (WrongOperands op (typing_of env l) (typing_of env r)) _ (first_byte l)
+    (own_part env k (binary op l r) h)
 
 -- literals
 number_succeeds : (k : Option Kind) (n : Number) (o : Option Kind) (l : Kind) → n.written ≡ o
@@ -237,7 +243,8 @@ value_there l o i j b h = subst (λ p. EndsAlikeIn (IsOf l) (attempt i (or_failu
 pub inside : (env : Environment) (d : Demand) (e : Expr) → wrong_expression env d e ≡ []
     → wrong_within env (expected_of d) e ≡ []
 inside env d e h =
-    let own = breaking WrongType (unless (allows d (settled (expected_of d) (typing_of env e))) (first_byte e)) in
+    let own = breaking (Mismatch d (typing_of env e))
+    (unless (allows d (settled (expected_of d) (typing_of env e))) (first_byte e)) in
     append_second own (wrong_within env (expected_of d) e)
     (sym (append_assoc own (wrong_part env (expected_of d) e)
     (flat_map (wrong_node env) (nodes_below env (expected_of d) e))) ∙ h)
@@ -245,23 +252,24 @@ inside env d e h =
 pub asked_right : (env : Environment) (d : Demand) (e : Expr) → wrong_expression env d e ≡ []
     → allows d (settled (expected_of d) (typing_of env e)) ≡ true
 asked_right env d e h =
-    let own = breaking WrongType (unless (allows d (settled (expected_of d) (typing_of env e))) (first_byte e)) in
-    right_there _ (first_byte e) (append_first own (wrong_within env (expected_of d) e)
+    let own = breaking (Mismatch d (typing_of env e))
+    (unless (allows d (settled (expected_of d) (typing_of env e))) (first_byte e)) in
+    right_there (Mismatch d (typing_of env e)) _ (first_byte e) (append_first own (wrong_within env (expected_of d) e)
     (sym (append_assoc own (wrong_part env (expected_of d) e)
     (flat_map (wrong_node env) (nodes_below env (expected_of d) e))) ∙ h))
 
-pub met_kind : (k : Option Kind) (ss : Sorts) (t : Typing) → allows (asked k ss) t ≡ true → is_nothing t ≡ false
+pub met_kind : (k : Option Kind) (ss : Sorts) (t : Typing) → fits k ss t ≡ true → is_nothing t ≡ false
     → (m : Kind) × (t ≡ elementary m)
 met_kind k ss untyped h i = absurd (cc)
 met_kind k ss (elementary m) h i = (m, refl)
 met_kind k ss composite h i = absurd (cc)
 met_kind k ss nothing h i = absurd (cc)
 
-pub kind_asked : (env : Environment) → AreKnown env → (k : Option Kind) (ss : Sorts) (e : Expr)
-    → wrong_expression env (asked k ss) e ≡ [] → (m : Kind) × (settled k (typing_of env e) ≡ elementary m)
-kind_asked env known k ss e h =
-    met_kind k ss (settled k (typing_of env e)) (asked_right env (asked k ss) e h)
-    (settled_known k (typing_of env e) (typing_known env known k e (inside env (asked k ss) e h)))
+pub kind_asked : (env : Environment) → AreKnown env → (k : Option Kind) (ss : Sorts) (p : Purpose) (e : Expr)
+    → wrong_expression env (asked k ss p) e ≡ [] → (m : Kind) × (settled k (typing_of env e) ≡ elementary m)
+kind_asked env known k ss p e h =
+    met_kind k ss (settled k (typing_of env e)) (asked_right env (asked k ss p) e h)
+    (settled_known k (typing_of env e) (typing_known env known k e (inside env (asked k ss p) e h)))
 
 then_some : {A B : Type 0} (f : A → Option B) (o : Option A) (y : B) → option_and_then f o ≡ Some y
     → (x : A) × (o ≡ Some x) × (f x ≡ Some y)
@@ -270,7 +278,7 @@ then_some f None y h = absurd (cc)
 
 abbrev pub is_asked : Demand → Bool
 is_asked (operand k) = false
-is_asked (asked k ss) = true
+is_asked (asked k ss p) = true
 
 abbrev pub are_asked : List Demand → Bool
 are_asked ds = list_all is_asked ds
@@ -294,47 +302,50 @@ padded_two : (text : Declared) (u : OrganisationUnit) (es : Exprs)
 padded_two text u no_exprs = refl
 padded_two text u (expr_then e es) = ap (expr_then (resolved_expr text u None e)) (padded_one text u es)
 
-pub standard_expected : (text : Declared) (u : OrganisationUnit) (std : Standard) (ks : List (Option Kind)) (es : Exprs)
+pub standard_expected : (text : Declared) (u : OrganisationUnit) (at : ℕ) (std : Standard) (ks : List (Option Kind))
+    (es : Exprs)
     → resolved_exprs text u (expected_kinds std ks) es
-    ≡ resolved_exprs text u (map expected_of (demands_of_standard std (common_kind std ks))) es
-standard_expected text u ABS ks es = padded_one text u es
-standard_expected text u MIN ks es = refl
-standard_expected text u MAX ks es = refl
-standard_expected text u LIMIT ks es = refl
-standard_expected text u SEL ks es = refl
-standard_expected text u SHL ks es = padded_two text u es
-standard_expected text u SHR ks es = padded_two text u es
-standard_expected text u ROL ks es = padded_two text u es
-standard_expected text u ROR ks es = padded_two text u es
-standard_expected text u (CONVERT k l) ks es = refl
+    ≡ resolved_exprs text u (map expected_of (demands_of_standard at std (common_kind std ks))) es
+standard_expected text u at ABS ks es = padded_one text u es
+standard_expected text u at MIN ks es = refl
+standard_expected text u at MAX ks es = refl
+standard_expected text u at LIMIT ks es = refl
+standard_expected text u at SEL ks es = refl
+standard_expected text u at SHL ks es = padded_two text u es
+standard_expected text u at SHR ks es = padded_two text u es
+standard_expected text u at ROL ks es = padded_two text u es
+standard_expected text u at ROR ks es = padded_two text u es
+standard_expected text u at (CONVERT k l) ks es = refl
 
-pub inputs_expected : (inputs : List (Option Kind)) → map expected_of (map (λ i. asked i any) inputs) ≡ inputs
-inputs_expected [] = refl
-inputs_expected (k ∷ ks) = ap (λ ls. k ∷ ls) (inputs_expected ks)
+pub inputs_expected : (at : ℕ) (inputs : List (Option Kind))
+    → map expected_of (map (λ i. asked i any (purposes.Argument at)) inputs) ≡ inputs
+inputs_expected at [] = refl
+inputs_expected at (k ∷ ks) = ap (λ ls. k ∷ ls) (inputs_expected at ks)
 
-pub standard_asked : (std : Standard) (k : Option Kind) → are_asked (demands_of_standard std k) ≡ true
-standard_asked ABS k = refl
-standard_asked MIN k = refl
-standard_asked MAX k = refl
-standard_asked LIMIT k = refl
-standard_asked SEL k = refl
-standard_asked SHL k = refl
-standard_asked SHR k = refl
-standard_asked ROL k = refl
-standard_asked ROR k = refl
-standard_asked (CONVERT k l) j = refl
+pub standard_asked : (at : ℕ) (std : Standard) (k : Option Kind) → are_asked (demands_of_standard at std k) ≡ true
+standard_asked at ABS k = refl
+standard_asked at MIN k = refl
+standard_asked at MAX k = refl
+standard_asked at LIMIT k = refl
+standard_asked at SEL k = refl
+standard_asked at SHL k = refl
+standard_asked at SHR k = refl
+standard_asked at ROL k = refl
+standard_asked at ROR k = refl
+standard_asked at (CONVERT k l) j = refl
 
-pub inputs_asked : (inputs : List (Option Kind)) → are_asked (map (λ i. asked i any) inputs) ≡ true
-inputs_asked [] = refl
-inputs_asked (k ∷ ks) = inputs_asked ks
+pub inputs_asked : (at : ℕ) (inputs : List (Option Kind))
+    → are_asked (map (λ i. asked i any (purposes.Argument at)) inputs) ≡ true
+inputs_asked at [] = refl
+inputs_asked at (k ∷ ks) = inputs_asked at ks
 
 kind_given : (k : Option Kind) (o : Option Kind) (l : Kind) → settled k (typing_of_kind o) ≡ elementary l → o ≡ Some l
 kind_given k None l h = absurd (cc)
 kind_given k (Some m) l h = ap (λ (j : Kind). Some j) (elementary_same m l h)
 
-pub count_right : (b : Bool) (p : ℕ) → breaking WrongArguments (unless b p) ≡ [] → b ≡ true
-count_right true p h = refl
-count_right false p h = absurd (cc)
+pub count_right : (reason : Reason) (b : Bool) (p : ℕ) → breaking reason (unless b p) ≡ [] → b ≡ true
+count_right reason true p h = refl
+count_right reason false p h = absurd (cc)
 
 -- a name alone: a variable of the unit, or a value of an enumerated type
 abbrev pub alone_expr : Identifier → Option Member → Expr
@@ -375,10 +386,10 @@ Arguments env w s u v i j es =
     (values (with_units v j w) s (resolved_exprs env.text env.unit (map expected_of ds) es) b)
 
 call_standard : (env : Environment) (w : Scope) (s : Store) (u v : Units) (i j : StuckFaults) (k : Option Kind)
-    (std : Standard) (f : Name) (es : Exprs) (l : Kind) → Arguments env w s u v i j es
-    → (count_of es == length (demands_of_standard std (common_kind std (kinds_of (typings_of env es))))) ≡ true
+    (at : ℕ) (std : Standard) (f : Name) (es : Exprs) (l : Kind) → Arguments env w s u v i j es
+    → (count_of es == length (demands_of_standard at std (common_kind std (kinds_of (typings_of env es))))) ≡ true
     → flat_map (wrong_node env)
-    (nodes_of_all env (demands_of_standard std (common_kind std (kinds_of (typings_of env es)))) es) ≡ []
+    (nodes_of_all env (demands_of_standard at std (common_kind std (kinds_of (typings_of env es)))) es) ≡ []
     → settled k (typing_of_kind (standard_kind std (kinds_of (typings_of env es)))) ≡ elementary l → (b : ℕ)
     → EndsAlikeIn (IsOf l)
     (follow (values (with_units u i w) s
@@ -387,13 +398,13 @@ call_standard : (env : Environment) (w : Scope) (s : Store) (u v : Units) (i j :
     (follow (values (with_units v j w) s
     (resolved_exprs env.text env.unit (expected_kinds std (own_kinds env.text env.unit es)) es) b)
     (λ vs. attempt j (standard_value std vs)))
-call_standard env w s u v i j k std f es l all n h t b =
+call_standard env w s u v i j k at std f es l all n h t b =
     let ks = kinds_of (typings_of env es) in
-    let ds = demands_of_standard std (common_kind std ks) in
+    let ds = demands_of_standard at std (common_kind std ks) in
     let same : resolved_exprs env.text env.unit (expected_kinds std (own_kinds env.text env.unit es)) es
     ≡ resolved_exprs env.text env.unit (map expected_of ds) es =
     ap (λ q. resolved_exprs env.text env.unit (expected_kinds std q) es) (all_kinds_told env es)
-    ∙ standard_expected env.text env.unit std ks es in
+    ∙ standard_expected env.text env.unit at std ks es in
     subst (λ (q : Exprs). EndsAlikeIn (IsOf l)
     (follow (values (with_units u i w) s q b) (λ vs. attempt i (standard_value std vs)))
     (follow (values (with_units v j w) s q b) (λ vs. attempt j (standard_value std vs)))) (sym same)
@@ -401,35 +412,35 @@ call_standard env w s u v i j k std f es l all n h t b =
     (values (with_units u i w) s (resolved_exprs env.text env.unit (map expected_of ds) es) b)
     (values (with_units v j w) s (resolved_exprs env.text env.unit (map expected_of ds) es) b)
     (λ vs. attempt i (standard_value std vs)) (λ vs. attempt j (standard_value std vs))
-    (all ds n (standard_asked std (common_kind std ks)) h b)
+    (all ds n (standard_asked at std (common_kind std ks)) h b)
     (λ vs c fit. attempted (IsOf l) i j (standard_value std vs) c
-    (standard_succeeds env std l fit (kind_given k (standard_kind std ks) l t))))
+    (standard_succeeds env at std l fit (kind_given k (standard_kind std ks) l t))))
 
 call_own : (env : Environment) (w : Scope) (s : Store) (u v : Units) (i j : StuckFaults) → Premises env w s u v
-    → (k : Option Kind) (f : Name) (inputs : List (Option Kind)) (result : Option Kind) (es : Exprs) (l : Kind)
+    → (k : Option Kind) (at : ℕ) (f : Name) (inputs : List (Option Kind)) (result : Option Kind) (es : Exprs) (l : Kind)
     → callee_of env f ≡ Some (own inputs result) → Arguments env w s u v i j es
-    → (count_of es == length (map (λ i. asked i any) inputs)) ≡ true
-    → flat_map (wrong_node env) (nodes_of_all env (map (λ i. asked i any) inputs) es) ≡ []
+    → (count_of es == length (map (λ i. asked i any (purposes.Argument at)) inputs)) ≡ true
+    → flat_map (wrong_node env) (nodes_of_all env (map (λ i. asked i any (purposes.Argument at)) inputs) es) ≡ []
     → settled k (typing_of_kind result) ≡ elementary l → (b : ℕ)
     → EndsAlikeIn (IsOf l)
     (follow (values (with_units u i w) s (resolved_exprs env.text env.unit inputs es) b) (λ vs. u.functions f vs))
     (follow (values (with_units v j w) s (resolved_exprs env.text env.unit inputs es) b) (λ vs. v.functions f vs))
-call_own env w s u v i j p k f inputs result es l is all n h t b =
-    let ds = map (λ i. asked i any) inputs in
+call_own env w s u v i j p k at f inputs result es l is all n h t b =
+    let ds = map (λ i. asked i any (purposes.Argument at)) inputs in
     let result_is = kind_given k result l t in
     let callee : callee_of env f ≡ Some (own inputs (Some l)) =
     is ∙ ap (λ (r : Option Kind). Some (own inputs r)) result_is in
     subst (λ (q : List (Option Kind)). EndsAlikeIn (IsOf l)
     (follow (values (with_units u i w) s (resolved_exprs env.text env.unit q es) b) (λ vs. u.functions f vs))
     (follow (values (with_units v j w) s (resolved_exprs env.text env.unit q es) b) (λ vs. v.functions f vs)))
-    (inputs_expected inputs)
+    (inputs_expected at inputs)
     (alike_then (FitPlaces env ds es) (IsOf l)
     (values (with_units u i w) s (resolved_exprs env.text env.unit (map expected_of ds) es) b)
     (values (with_units v j w) s (resolved_exprs env.text env.unit (map expected_of ds) es) b)
     (λ vs. u.functions f vs) (λ vs. v.functions f vs)
-    (all ds n (inputs_asked inputs) h b)
+    (all ds n (inputs_asked at inputs) h b)
     (λ vs c fit. p.units f inputs l vs c callee
-    (inputs_fit env inputs (p.known.inputs f inputs (Some l) callee) fit)))
+    (inputs_fit env at inputs (p.known.inputs f inputs (Some l) callee) fit)))
 
 -- a function of the text by its unit
 abbrev pub own_callee : Declared → Option OrganisationUnit → Option Callee
@@ -438,8 +449,8 @@ own_callee text o = option_and_then (λ u. callee_of_sort text u.sort u.blocks) 
 call_unit : (env : Environment) (w : Scope) (s : Store) (u v : Units) (i j : StuckFaults) → Premises env w s u v
     → (k : Option Kind) (at : ℕ) (f : Name) (es : Exprs) (l : Kind) (o : Option OrganisationUnit)
     → callee_of env f ≡ own_callee env.text o → Arguments env w s u v i j es
-    → wrong_call at (own_callee env.text o) (demands_of env (own_callee env.text o) es) es ≡ []
-    → flat_map (wrong_node env) (nodes_of_all env (demands_of env (own_callee env.text o) es) es) ≡ []
+    → wrong_call at (own_callee env.text o) (demands_of env at (own_callee env.text o) es) es ≡ []
+    → flat_map (wrong_node env) (nodes_of_all env (demands_of env at (own_callee env.text o) es) es) ≡ []
     → settled k (typing_of_callee (own_callee env.text o) (kinds_of (typings_of env es))) ≡ elementary l → (b : ℕ)
     → EndsAlikeIn (IsOf l)
     (follow (values (with_units u i w) s (resolved_exprs env.text env.unit (inputs_of_unit env.text o) es) b)
@@ -450,8 +461,9 @@ call_unit env w s u v i j p k at f es l None is all n h t b = absurd (cc)
 call_unit env w s u v i j p k at f es l (Some g) is all n h t b = by_sort g.sort g.blocks is n h t
   where
     by_sort : (sort : UnitSort) (bs : List VariableBlock) → callee_of env f ≡ callee_of_sort env.text sort bs
-        → wrong_call at (callee_of_sort env.text sort bs) (demands_of env (callee_of_sort env.text sort bs) es) es ≡ []
-        → flat_map (wrong_node env) (nodes_of_all env (demands_of env (callee_of_sort env.text sort bs) es) es) ≡ []
+        → wrong_call at (callee_of_sort env.text sort bs) (demands_of env at (callee_of_sort env.text sort bs) es) es
+        ≡ []
+        → flat_map (wrong_node env) (nodes_of_all env (demands_of env at (callee_of_sort env.text sort bs) es) es) ≡ []
         → settled k (typing_of_callee (callee_of_sort env.text sort bs) (kinds_of (typings_of env es))) ≡ elementary l
         → EndsAlikeIn (IsOf l)
         (follow (values (with_units u i w) s
@@ -459,8 +471,8 @@ call_unit env w s u v i j p k at f es l (Some g) is all n h t b = by_sort g.sort
         (follow (values (with_units v j w) s
         (resolved_exprs env.text env.unit (inputs_of_function env.text sort bs) es) b) (λ vs. v.functions f vs))
     by_sort (Function q) bs e m g r =
-        call_own env w s u v i j p k f (input_kinds env.text bs) (result_kind env.text (Function q)) es l e all
-        (count_right _ at m) g r b
+        call_own env w s u v i j p k at f (input_kinds env.text bs) (result_kind env.text (Function q)) es l e all
+        (count_right _ _ at m) g r b
     by_sort FunctionBlock bs e m g r = absurd (cc)
     by_sort Program bs e m g r = absurd (cc)
 
@@ -470,8 +482,8 @@ callee_by env f o = elim o [ Some std ↦ Some (standard std) | None ↦ own_cal
 call_alike : (env : Environment) (w : Scope) (s : Store) (u v : Units) (i j : StuckFaults) → Premises env w s u v
     → (k : Option Kind) (at : ℕ) (f : Name) (es : Exprs) (l : Kind) (o : Option Standard)
     → callee_of env f ≡ callee_by env f o → Arguments env w s u v i j es
-    → wrong_call at (callee_by env f o) (demands_of env (callee_by env f o) es) es ≡ []
-    → flat_map (wrong_node env) (nodes_of_all env (demands_of env (callee_by env f o) es) es) ≡ []
+    → wrong_call at (callee_by env f o) (demands_of env at (callee_by env f o) es) es ≡ []
+    → flat_map (wrong_node env) (nodes_of_all env (demands_of env at (callee_by env f o) es) es) ≡ []
     → settled k (typing_of_callee (callee_by env f o) (kinds_of (typings_of env es))) ≡ elementary l → (b : ℕ)
     → EndsAlikeIn (IsOf l)
     (follow (values (with_units u i w) s (resolved_exprs env.text env.unit
@@ -485,7 +497,7 @@ call_alike : (env : Environment) (w : Scope) (s : Store) (u v : Units) (i j : St
       | None ↦ inputs_of_unit env.text (unit_named env.text.units f)
     ]) es) b) (called (with_units v j w) o f))
 call_alike env w s u v i j p k at f es l (Some std) is all n h t b =
-    call_standard env w s u v i j k std f es l all (count_right _ at n) h t b
+    call_standard env w s u v i j k at std f es l all (count_right _ _ at n) h t b
 call_alike env w s u v i j p k at f es l None is all n h t b =
     call_unit env w s u v i j p k at f es l (unit_named env.text.units f) is all n h t b
 
@@ -535,7 +547,7 @@ mutual
       call_alike env w s u v i j p k f.place f.name es l (standard_of f.name) refl
       (values_alike env w s u v i j p es) (own_part env k (call f es) h)
       (append_second (wrong_part env k (call f es))
-      (flat_map (wrong_node env) (nodes_of_all env (demands_of env (callee_of env f.name) es) es)) h) is b
+      (flat_map (wrong_node env) (nodes_of_all env (demands_of env f.place (callee_of env f.name) es) es)) h) is b
   value_alike env w s u v i j p k (parenthesis at e) h l is b = value_alike env w s u v i j p k e h l is b
   value_alike env w s u v i j p k (unary op at e) h l is b =
       alike_then (IsOf l) (IsOf l) (value (with_units u i w) s (resolved_expr env.text env.unit k e) b)
@@ -584,13 +596,13 @@ mutual
   values_alike env w s u v i j p no_exprs (d ∷ ds) n a h b = absurd (too_few (length ds) n)
   values_alike env w s u v i j p (expr_then e es) [] n a h b = absurd (too_many (count_of es) n)
   values_alike env w s u v i j p (expr_then e es) (operand k ∷ ds) n a h b = absurd (never a)
-  values_alike env w s u v i j p (expr_then e es) (asked k ss ∷ ds) n a h b =
-      let d = asked k ss in
+  values_alike env w s u v i j p (expr_then e es) (asked k ss purpose ∷ ds) n a h b =
+      let d = asked k ss purpose in
       let split : wrong_expression env d e ++ flat_map (wrong_node env) (nodes_of_all env ds es) ≡ [] =
       sym (flat_map-append (wrong_node env) (nodes_of env d e) (nodes_of_all env ds es)) ∙ h in
       let here = append_first (wrong_expression env d e) (flat_map (wrong_node env) (nodes_of_all env ds es)) split in
       let rest = append_second (wrong_expression env d e) (flat_map (wrong_node env) (nodes_of_all env ds es)) split in
-      let kind = kind_asked env p.known k ss e here in
+      let kind = kind_asked env p.known k ss purpose e here in
       let right : allows d (elementary kind.0) ≡ true =
       subst (λ t. allows d t ≡ true) kind.1 (asked_right env d e here) in
       let ls = map expected_of ds in
@@ -621,12 +633,12 @@ mutual
       place_alike env w s u v i j p x (member_at q y.name) one.0 (part y.name place one.1) xs r one.2 h b
   place_alike env w s u v i j p x q t place (selector_then (subscript e) xs) r is h b =
       let one = then_some (type_after_selectors env.text xs) (selected_type env.text t (subscript e)) r is in
-      let d = asked None whole in
+      let d = asked None whole purposes.Subscript in
       let split : wrong_expression env d e ++ flat_map (wrong_node env) (nodes_of_selectors env xs) ≡ [] =
       sym (flat_map-append (wrong_node env) (nodes_of env d e) (nodes_of_selectors env xs)) ∙ h in
       let here = append_first (wrong_expression env d e) (flat_map (wrong_node env) (nodes_of_selectors env xs)) split in
       let rest = append_second (wrong_expression env d e) (flat_map (wrong_node env) (nodes_of_selectors env xs)) split in
-      let kind = kind_asked env p.known None whole e here in
+      let kind = kind_asked env p.known None whole purposes.Subscript e here in
       alike_then {A = Path} {B = Path} (λ y. IsPlace env w s x y one.0) (λ y. IsPlace env w s x y r)
       (follow (value (with_units u i w) s (resolved_expr env.text env.unit None e) b)
       (λ n. bounded w.image s (element_at q n.number)))

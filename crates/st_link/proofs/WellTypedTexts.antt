@@ -9,8 +9,7 @@ use Rattle.st_types.specs.Sources.{Source}
 use Rattle.st_meaning.specs.StandardBlocks.{inputs_of, outputs_of}
 use Rattle.st_meaning.specs.Scopes.{Name}
 use Rattle.st_meaning.specs.NameTypes.{declared_in, unit_named, is_input, is_output}
-use Rattle.st_rules.specs.declared.rule.Rule.TheVariants.{DeclaredTwice, TooDeep, WrongBounds, RetainedAddress}
-use Rattle.st_rules.specs.declared.rule.Rule.TheVariants.{TooManyNames, OutOfRange}
+use Rattle.st_rules.specs.declared.reason.Reason.TheVariants.{RetainedAddress, SurplusName, PriorityTooGreat}
 use Rattle.st_rules.specs.Faults.{breaking}
 use Rattle.st_rules.specs.TwiceDeclared.{twice_declared}
 use Rattle.st_rules.specs.DeclaredTypes.{declarings_in, arrays_in, results_in, enumerations_in}
@@ -26,7 +25,6 @@ use Rattle.st_link.specs.Soundness.{AreKnown}
 use Rattle.st_link.proofs.Among.{Among, none_of}
 use Rattle.st_link.proofs.FoundNames.{unit_found, unit_in}
 use Rattle.st_link.proofs.FoundFunctions.{own_function}
-use Rattle.st_link.proofs.CallLaw.{places_none}
 use Rattle.st_link.proofs.KnownTypes.{TypesRight, types_known, member_sound, sound_known}
 use Rattle.st_link.proofs.KnownFunctions.{inputs_have_kinds, result_has_kind}
 use Rattle.st_link.proofs.ApartNames.{NamesRight, names_right}
@@ -41,28 +39,27 @@ record DeclarationsRight (source : Source) : Type 0 where
 
 declarations_right : (source : Source) → wrong_declarations source ≡ [] → DeclarationsRight source
 declarations_right source h =
-    let twice = breaking DeclaredTwice (twice_declared source) in
-    let deep = breaking TooDeep (too_deep source) in
-    let bounds = breaking WrongBounds (flat_map wrong_bounds (arrays_in source)) in
-    let long = breaking WrongBounds (flat_map (too_long (declared_in source)) (starts_in source)) in
+    let twice = twice_declared source in
+    let deep = too_deep source in
+    let bounds = flat_map wrong_bounds (arrays_in source) in
+    let long = flat_map (too_long (declared_in source)) (starts_in source) in
     let addresses = breaking RetainedAddress (flat_map retained_addresses_of source) in
     let front = append_first (twice ++ deep) bounds (append_first ((twice ++ deep) ++ bounds) long
     (append_first (((twice ++ deep) ++ bounds) ++ long) addresses h)) in
     record {
-      names = names_right source
-          (places_none DeclaredTwice (twice_declared source) (append_first twice deep front));
-      deep = places_none TooDeep (too_deep source) (append_second twice deep front);
+      names = names_right source (append_first twice deep front);
+      deep = append_second twice deep front;
     }
 
 types_right : (source : Source) → wrong_types source ≡ [] → TypesRight source
 types_right source h =
     let text = declared_in source in
-    let names = breaking TooManyNames (flat_map surplus_name (enumerations_in source)) in
+    let names = breaking SurplusName (flat_map surplus_name (enumerations_in source)) in
     let declarings = flat_map (wrong_declaring text) (declarings_in source) in
     let elements = flat_map (wrong_element text) (arrays_in source) in
     let results = flat_map (wrong_result text) (results_in source) in
     let bounds = flat_map wrong_bound_numbers (arrays_in source) in
-    let priorities = breaking OutOfRange (flat_map wrong_priorities_of source) in
+    let priorities = breaking PriorityTooGreat (flat_map wrong_priorities_of source) in
     let to_bounds = append_first ((((names ++ declarings) ++ elements) ++ results) ++ bounds) priorities h in
     let to_results = append_first (((names ++ declarings) ++ elements) ++ results) bounds to_bounds in
     let to_elements = append_first ((names ++ declarings) ++ elements) results to_results in

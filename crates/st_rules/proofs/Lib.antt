@@ -1,2 +1,4 @@
+pub mod EqualityLemmas
+pub mod CollectLemmas
 pub mod TypingLaws
 pub mod DepthLaws

@@ -2,7 +2,7 @@
 use Rattle.std.specs.Prelude.{List, [], ◌++◌, Bool}
 use Rattle.std.specs.List.{flat_map}
 use Rattle.st_types.specs.Statements.{Stmt, EXIT}
-use Rattle.st_rules.specs.declared.rule.Rule.TheVariants.{ExitOutsideLoop}
+use Rattle.st_rules.specs.declared.reason.Reason.TheVariants.{ExitOutsideLoop}
 use Rattle.st_rules.specs.declared.rule.Broken.{Broken}
 use Rattle.st_rules.specs.Faults.{breaking, unless}
 use Rattle.st_rules.specs.Environments.{Environment}

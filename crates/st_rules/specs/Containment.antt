@@ -24,7 +24,10 @@ use Rattle.st_meaning.specs.StandardBlocks.{block_of}
 use Rattle.st_meaning.specs.Bodies.{is_external}
 use Rattle.st_meaning.specs.NameTypes.{Declared, declared_in, unit_named, type_named}
 use Rattle.st_rules.specs.declared.limits.TheConstants.{MAX_TYPE_DEPTH}
-use Rattle.st_rules.specs.Faults.{in_case}
+use Rattle.st_rules.specs.declared.reason.Reason.{Reason}
+use Rattle.st_rules.specs.declared.reason.Reason.TheVariants.{ContainsItself, TooDeep}
+use Rattle.st_rules.specs.declared.rule.Broken.{Broken}
+use Rattle.st_rules.specs.Faults.{breaking, in_case}
 use Rattle.st_rules.specs.Statements.{statements_in}
 use Rattle.st_rules.specs.DeclaredTypes.{unnamed_arrays_in}
 
@@ -172,17 +175,23 @@ is_wrong_unit text (Function t) x = is_too_deep text (named x)
 is_wrong_unit text FunctionBlock x = is_too_deep text (named x)
 is_wrong_unit text Program x = contains_itself text x
 
-abbrev pub too_deep_types : Declared → List ℕ
-too_deep_types text = flat_map (λ t. in_case (is_too_deep text (named t.name.name)) t.name.place) text.types
+-- why a type or unit is too deep
+abbrev pub reason_of_depth : Declared → Name → Reason
+reason_of_depth text x = if contains_itself text x then ContainsItself else TooDeep
 
-abbrev pub too_deep_units : Declared → List ℕ
-too_deep_units text = flat_map (λ u. in_case (is_wrong_unit text u.sort u.name.name) u.name.place) text.units
+abbrev pub too_deep_types : Declared → List Broken
+too_deep_types text = flat_map (λ t. breaking (reason_of_depth text t.name.name)
+    (in_case (is_too_deep text (named t.name.name)) t.name.place)) text.types
+
+abbrev pub too_deep_units : Declared → List Broken
+too_deep_units text = flat_map (λ u. breaking (reason_of_depth text u.name.name)
+    (in_case (is_wrong_unit text u.sort u.name.name) u.name.place)) text.units
 
 -- an array without a name, at its place
-abbrev pub too_deep_array : Declared → ArrayType → List ℕ
-too_deep_array text a = in_case (is_too_deep text (row a.element)) a.place
+abbrev pub too_deep_array : Declared → ArrayType → List Broken
+too_deep_array text a = breaking TooDeep (in_case (is_too_deep text (row a.element)) a.place)
 
-abbrev pub too_deep : Source → List ℕ
+abbrev pub too_deep : Source → List Broken
 too_deep source =
     too_deep_types (declared_in source) ++ too_deep_units (declared_in source)
     ++ flat_map (too_deep_array (declared_in source)) (unnamed_arrays_in source)

@@ -1,5 +1,5 @@
 -- The demands of places on the types of expressions.
-use Rattle.std.specs.Prelude.{List, [], ◌∷◌, map, Bool, true, false, Option, Some, None}
+use Rattle.std.specs.Prelude.{ℕ, List, [], ◌∷◌, map, Bool, true, false, Option, Some, None}
 use Rattle.st_types.specs.declared.kind.Kind.{Kind}
 use Rattle.st_types.specs.declared.kind.Kind.TheVariants.{Bool as Boolean}
 use Rattle.st_types.specs.declared.kind.Sort.{Sort}
@@ -17,6 +17,8 @@ use Rattle.st_rules.specs.declared.demand.Sorts.TheVariants.{Any as any, Whole a
 use Rattle.st_rules.specs.declared.demand.Sorts.TheVariants.{WholeOrTime as whole_or_time, WithSign as with_sign}
 use Rattle.st_rules.specs.declared.demand.Sorts.TheVariants.{BitString as bits, TruthOrBits as truth_or_bits}
 use Rattle.st_rules.specs.declared.demand.Sorts.TheVariants.{Ordered as ordered, NoSort as no_sort}
+use Rattle.st_rules.specs.declared.demand.Purpose.{Purpose}
+use Rattle.st_rules.specs.declared.demand.Purpose.TheVariants.{Condition, Argument}
 use Rattle.st_rules.specs.declared.demand.Demand.{Demand}
 use Rattle.st_rules.specs.declared.demand.Demand.TheVariants.{Operand as operand, Asked as asked}
 use Rattle.st_rules.specs.Environments.{Callee, standard, own}
@@ -49,13 +51,13 @@ in_sorts no_sort s = false
 -- the type that an untyped expression is offered
 abbrev pub expected_of : Demand → Option Kind
 expected_of (operand k) = k
-expected_of (asked k ss) = k
+expected_of (asked k ss p) = k
 
-abbrev pub exactly : Kind → Demand
-exactly k = asked (Some k) any
+abbrev pub exactly : Kind → Purpose → Demand
+exactly k p = asked (Some k) any p
 
 abbrev pub condition : Demand
-condition = exactly Boolean
+condition = exactly Boolean Condition
 
 abbrev pub is_kind : Option Kind → Kind → Bool
 is_kind None k = true
@@ -82,21 +84,23 @@ sorts_of_binary Greater = ordered
 sorts_of_binary LessOrEqual = ordered
 sorts_of_binary GreaterOrEqual = ordered
 
--- the demands of a standard function on its arguments; k is the common type of its operands
-abbrev pub demands_of_standard : Standard → Option Kind → List Demand
-demands_of_standard ABS k = asked None whole ∷ []
-demands_of_standard MIN k = asked k whole_or_time ∷ asked k whole_or_time ∷ []
-demands_of_standard MAX k = asked k whole_or_time ∷ asked k whole_or_time ∷ []
-demands_of_standard LIMIT k = asked k whole_or_time ∷ asked k whole_or_time ∷ asked k whole_or_time ∷ []
-demands_of_standard SEL k = condition ∷ asked k any ∷ asked k any ∷ []
-demands_of_standard SHL k = asked None bits ∷ asked None whole ∷ []
-demands_of_standard SHR k = asked None bits ∷ asked None whole ∷ []
-demands_of_standard ROL k = asked None bits ∷ asked None whole ∷ []
-demands_of_standard ROR k = asked None bits ∷ asked None whole ∷ []
-demands_of_standard (CONVERT k l) _ = exactly k ∷ []
+-- the demands of a standard function, called at a place, on its arguments; k is the common type of its operands
+abbrev pub demands_of_standard : ℕ → Standard → Option Kind → List Demand
+demands_of_standard at ABS k = asked None whole (Argument at) ∷ []
+demands_of_standard at MIN k = asked k whole_or_time (Argument at) ∷ asked k whole_or_time (Argument at) ∷ []
+demands_of_standard at MAX k = asked k whole_or_time (Argument at) ∷ asked k whole_or_time (Argument at) ∷ []
+demands_of_standard at LIMIT k =
+    asked k whole_or_time (Argument at) ∷ asked k whole_or_time (Argument at) ∷ asked k whole_or_time (Argument at) ∷ []
+demands_of_standard at SEL k =
+    exactly Boolean (Argument at) ∷ asked k any (Argument at) ∷ asked k any (Argument at) ∷ []
+demands_of_standard at SHL k = asked None bits (Argument at) ∷ asked None whole (Argument at) ∷ []
+demands_of_standard at SHR k = asked None bits (Argument at) ∷ asked None whole (Argument at) ∷ []
+demands_of_standard at ROL k = asked None bits (Argument at) ∷ asked None whole (Argument at) ∷ []
+demands_of_standard at ROR k = asked None bits (Argument at) ∷ asked None whole (Argument at) ∷ []
+demands_of_standard at (CONVERT k l) _ = exactly k (Argument at) ∷ []
 
--- the demands of a call on its arguments
-abbrev pub demands_of_callee : Option Callee → Option Kind → List Demand
-demands_of_callee (Some (standard std)) k = demands_of_standard std k
-demands_of_callee (Some (own inputs result)) k = map (λ i. asked i any) inputs
-demands_of_callee None k = []
+-- the demands of a call at a place on its arguments
+abbrev pub demands_of_callee : ℕ → Option Callee → Option Kind → List Demand
+demands_of_callee at (Some (standard std)) k = demands_of_standard at std k
+demands_of_callee at (Some (own inputs result)) k = map (λ i. asked i any (Argument at)) inputs
+demands_of_callee at None k = []

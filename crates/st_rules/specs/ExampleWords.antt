@@ -37,9 +37,25 @@ use Rattle.st_types.specs.Sources.{LibraryElement, unit, types, configuration, S
 use Rattle.st_meaning.specs.Scopes.{Name}
 use Rattle.st_rules.specs.declared.rule.Rule.{Rule}
 use Rattle.st_rules.specs.declared.rule.Broken.{Broken}
+use Rattle.st_rules.specs.Reasons.{rule_of}
+use Rattle.st_rules.specs.Rules.{broken}
 
-abbrev pub breaks : Rule → ℕ → Broken
+-- a rule that is broken at a place, for whichever reason
+pub record RuleAt : Type 0 where
+  pub rule : Rule
+  pub place : ℕ
+
+abbrev pub breaks : Rule → ℕ → RuleAt
 breaks rule place = record { rule = rule; place = place }
+
+abbrev pub without_reasons : List Broken → List RuleAt
+without_reasons bs = map (λ b. breaks (rule_of b.reason) b.place) bs
+
+abbrev pub places_of : List Broken → List ℕ
+places_of bs = map (λ b. b.place) bs
+
+abbrev pub broken_rules : Source → List RuleAt
+broken_rules source = without_reasons (broken source)
 
 abbrev pub at : ℕ → Name → Identifier
 at place x = record { name = x; place = place }

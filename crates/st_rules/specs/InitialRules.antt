@@ -12,7 +12,9 @@ use Rattle.st_types.specs.Initials.{no_elements, element_then, Members, no_membe
 use Rattle.st_meaning.specs.NameTypes.{Declared, definition_of}
 use Rattle.st_meaning.specs.Operators.{number_of, natural}
 use Rattle.st_meaning.specs.ResolvedUnits.{element_of, field_of}
-use Rattle.st_rules.specs.declared.rule.Rule.TheVariants.{UnknownName, WrongType}
+use Rattle.st_rules.specs.declared.demand.Purpose.TheVariants as purposes
+use Rattle.st_rules.specs.declared.reason.Reason.TheVariants.{NoMember, Mismatch, ListForOther, FieldsForOther, LongList}
+use Rattle.st_rules.specs.Reasons.{type_word}
 use Rattle.st_rules.specs.declared.rule.Broken.{Broken}
 use Rattle.st_rules.specs.declared.typings.Typing.{Typing}
 use Rattle.st_rules.specs.Faults.{breaking, unless, in_case}
@@ -89,7 +91,8 @@ unread_value text _ = []
 -- a constant is one of its variable's type
 abbrev pub wrong_constant : Declared → Typing → Literal → List Broken
 wrong_constant text t l =
-    breaking WrongType (unless (allows (demand_of_typing t) (settled (kind_of t) (typing_of_literal text l)))
+    breaking (Mismatch (demand_of_typing purposes.Initial t) (typing_of_literal text l))
+    (unless (allows (demand_of_typing purposes.Initial t) (settled (kind_of t) (typing_of_literal text l)))
     (place_of_literal l))
     ++ (if is_nothing t then unread_value text l else wrong_literal text (kind_of t) l)
 
@@ -103,20 +106,30 @@ abbrev pub wrong_counts : Elements → List Broken
 wrong_counts no_elements = []
 wrong_counts (element_then x xs) = wrong_count x ++ wrong_counts xs
 
--- a field that the structure doesn't have
-abbrev pub wrong_fields : Declared → Option VariableType → Members → List Broken
+-- a field that the structure of this type doesn't have
+abbrev pub wrong_fields : Declared → VariableType → Members → List Broken
 wrong_fields text t no_members = []
 wrong_fields text t (member_then x v rest) =
-    breaking UnknownName (unless (is_some (field_of text t x.name)) x.place) ++ wrong_fields text t rest
+    breaking (NoMember (type_word t)) (unless (is_some (field_of text (Some t) x.name)) x.place)
+    ++ wrong_fields text t rest
 
--- Lists are for arrays, and fields for structures. None of this looks into the values inside.
+-- Lists are for arrays, and fields for structures. For an unknown type nothing is checked.
+abbrev pub wrong_list : Declared → Option VariableType → ℕ → List Broken
+wrong_list text None at = []
+wrong_list text (Some t) at = breaking (ListForOther (type_word t))
+    (unless (is_unknown text (Some t) || is_some (array_in (definition_of text t))) at)
+
+abbrev pub wrong_structure : Declared → Option VariableType → ℕ → Members → List Broken
+wrong_structure text None at xs = []
+wrong_structure text (Some t) at xs =
+    if is_structure (definition_of text t) then wrong_fields text t xs
+    else breaking (FieldsForOther (type_word t)) (unless (is_unknown text (Some t)) at)
+
+-- None of this looks into the values inside.
 abbrev pub wrong_start_of : Declared → Option VariableType → Initial → List Broken
 wrong_start_of text t (constant l) = wrong_constant text (typing_of_type text t) l
-wrong_start_of text t (list at xs) =
-    breaking WrongType (unless (is_unknown text t || is_some (array_in (definition_at text t))) at) ++ wrong_counts xs
-wrong_start_of text t (structure at xs) =
-    breaking WrongType (unless (is_unknown text t || is_structure (definition_at text t)) at)
-    ++ (if is_structure (definition_at text t) then wrong_fields text t xs else [])
+wrong_start_of text t (list at xs) = wrong_list text t at ++ wrong_counts xs
+wrong_start_of text t (structure at xs) = wrong_structure text t at xs
 
 abbrev pub wrong_start : Declared → Start → List Broken
 wrong_start text s = wrong_start_of text s.declared s.initial
@@ -132,14 +145,17 @@ count_of_elements no_elements = 0
 count_of_elements (element_then x xs) = count_of_element x + count_of_elements xs
 
 -- a list of more elements than its array has
-abbrev pub is_too_long : Option ArrayType → Elements → Bool
-is_too_long None xs = false
-is_too_long (Some a) xs = nat_lt (elements_of_array a) (count_of_elements xs)
+abbrev pub too_many_elements : ℕ → ℕ → ℕ → List Broken
+too_many_elements count room at = breaking (LongList count room) (in_case (nat_lt room count) at)
 
-abbrev pub too_long_list : Declared → Option VariableType → Initial → List ℕ
+abbrev pub too_long_for : Option ArrayType → ℕ → Elements → List Broken
+too_long_for None at xs = []
+too_long_for (Some a) at xs = too_many_elements (count_of_elements xs) (elements_of_array a) at
+
+abbrev pub too_long_list : Declared → Option VariableType → Initial → List Broken
 too_long_list text t (constant l) = []
-too_long_list text t (list at xs) = in_case (is_too_long (array_in (definition_at text t)) xs) at
+too_long_list text t (list at xs) = too_long_for (array_in (definition_at text t)) at xs
 too_long_list text t (structure at xs) = []
 
-abbrev pub too_long : Declared → Start → List ℕ
+abbrev pub too_long : Declared → Start → List Broken
 too_long text s = too_long_list text s.declared s.initial

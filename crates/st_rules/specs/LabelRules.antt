@@ -1,8 +1,9 @@
 -- The labels of a CASE, of all its lists.
-use Rattle.std.specs.Prelude.{ℕ, ℤ, pos, int_lt, int_le, List, [], ◌∷◌, ◌++◌, Bool, true, ◌&&◌, not, if◌then◌else◌}
+use Rattle.std.specs.Prelude.{ℕ, ℤ, pos, int_lt, int_le, nat_lt, List, [], ◌∷◌, ◌++◌, map, Bool, true, ◌&&◌, ◌||◌, not}
 use Rattle.std.specs.Prelude.{Option, Some}
 use Rattle.std.specs.Prelude.{None}
-use Rattle.std.specs.List.{flat_map, filter_map}
+use Rattle.std.specs.Ordering.{int_eq}
+use Rattle.std.specs.List.{flat_map, filter, filter_map}
 use Rattle.st_types.specs.declared.kind.Kind.{Kind}
 use Rattle.st_types.specs.declared.literal.Number.{Number}
 use Rattle.st_types.specs.Kinds.{same_kind}
@@ -11,9 +12,10 @@ use Rattle.st_types.specs.declared.statement.Label.TheVariants.{Single, Range, E
 use Rattle.st_types.specs.Statements.{Stmt, CASE, CaseArms, no_case_arms, case_arm_then}
 use Rattle.st_meaning.specs.NameTypes.{Declared}
 use Rattle.st_meaning.specs.Operators.{number_of}
-use Rattle.st_rules.specs.declared.rule.Rule.TheVariants.{WrongType, WrongLabel}
+use Rattle.st_rules.specs.declared.reason.Bounds.{Bounds}
+use Rattle.st_rules.specs.declared.reason.Reason.TheVariants.{LabelType, ReversedLabel, Overlap}
 use Rattle.st_rules.specs.declared.rule.Broken.{Broken}
-use Rattle.st_rules.specs.Faults.{breaking, unless, in_case}
+use Rattle.st_rules.specs.Faults.{breaks, breaking, unless, in_case}
 use Rattle.st_rules.specs.Readings.{Reading, value, unknown, ambiguous, reading_written, wrong_reading}
 use Rattle.st_rules.specs.Environments.{Environment}
 use Rattle.st_rules.specs.Typings.{kind_of, settled, typing_of}
@@ -30,10 +32,11 @@ is_selected (Some k) l = same_kind k l
 
 abbrev pub wrong_label_number : Option Kind → Number → List Broken
 wrong_label_number k n =
-    breaking WrongType (unless (is_selected k (kind_or_taken k n.written)) n.place) ++ wrong_number k n
+    breaking (LabelType k (kind_or_taken k n.written)) (unless (is_selected k (kind_or_taken k n.written)) n.place)
+    ++ wrong_number k n
 
 abbrev pub wrong_label_value : Option Kind → ℕ → Reading → List Broken
-wrong_label_value k at (value m) = breaking WrongType (unless (is_selected k m.kind) at)
+wrong_label_value k at (value m) = breaking (LabelType k m.kind) (unless (is_selected k m.kind) at)
 wrong_label_value k at unknown = wrong_reading at unknown
 wrong_label_value k at ambiguous = wrong_reading at ambiguous
 
@@ -81,17 +84,31 @@ meet s t =
     same_kind s.kind t.kind && not (is_reversed s) && not (is_reversed t)
     && int_le s.lower t.upper && int_le t.lower s.upper
 
--- the places of both of two labels that overlap, whether in one list or in two
-abbrev pub overlaps : List Span → List ℕ
-overlaps [] = []
-overlaps (s ∷ ss) = flat_map (λ t. if meet s t then t.place ∷ s.place ∷ [] else []) ss ++ overlaps ss
+abbrev pub bounds_of : Span → Bounds
+bounds_of s = record { lower = s.lower; upper = s.upper }
 
-abbrev pub wrong_spans : List Span → List ℕ
-wrong_spans ss = flat_map (λ s. in_case (is_reversed s) s.place) ss ++ overlaps ss
+-- a label that overlaps another one
+abbrev pub overlap : Span → Span → Broken
+overlap s other = breaks (Overlap (bounds_of s) (bounds_of other) other.place) s.place
+
+-- the first of two labels begins before the other: at a smaller number, or at the same one and before it in the text
+abbrev pub begins_before : Span → Span → Bool
+begins_before s t = int_lt s.lower t.lower || (int_eq s.lower t.lower && nat_lt s.place t.place)
+
+-- a label with each other one that it overlaps, whether in its list or in another one: so both of two that overlap
+abbrev pub overlaps_of : List Span → Span → List Broken
+overlaps_of ss t = map (overlap t) (filter (λ s. meet s t && (begins_before s t || begins_before t s)) ss)
+
+abbrev pub overlaps : List Span → List Broken
+overlaps ss = flat_map (overlaps_of ss) ss
+
+abbrev pub wrong_spans : List Span → List Broken
+wrong_spans ss =
+    flat_map (λ s. breaking (ReversedLabel (bounds_of s)) (in_case (is_reversed s) s.place)) ss ++ overlaps ss
 
 abbrev pub wrong_labels : Declared → Option Kind → List Label → List Broken
 wrong_labels text k labels =
-    flat_map (wrong_label text k) labels ++ breaking WrongLabel (wrong_spans (spans_of text k labels))
+    flat_map (wrong_label text k) labels ++ wrong_spans (spans_of text k labels)
 
 -- an untyped selector is a LINT; if a selector has no type, its labels are only compared with each other
 abbrev pub wrong_case : Environment → Stmt → List Broken

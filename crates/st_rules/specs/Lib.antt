@@ -1,4 +1,7 @@
+pub mod Reasons
 pub mod Faults
+pub mod Equality
+pub mod Collecting
 pub mod Places
 pub mod InitialScopes
 pub mod NameScopes

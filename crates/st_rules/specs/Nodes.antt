@@ -1,5 +1,5 @@
 -- The parts of an expression, each with the demand of its place.
-use Rattle.std.specs.Prelude.{List, [], ◌∷◌, ◌++◌, if◌then◌else◌, Option, None}
+use Rattle.std.specs.Prelude.{ℕ, List, [], ◌∷◌, ◌++◌, if◌then◌else◌, Option, None}
 use Rattle.st_types.specs.declared.kind.Kind.{Kind}
 use Rattle.st_types.specs.declared.operator.BinaryOperator.{BinaryOperator}
 use Rattle.st_types.specs.Expressions.{Expr, literal, read, call, parenthesis, unary, binary, Exprs, no_exprs}
@@ -8,6 +8,7 @@ use Rattle.st_types.specs.Expressions.{no_selectors, selector_then}
 use Rattle.st_meaning.specs.Resolution.{is_joining, expected_of_both}
 use Rattle.st_rules.specs.Environments.{Environment, Callee, callee_of}
 use Rattle.st_rules.specs.declared.demand.Sorts.TheVariants.{Whole as whole}
+use Rattle.st_rules.specs.declared.demand.Purpose.TheVariants.{Subscript}
 use Rattle.st_rules.specs.declared.demand.Demand.{Demand}
 use Rattle.st_rules.specs.declared.demand.Demand.TheVariants.{Operand as operand, Asked as asked}
 use Rattle.st_rules.specs.declared.typings.Typing.{Typing}
@@ -33,9 +34,9 @@ abbrev pub other_demands : List Demand → List Demand
 other_demands [] = []
 other_demands (d ∷ ds) = ds
 
--- the demands of a call on its arguments
-abbrev pub demands_of : Environment → Option Callee → Exprs → List Demand
-demands_of env callee es = demands_of_callee callee (common_of callee (kinds_of (typings_of env es)))
+-- the demands of a call at a place on its arguments
+abbrev pub demands_of : Environment → ℕ → Option Callee → Exprs → List Demand
+demands_of env at callee es = demands_of_callee at callee (common_of callee (kinds_of (typings_of env es)))
 
 abbrev pub node : Demand → Expr → Node
 node d e = record { demand = d; tree = e }
@@ -44,7 +45,7 @@ abbrev mutual
   pub nodes_below : Environment → Option Kind → Expr → List Node
   nodes_below env k (literal l) = []
   nodes_below env k (read v) = nodes_of_place env v
-  nodes_below env k (call f es) = nodes_of_all env (demands_of env (callee_of env f.name) es) es
+  nodes_below env k (call f es) = nodes_of_all env (demands_of env f.place (callee_of env f.name) es) es
   nodes_below env k (parenthesis at e) = node (operand k) e ∷ nodes_below env k e
   nodes_below env k (unary op at e) = node (operand k) e ∷ nodes_below env k e
   nodes_below env k (binary op l r) =
@@ -69,7 +70,7 @@ abbrev mutual
   -- a subscript is a whole number
   pub nodes_of_selector : Environment → Selector → List Node
   nodes_of_selector env (member x) = []
-  nodes_of_selector env (subscript e) = node (asked None whole) e ∷ nodes_below env None e
+  nodes_of_selector env (subscript e) = node (asked None whole Subscript) e ∷ nodes_below env None e
 
 -- an expression with its parts
 abbrev pub nodes_of : Environment → Demand → Expr → List Node

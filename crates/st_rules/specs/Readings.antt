@@ -4,7 +4,7 @@ use Rattle.st_types.specs.declared.literal.EnumeratedValue.{EnumeratedValue}
 use Rattle.st_meaning.specs.Scopes.{Name}
 use Rattle.st_meaning.specs.Enumerations.{Member, enumerations_of, members_named, member_of_type}
 use Rattle.st_meaning.specs.NameTypes.{Declared}
-use Rattle.st_rules.specs.declared.rule.Rule.TheVariants.{UnknownName, WrongType}
+use Rattle.st_rules.specs.declared.reason.Reason.TheVariants.{Undeclared, Ambiguous}
 use Rattle.st_rules.specs.declared.rule.Broken.{Broken}
 use Rattle.st_rules.specs.Faults.{breaking}
 
@@ -37,5 +37,5 @@ reading_written text v = elim v.type_name [
 
 abbrev pub wrong_reading : ℕ → Reading → List Broken
 wrong_reading at (value m) = []
-wrong_reading at unknown = breaking UnknownName (at ∷ [])
-wrong_reading at ambiguous = breaking WrongType (at ∷ [])
+wrong_reading at unknown = breaking Undeclared (at ∷ [])
+wrong_reading at ambiguous = breaking Ambiguous (at ∷ [])

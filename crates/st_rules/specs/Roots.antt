@@ -6,8 +6,11 @@ use Rattle.st_types.specs.Expressions.{Expr, Variable}
 use Rattle.st_types.specs.Statements.{Argument, given, copied, Stmt, assign, invoke, IF, CASE, FOR, WHILE}
 use Rattle.st_types.specs.Statements.{REPEAT, Arms, no_arms, arm_then}
 use Rattle.st_meaning.specs.Scopes.{Name}
+use Rattle.st_meaning.specs.Resolution.{place_of_variable}
 use Rattle.st_rules.specs.declared.rule.Broken.{Broken}
 use Rattle.st_rules.specs.declared.demand.Sorts.TheVariants.{Selecting, NoSort}
+use Rattle.st_rules.specs.declared.demand.Purpose.{Purpose}
+use Rattle.st_rules.specs.declared.demand.Purpose.TheVariants as purposes
 use Rattle.st_rules.specs.declared.demand.Demand.{Demand}
 use Rattle.st_rules.specs.declared.demand.Demand.TheVariants.{Operand, Asked}
 use Rattle.st_rules.specs.declared.typings.Typing.{Typing}
@@ -19,17 +22,17 @@ use Rattle.st_rules.specs.Nodes.{Node, node, nodes_of, nodes_of_place}
 use Rattle.st_rules.specs.ExpressionRules.{wrong_node}
 
 -- The demand of a variable on a value: its type. A variable with parts takes no value, and an unknown one demands nothing.
-abbrev pub demand_of_typing : Typing → Demand
-demand_of_typing (Elementary k) = exactly k
-demand_of_typing Composite = Asked None NoSort
-demand_of_typing Untyped = Operand None
-demand_of_typing Nothing = Operand None
+abbrev pub demand_of_typing : Purpose → Typing → Demand
+demand_of_typing p (Elementary k) = exactly k p
+demand_of_typing p Composite = Asked None NoSort p
+demand_of_typing p Untyped = Operand None
+demand_of_typing p Nothing = Operand None
 
-abbrev pub demand_of_type : Environment → Option VariableType → Demand
-demand_of_type env t = demand_of_typing (typing_of_type env.text t)
+abbrev pub demand_of_type : Environment → Purpose → Option VariableType → Demand
+demand_of_type env p t = demand_of_typing p (typing_of_type env.text t)
 
 abbrev pub roots_of_argument : Environment → Name → Argument → List Node
-roots_of_argument env instance (given x e) = node (demand_of_type env (input_of env instance x.name)) e ∷ []
+roots_of_argument env instance (given x e) = node (demand_of_type env (purposes.Input x.place) (input_of env instance x.name)) e ∷ []
 roots_of_argument env instance (copied x v) = []
 
 abbrev pub conditions_of : Arms → List Node
@@ -41,14 +44,14 @@ roots_of_step d None = []
 roots_of_step d (Some e) = node d e ∷ []
 
 abbrev pub roots_of : Environment → Stmt → List Node
-roots_of env (assign v e) = node (demand_of_type env (type_of_place env v)) e ∷ []
+roots_of env (assign v e) = node (demand_of_type env (purposes.Assigned (place_of_variable v)) (type_of_place env v)) e ∷ []
 roots_of env (invoke x arguments) = flat_map (roots_of_argument env x.name) arguments
 roots_of env (IF arms otherwise) = conditions_of arms
-roots_of env (CASE e arms otherwise) = node (Asked None Selecting) e ∷ []
+roots_of env (CASE e arms otherwise) = node (Asked None Selecting purposes.Selector) e ∷ []
 roots_of env (FOR x start limit step body) =
-    (node (demand_of_type env (type_of_name env x.name)) start
-    ∷ node (demand_of_type env (type_of_name env x.name)) limit ∷ [])
-    ++ roots_of_step (demand_of_type env (type_of_name env x.name)) step
+    (node (demand_of_type env (purposes.Count x.place) (type_of_name env x.name)) start
+    ∷ node (demand_of_type env (purposes.Count x.place) (type_of_name env x.name)) limit ∷ [])
+    ++ roots_of_step (demand_of_type env (purposes.Count x.place) (type_of_name env x.name)) step
 roots_of env (WHILE e body) = node condition e ∷ []
 roots_of env (REPEAT body e) = node condition e ∷ []
 roots_of env _ = []

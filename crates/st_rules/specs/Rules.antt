@@ -4,8 +4,7 @@ use Rattle.std.specs.List.{flat_map, Contains}
 use Rattle.st_types.specs.Units.{OrganisationUnit}
 use Rattle.st_types.specs.Sources.{Source}
 use Rattle.st_meaning.specs.NameTypes.{Declared, declared_in, units_in}
-use Rattle.st_rules.specs.declared.rule.Rule.TheVariants.{DeclaredTwice, TooDeep, WrongBounds, RetainedAddress}
-use Rattle.st_rules.specs.declared.rule.Rule.TheVariants.{TooManyNames, OutOfRange}
+use Rattle.st_rules.specs.declared.reason.Reason.TheVariants.{RetainedAddress, SurplusName, PriorityTooGreat}
 use Rattle.st_rules.specs.declared.rule.Broken.{Broken}
 use Rattle.st_rules.specs.Faults.{breaking}
 use Rattle.st_rules.specs.TwiceDeclared.{twice_declared}
@@ -27,20 +26,20 @@ starts_in source = flat_map (starts_of_declaring (declared_in source)) (declarin
 -- The rules on declarations alone: names, depths, bounds and lists, addresses.
 abbrev pub wrong_declarations : Source → List Broken
 wrong_declarations source =
-    breaking DeclaredTwice (twice_declared source) ++ breaking TooDeep (too_deep source)
-    ++ breaking WrongBounds (flat_map wrong_bounds (arrays_in source))
-    ++ breaking WrongBounds (flat_map (too_long (declared_in source)) (starts_in source))
+    twice_declared source ++ too_deep source
+    ++ flat_map wrong_bounds (arrays_in source)
+    ++ flat_map (too_long (declared_in source)) (starts_in source)
     ++ breaking RetainedAddress (flat_map retained_addresses_of source)
 
 -- the types and the numbers of declarations
 abbrev pub wrong_types : Source → List Broken
 wrong_types source =
-    breaking TooManyNames (flat_map surplus_name (enumerations_in source))
+    breaking SurplusName (flat_map surplus_name (enumerations_in source))
     ++ flat_map (wrong_declaring (declared_in source)) (declarings_in source)
     ++ flat_map (wrong_element (declared_in source)) (arrays_in source)
     ++ flat_map (wrong_result (declared_in source)) (results_in source)
     ++ flat_map wrong_bound_numbers (arrays_in source)
-    ++ breaking OutOfRange (flat_map wrong_priorities_of source)
+    ++ breaking PriorityTooGreat (flat_map wrong_priorities_of source)
 
 abbrev pub wrong_starts : Source → List Broken
 wrong_starts source = flat_map (wrong_start (declared_in source)) (starts_in source)

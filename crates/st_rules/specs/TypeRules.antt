@@ -23,7 +23,9 @@ use Rattle.st_meaning.specs.Operators.{number_of, natural}
 use Rattle.st_meaning.specs.StandardFunctions.{standard_of}
 use Rattle.st_meaning.specs.NameTypes.{Declared, type_named, unit_named}
 use Rattle.st_rules.specs.declared.limits.TheConstants.{MAX_ELEMENTS, MAX_NAMES}
-use Rattle.st_rules.specs.declared.rule.Rule.TheVariants.{UnknownName, WrongType}
+use Rattle.st_rules.specs.declared.reason.Bounds.{Bounds}
+use Rattle.st_rules.specs.declared.reason.Reason.TheVariants.{Undeclared, NotType, NoInstanceAllowed, HasParts}
+use Rattle.st_rules.specs.declared.reason.Reason.TheVariants.{InstanceWithValue, WrongBounds}
 use Rattle.st_rules.specs.declared.rule.Broken.{Broken}
 use Rattle.st_rules.specs.Faults.{breaking, unless, in_case}
 use Rattle.st_rules.specs.Environments.{is_block, is_block_type}
@@ -45,10 +47,9 @@ place_of_type (types.Array a) = a.place
 abbrev pub wrong_named : Declared → Bool → Identifier → List Broken
 wrong_named text blocks x =
     if is_some (type_named text.types x.name) then []
-    else if is_block text x.name then breaking WrongType (unless blocks x.place)
-    else if is_some (unit_named text.units x.name) || is_some (standard_of x.name) then breaking WrongType
-    (x.place ∷ [])
-    else breaking UnknownName (x.place ∷ [])
+    else if is_block text x.name then breaking NoInstanceAllowed (unless blocks x.place)
+    else if is_some (unit_named text.units x.name) || is_some (standard_of x.name) then breaking NotType (x.place ∷ [])
+    else breaking Undeclared (x.place ∷ [])
 
 abbrev pub wrong_simple : Declared → Bool → SimpleType → List Broken
 wrong_simple text blocks (Elementary k at) = []
@@ -79,9 +80,10 @@ is_without_parts _ = false
 abbrev pub wrong_declaring : Declared → Declaring → List Broken
 wrong_declaring text d =
     wrong_name text (may_be_instance d.role) d.declared
-    ++ breaking WrongType (in_case (is_without_parts d.role && is_composite (typing_of_type text (Some d.declared)))
+    ++ breaking HasParts (in_case (is_without_parts d.role && is_composite (typing_of_type text (Some d.declared)))
     (place_of_type d.declared))
-    ++ breaking WrongType (in_case (is_block_type text d.declared && is_some d.initial) (place_of_type d.declared))
+    ++ breaking InstanceWithValue
+    (in_case (is_block_type text d.declared && is_some d.initial) (place_of_type d.declared))
 
 -- the type of an element isn't a block
 abbrev pub wrong_element : Declared → ArrayType → List Broken
@@ -91,7 +93,7 @@ wrong_element text a = wrong_simple text false a.element
 abbrev pub wrong_result : Declared → SimpleType → List Broken
 wrong_result text t =
     wrong_simple text false t
-    ++ breaking WrongType (in_case (is_composite (typing_of_type text (Some (types.Simple t)))) (place_of_simple t))
+    ++ breaking HasParts (in_case (is_composite (typing_of_type text (Some (types.Simple t)))) (place_of_simple t))
 
 -- each bound is judged within its own type, an untyped one within LINT
 abbrev pub wrong_bound_numbers : ArrayType → List Broken
@@ -105,8 +107,11 @@ elements_of_array a = natural ((number_of a.upper -ℤ number_of a.lower) +ℤ p
 abbrev pub has_wrong_bounds : ArrayType → Bool
 has_wrong_bounds a = int_lt (number_of a.upper) (number_of a.lower) || nat_lt MAX_ELEMENTS (elements_of_array a)
 
-abbrev pub wrong_bounds : ArrayType → List ℕ
-wrong_bounds a = in_case (has_wrong_bounds a) a.lower.place
+abbrev pub bounds_of : ArrayType → Bounds
+bounds_of a = record { lower = number_of a.lower; upper = number_of a.upper }
+
+abbrev pub wrong_bounds : ArrayType → List Broken
+wrong_bounds a = breaking (WrongBounds (bounds_of a)) (in_case (has_wrong_bounds a) a.lower.place)
 
 -- an address in a block of retained globals
 abbrev pub is_retain : Option GlobalQualifier → Bool

@@ -129,13 +129,17 @@ settled k (elementary l) = elementary l
 settled k composite = composite
 settled k nothing = nothing
 
--- The typing meets the place's demand. An expression with an unknown name meets it: only the name is reported.
+-- a type of these sorts, and the expected one; an expression with an unknown name has each: only the name is reported
+abbrev pub fits : Option Kind → Sorts → Typing → Bool
+fits k ss untyped = false
+fits k ss (elementary l) = is_kind k l && in_sorts ss (row_of l).sort
+fits k ss composite = false
+fits k ss nothing = true
+
+-- the typing meets the place's demand
 abbrev pub allows : Demand → Typing → Bool
 allows (operand k) t = true
-allows (asked k ss) untyped = false
-allows (asked k ss) (elementary l) = is_kind k l && in_sorts ss (row_of l).sort
-allows (asked k ss) composite = false
-allows (asked k ss) nothing = true
+allows (asked k ss p) t = fits k ss t
 
 -- operands of one type, of these sorts
 abbrev pub are_operands : Sorts → Typing → Typing → Bool

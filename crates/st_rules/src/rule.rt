@@ -1,53 +1,42 @@
 //! Rules that a text may break.
 
+use crate::reason::Reason;
 use thiserror::Error;
 
-/// A rule on declarations, names and types. It is shown as its number; C12 isn't a rule, but out of memory.
-#[derive(Clone, Copy, Debug, PartialEq, Eq, Error)]
+/// A rule on declarations, names and types. C12 isn't a rule, but out of memory.
+#[derive(Clone, Copy, Debug, PartialEq, Eq)]
 pub enum Rule {
-    /// A name is unknown.
-    #[error("C1")]
+    /// C1: a name is unknown.
     UnknownName,
-    /// A name is declared twice in its scope, occurs twice in a structure's initial value, or is taken.
-    #[error("C2")]
+    /// C2: a name is declared twice in its scope, occurs twice in a structure's initial value, or is taken.
     DeclaredTwice,
-    /// A type is wrong.
-    #[error("C3")]
+    /// C3: a type is wrong.
     WrongType,
-    /// A literal is outside its type's range.
-    #[error("C4")]
+    /// C4: a literal is outside its type's range.
     OutOfRange,
-    /// An input, a constant, the control variable of a FOR that runs or, from outside its instance, an output is
+    /// C5: an input, a constant, the control variable of a FOR that runs or, from outside its instance, an output is
     /// assigned.
-    #[error("C5")]
     NotAssignable,
-    /// A unit or type contains itself, or a type, block or function is over 64 deep.
-    #[error("C6")]
+    /// C6: a unit or type contains itself, or a type, block or function is over 64 deep.
     TooDeep,
-    /// A label's range is reversed, or labels overlap.
-    #[error("C7")]
+    /// C7: a label's range is reversed, or labels overlap.
     WrongLabel,
-    /// An array's bounds are reversed or too wide, or an initial list is too long.
-    #[error("C8")]
+    /// C8: an array's bounds are reversed or too wide, or an initial list is too long.
     WrongBounds,
-    /// EXIT is outside a loop.
-    #[error("C9")]
+    /// C9: EXIT is outside a loop.
     ExitOutsideLoop,
-    /// A call's arguments don't fit in name, number or repetition.
-    #[error("C10")]
+    /// C10: a call's arguments don't fit in name, number or repetition.
     WrongArguments,
-    /// An address is in a block of retained globals.
-    #[error("C11")]
+    /// C11: an address is in a block of retained globals.
     RetainedAddress,
-    /// An enumerated type has more than 256 names.
-    #[error("C13")]
+    /// C13: an enumerated type has more than 256 names.
     TooManyNames,
 }
 
-/// A broken rule, with the offset of the first byte of the name or expression at fault. It is shown as `C3 at 38`.
+/// A broken rule: why, and the offset of the first byte of the name or expression at fault. It is shown as `C3 at 38`.
 #[derive(Clone, Copy, Debug, PartialEq, Eq, Error)]
-#[error("{rule} at {place}")]
+#[error("{reason} at {place}")]
 pub struct Broken {
-    pub rule: Rule,
+    pub reason: Reason,
     pub place: usize,
 }

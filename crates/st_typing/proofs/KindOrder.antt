@@ -1,5 +1,6 @@
 -- The order of types, and of spans by their types.
-use Rattle.std.proofs.Common.{◌≡◌, refl, sym, ◌∙◌, ℕ, ◌<◌, ◌≤ℤ◌, ℤ, Bool, true, false, ◌&&◌, ◌==◌, cond, arith}
+use Rattle.std.proofs.Common.{◌≡◌, refl, sym, ◌∙◌, ℕ, ◌<◌, ◌<ℤ◌, ◌≤ℤ◌, ℤ, subst, arith}
+use Rattle.std.proofs.Common.{Bool, true, false, ◌&&◌, ◌==◌, cond}
 use Rattle.std.specs.Prelude.{nat_lt, int_lt}
 use Rattle.std.specs.Ordering.{is_lt, nat_cmp, int_cmp, ordering_then}
 use Rattle.std.specs.declared.cmp.Ordering.{Ordering}
@@ -9,7 +10,7 @@ use Rattle.std.proofs.lemmas.Bool.Decides.{nat_tests}
 use Rattle.st_types.specs.declared.kind.Kind.{Kind}
 use Rattle.st_types.specs.Kinds.{same_kind, kind_index, names_in, number_of_type}
 use Rattle.st_typing.specs.declared.spans.Span.{Span}
-use Rattle.st_typing.specs.Spans.{Before, by_row, by_names, by_number, InOrder, by_type, by_lower}
+use Rattle.st_typing.specs.Spans.{Before, by_row, by_names, by_number, InOrder, by_type, by_lower, by_place}
 use Rattle.st_types.proofs.TestLemmas.{equal_numbers}
 use Rattle.st_types.proofs.KindLemmas.{same_kind-refl}
 
@@ -114,19 +115,41 @@ compared a b = by (nat_lt a b) (a == b) refl refl
     by false true h j = equal (grind (arith, nat_tests))
     by false false h j = greater (grind (arith, nat_tests))
 
-at_or_below : (a b : ℤ) → is_lt (int_cmp a b) ≡ false → b ≤ℤ a
-at_or_below a b h = by (int_lt a b) (int_lt b a) refl h
+-- The later of two that begin at one number is not before the earlier one in the text, and at one place it does not end
+-- before it.
+ends_in_order : (s t : Span) → same_kind s.kind t.kind ≡ true → s.lower ≡ t.lower
+    → is_lt (ordering_then (nat_cmp t.place s.place) (int_cmp t.upper s.upper)) ≡ false → InOrder s t
+ends_in_order s t own is h =
+    by (nat_cmp t.place s.place) (int_lt t.upper s.upper) (int_lt s.upper t.upper) (compared t.place s.place) refl refl
+    h
   where
-    by : (t u : Bool) → int_lt a b ≡ t → is_lt (cond t Less (cond u Greater Equal)) ≡ false → b ≤ℤ a
-    by true u e i = absurd (cc)
-    by false u e i = grind (arith, ints)
+    by : (o : Ordering) (p q : Bool) → Compared t.place s.place o → int_lt t.upper s.upper ≡ p
+        → int_lt s.upper t.upper ≡ q → is_lt (ordering_then o (cond p Less (cond q Greater Equal))) ≡ false
+        → InOrder s t
+    by _ p q (less a) e f i = absurd (cc)
+    by _ p q (greater a) e f i = by_place own is (omega (arith, a)) (λ same. absurd (omega (arith, a, same)))
+    by _ true q (equal a) e f i = absurd (cc)
+    by _ false q (equal a) e f i = by_place own is (omega (arith, a)) (λ same. grind (arith, ints))
+
+-- The later of two of one type does not begin before the earlier one.
+begins_in_order : (s t : Span) → same_kind s.kind t.kind ≡ true
+    → is_lt (ordering_then (ordering_then (int_cmp t.lower s.lower) (nat_cmp t.place s.place))
+    (int_cmp t.upper s.upper)) ≡ false → InOrder s t
+begins_in_order s t own h = by (int_lt t.lower s.lower) (int_lt s.lower t.lower) refl refl h
+  where
+    by : (p q : Bool) → int_lt t.lower s.lower ≡ p → int_lt s.lower t.lower ≡ q
+        → is_lt (ordering_then (ordering_then (cond p Less (cond q Greater Equal)) (nat_cmp t.place s.place))
+        (int_cmp t.upper s.upper)) ≡ false → InOrder s t
+    by true q e f i = absurd (cc)
+    by false true e f i = by_lower own (grind (arith, ints))
+    by false false e f i = ends_in_order s t own (grind (arith, ints)) i
 
 -- The later one does not come before the earlier one.
 pub in_order : (s t : Span)
-    → is_lt (ordering_then (ordering_then (ordering_then (nat_cmp (kind_index t.kind) (kind_index s.kind))
-    (nat_cmp (names_in t.kind) (names_in s.kind))) (nat_cmp (number_of_type t.kind) (number_of_type s.kind)))
-    (int_cmp t.lower s.lower)) ≡ false
-    → InOrder s t
+    → is_lt (ordering_then (ordering_then (ordering_then (ordering_then
+    (ordering_then (nat_cmp (kind_index t.kind) (kind_index s.kind)) (nat_cmp (names_in t.kind) (names_in s.kind)))
+    (nat_cmp (number_of_type t.kind) (number_of_type s.kind))) (int_cmp t.lower s.lower)) (nat_cmp t.place s.place))
+    (int_cmp t.upper s.upper)) ≡ false → InOrder s t
 in_order s t h =
     by (nat_cmp (kind_index t.kind) (kind_index s.kind)) (nat_cmp (names_in t.kind) (names_in s.kind))
     (nat_cmp (number_of_type t.kind) (number_of_type s.kind)) (compared (kind_index t.kind) (kind_index s.kind))
@@ -135,8 +158,8 @@ in_order s t h =
     by : (o p q : Ordering) → Compared (kind_index t.kind) (kind_index s.kind) o
         → Compared (names_in t.kind) (names_in s.kind) p
         → Compared (number_of_type t.kind) (number_of_type s.kind) q
-        → is_lt (ordering_then (ordering_then (ordering_then o p) q) (int_cmp t.lower s.lower)) ≡ false
-        → InOrder s t
+        → is_lt (ordering_then (ordering_then (ordering_then (ordering_then (ordering_then o p) q)
+        (int_cmp t.lower s.lower)) (nat_cmp t.place s.place)) (int_cmp t.upper s.upper)) ≡ false → InOrder s t
     by _ _ _ (less a) b c e = absurd (cc)
     by _ _ _ (greater a) b c e = by_type (by_row a)
     by _ _ _ (equal a) (less b) c e = absurd (cc)
@@ -144,5 +167,35 @@ in_order s t h =
     by _ _ _ (equal a) (equal b) (less c) e = absurd (cc)
     by _ _ _ (equal a) (equal b) (greater c) e = by_type (by_number (sym a) (sym b) c)
     by _ _ _ (equal a) (equal b) (equal c) e =
-        by_lower (same_tested s.kind t.kind (record { row = sym a; names = sym b; number = sym c }))
-        (at_or_below t.lower s.lower e)
+        begins_in_order s t
+        (same_tested s.kind t.kind (record { row = sym a; names = sym b; number = sym c })) e
+
+pub kinds_then : (k l m : Kind) → same_kind k l ≡ true → same_kind l m ≡ true → same_kind k m ≡ true
+kinds_then k l m h j = kinds_joined l k m (kinds_turned k l h) j
+
+-- spans in order, and what stands before a span's type
+pub before_in_order : (k : Kind) (s t : Span) → Before k s.kind → InOrder s t → Before k t.kind
+before_in_order k s t b (by_type c) = before_before k s.kind t.kind b c
+before_in_order k s t b (by_lower own lt) = before_same k s.kind t.kind b own
+before_in_order k s t b (by_place own is le ends) = before_same k s.kind t.kind b own
+
+pub at_most_then : (u v w : ℤ) → u ≤ℤ v → v ≤ℤ w → u ≤ℤ w
+at_most_then u v w h i = grind (arith, ints)
+
+pub in_order_then : (s t u : Span) → InOrder s t → InOrder t u → InOrder s u
+in_order_then s t u (by_type b) i = by_type (before_in_order s.kind t u b i)
+in_order_then s t u (by_lower own lt) (by_type c) = by_type (same_before s.kind t.kind u.kind own c)
+in_order_then s t u (by_lower own lt) (by_lower same further) =
+    by_lower (kinds_then s.kind t.kind u.kind own same) (below_below s.lower t.lower u.lower lt further)
+  where
+    below_below : (a b c : ℤ) → a <ℤ b → b <ℤ c → a <ℤ c
+    below_below a b c h i = grind (arith, ints)
+in_order_then s t u (by_lower own lt) (by_place same is le ends) =
+    by_lower (kinds_then s.kind t.kind u.kind own same) (subst (λ v. s.lower <ℤ v) is lt)
+in_order_then s t u (by_place own is le ends) (by_type c) = by_type (same_before s.kind t.kind u.kind own c)
+in_order_then s t u (by_place own is le ends) (by_lower same lt) =
+    by_lower (kinds_then s.kind t.kind u.kind own same) (subst (λ v. v <ℤ u.lower) (sym is) lt)
+in_order_then s t u (by_place own is le ends) (by_place same also at_most after) =
+    by_place (kinds_then s.kind t.kind u.kind own same) (is ∙ also) (omega (arith, le, at_most))
+    (λ at. at_most_then s.upper t.upper u.upper (ends (omega (arith, le, at_most, at)))
+    (after (omega (arith, le, at_most, at))))

@@ -1,4 +1,3 @@
-pub mod Verdicts
 pub mod Answers
 pub mod Selections
 pub mod Arguments

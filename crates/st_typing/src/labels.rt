@@ -5,7 +5,7 @@ ghost use Rattle.std.specs.List.{flat_map};
 ghost use Rattle.st_types.specs.Statements.{case_arms_of};
 ghost use Rattle.st_types.specs.StatementViews.{case_arm_view};
 ghost use Rattle.st_meaning.specs.NameTypes.{Declared};
-ghost use Rattle.st_rules.specs.Faults.{Finds};
+ghost use Rattle.st_rules.specs.Collecting.{Adds, Covers, Collects};
 ghost use Rattle.st_rules.specs.LabelRules.{labels_of, wrong_label, span_of_reading, span_of, spans_of};
 ghost use Rattle.st_rules.specs.LabelRules.{wrong_labels};
 ghost use Rattle.symbols.specs.Enumerated.{reading_view};
@@ -14,10 +14,9 @@ ghost use Rattle.st_typing.specs.Spans.{span_view};
 
 use crate::kinds::kind_or_taken;
 use crate::lone_labels::wrong_label;
-use crate::spans::{Span, first_wrong_span};
-use crate::verdicts::broken_at;
+use crate::spans::{Span, wrong_spans};
 use st_meaning::number_of;
-use st_rules::{Broken, Rule};
+use st_rules::BrokenRules;
 use st_types::{CaseArm, Kind, Label};
 use std::alloc::{AllocError, Global};
 use symbols::{Reading, TextTables};
@@ -45,20 +44,19 @@ fn labels_of<'a>(alloc: Global, arms: &'a [CaseArm]) -> Result<Vec<&'a Label>, A
     Ok(labels)
 }
 
-fn first_wrong_label(
+/// Adds the faults in labels by themselves.
+fn wrong_alone(
     tables: &TextTables,
     selector: Option<Kind>,
     labels: &[&Label],
-) -> Option<Broken>
+    broken: &mut BrokenRules,
+)
     ensures { (text : Declared) → ServesTables tables.now text
-        → Finds (flat_map (wrong_label text selector) (map (λ x. x.now) labels.now)) result }
+        → Collects (flat_map (wrong_label text selector) (map (λ x. x.now) labels.now)) broken.old broken.new }
 {
     for label in labels {
-        if let Some(broken) = wrong_label(tables, selector, label) {
-            return Some(broken);
-        }
+        wrong_label(tables, selector, label, broken);
     }
-    None
 }
 
 fn span_of_reading(place: usize, reading: Reading) -> Option<Span>
@@ -118,21 +116,22 @@ fn spans_of(
     Ok(spans)
 }
 
-/// A fault in the labels of a CASE whose selector has this type, if it has one.
+/// Adds the faults in the labels of a CASE whose selector has this type, if it has one.
 pub fn wrong_labels(
     alloc: Global,
     tables: &TextTables,
     selector: Option<Kind>,
     arms: &[CaseArm],
-) -> Result<Option<Broken>, AllocError>
-    ensures { IfOk result (λ broken. (text : Declared) → ServesTables tables.now text
-        → Finds (wrong_labels text selector (labels_of (case_arms_of (map case_arm_view arms.now)))) broken) }
+    broken: &mut BrokenRules,
+) -> Result<(), AllocError>
+    ensures adds { (text : Declared) → ServesTables tables.now text
+        → Adds (wrong_labels text selector (labels_of (case_arms_of (map case_arm_view arms.now)))) broken.old
+        broken.new }
+    ensures covers { IfOk result (λ done. (text : Declared) → ServesTables tables.now text
+        → Covers (wrong_labels text selector (labels_of (case_arms_of (map case_arm_view arms.now)))) broken.new) }
 {
     let labels = labels_of(alloc, arms)?;
-    if let Some(broken) = first_wrong_label(tables, selector, &labels) {
-        return Ok(Some(broken));
-    }
+    wrong_alone(tables, selector, &labels, broken);
     let spans = spans_of(alloc, tables, selector, &labels)?;
-    let place = first_wrong_span(spans)?;
-    Ok(broken_at(Rule::WrongLabel, place))
+    wrong_spans(spans, broken)
 }

@@ -19,19 +19,17 @@ mod selections;
 mod settling;
 mod sorts;
 mod spans;
-mod verdicts;
 
 pub use expressions::{place_of, typing, wrong_expression};
 pub use kinds::{kind_or_taken, or_kind, taken_kind};
 pub use labels::wrong_labels;
 pub use literals::wrong_number;
 pub use lone_labels::wrong_label;
-pub use operands::{allows, demand_of_typing, is_nothing, kind_of, settled};
+pub use operands::{allows, demand_of_typing, fits, is_nothing, kind_of, settled};
 pub use places::{first_byte, place_of_literal};
 pub use readings::wrong_reading;
 pub use selections::{
-    demand_of_type, selected_type, type_after_selectors, typing_of_place, wrong_selector,
+    demand_of_type, select, selected_type, type_after_selectors, type_word, typing_of_place,
 };
 pub use settling::settle;
 pub use sorts::is_joining;
-pub use verdicts::{broken_at, either, in_case, unless};

@@ -4,12 +4,12 @@ ghost use Rattle.std.specs.Prelude.{◌≡◌};
 ghost use Rattle.st_types.specs.Kinds.{holds};
 ghost use Rattle.st_meaning.specs.Operators.{number_of};
 ghost use Rattle.st_meaning.specs.Resolution.{is_untyped_literal};
-ghost use Rattle.st_rules.specs.Faults.{Finds};
+ghost use Rattle.st_rules.specs.Collecting.{Collects};
 ghost use Rattle.st_rules.specs.ExpressionRules.{wrong_number};
 
 use crate::kinds::kind_or_taken;
 use st_meaning::number_of;
-use st_rules::{Broken, Rule};
+use st_rules::{BrokenRules, Reason};
 use st_types::{Kind, Literal, Number};
 
 /// Whether the literal has no type of its own.
@@ -30,16 +30,10 @@ fn holds(kind: Kind, number: &Number) -> bool
     kind.least() <= value && value <= kind.greatest()
 }
 
-/// A number outside the type that is written, or outside the one that it takes if one is expected (C4).
-pub fn wrong_number(offered: Option<Kind>, number: &Number) -> Option<Broken>
-    ensures { Finds (wrong_number offered number.now) result }
+/// Adds a number outside the type that is written, or outside the one that it takes if one is expected (C4).
+pub fn wrong_number(offered: Option<Kind>, number: &Number, broken: &mut BrokenRules)
+    ensures { Collects (wrong_number offered number.now) broken.old broken.new }
 {
-    if holds(kind_or_taken(offered, number.written), number) {
-        None
-    } else {
-        Some(Broken {
-            rule: Rule::OutOfRange,
-            place: number.place,
-        })
-    }
+    let kind = kind_or_taken(offered, number.written);
+    broken.add_unless(holds(kind, number), Reason::OutOfRange(kind), number.place);
 }

@@ -2,7 +2,7 @@
 
 ghost use Rattle.std.specs.Prelude.{◌≡◌};
 ghost use Rattle.st_meaning.specs.NameTypes.{Declared};
-ghost use Rattle.st_rules.specs.Faults.{Finds};
+ghost use Rattle.st_rules.specs.Collecting.{Collects};
 ghost use Rattle.st_rules.specs.LabelRules.{is_selected, wrong_label_number, wrong_label_value, wrong_label};
 ghost use Rattle.symbols.specs.Enumerated.{reading_view};
 ghost use Rattle.symbols.specs.Tables.{ServesTables};
@@ -10,8 +10,7 @@ ghost use Rattle.symbols.specs.Tables.{ServesTables};
 use crate::kinds::kind_or_taken;
 use crate::literals::wrong_number;
 use crate::readings::wrong_reading;
-use crate::verdicts::{either, unless};
-use st_rules::{Broken, Rule};
+use st_rules::{BrokenRules, Reason};
 use st_types::{Kind, Label, Number};
 use symbols::{Reading, TextTables};
 
@@ -25,44 +24,55 @@ fn is_selected(selector: Option<Kind>, kind: Kind) -> bool
     }
 }
 
-#[tactic(auto, using(crate::proofs::Finding::finds_front))]
-fn wrong_label_number(selector: Option<Kind>, number: &Number) -> Option<Broken>
-    ensures { Finds (wrong_label_number selector number.now) result }
+fn wrong_label_number(selector: Option<Kind>, number: &Number, broken: &mut BrokenRules)
+    ensures { Collects (wrong_label_number selector number.now) broken.old broken.new }
 {
     let kind = kind_or_taken(selector, number.written);
-    either(
-        unless(is_selected(selector, kind), Rule::WrongType, number.place),
-        wrong_number(selector, number),
-    )
+    broken.add_unless(
+        is_selected(selector, kind),
+        Reason::LabelType(selector, kind),
+        number.place,
+    );
+    wrong_number(selector, number, broken);
 }
 
-fn wrong_label_value(selector: Option<Kind>, place: usize, reading: Reading) -> Option<Broken>
-    ensures { Finds (wrong_label_value selector place (reading_view reading)) result }
+fn wrong_label_value(
+    selector: Option<Kind>,
+    place: usize,
+    reading: Reading,
+    broken: &mut BrokenRules,
+)
+    ensures { Collects (wrong_label_value selector place (reading_view reading)) broken.old broken.new }
 {
     match reading {
-        Reading::Value(member) => unless(
+        Reading::Value(member) => broken.add_unless(
             is_selected(selector, member.kind),
-            Rule::WrongType,
+            Reason::LabelType(selector, member.kind),
             place,
         ),
-        _ => wrong_reading(place, reading),
+        _ => wrong_reading(place, reading, broken),
     }
 }
 
-/// A fault in a label by itself: its type, its numbers, or its name.
-#[tactic(auto, using(crate::proofs::Finding::finds_front))]
-pub fn wrong_label(tables: &TextTables, selector: Option<Kind>, label: &Label) -> Option<Broken>
+/// Adds the faults in a label by itself: its type, its numbers, or its name.
+pub fn wrong_label(
+    tables: &TextTables,
+    selector: Option<Kind>,
+    label: &Label,
+    broken: &mut BrokenRules,
+)
     ensures { (text : Declared) → ServesTables tables.now text
-        → Finds (wrong_label text selector label.now) result }
+        → Collects (wrong_label text selector label.now) broken.old broken.new }
 {
     match label {
-        Label::Single(number) => wrong_label_number(selector, number),
-        Label::Range(lower, upper) => either(
-            wrong_label_number(selector, lower),
-            wrong_label_number(selector, upper),
-        ),
+        Label::Single(number) => wrong_label_number(selector, number, broken),
+        Label::Range(lower, upper) => {
+            wrong_label_number(selector, lower, broken);
+            wrong_label_number(selector, upper, broken);
+        }
         Label::Enumerated(value) => {
-            wrong_label_value(selector, value.place, tables.reading_written(value))
+            let reading = tables.reading_written(value);
+            wrong_label_value(selector, value.place, reading, broken);
         }
     }
 }

@@ -3,19 +3,19 @@
 ghost use Rattle.std.specs.Prelude.{◌≡◌, ◌&&◌, if◌then◌else◌, None};
 ghost use Rattle.st_types.specs.declared.kind.Kind.TheVariants.{Bool};
 ghost use Rattle.st_meaning.specs.Resolution.{is_joining};
-ghost use Rattle.st_rules.specs.declared.rule.Rule.TheVariants.{WrongType};
-ghost use Rattle.st_rules.specs.declared.demand.Demand.TheVariants.{Asked};
+ghost use Rattle.st_rules.specs.declared.reason.Reason.TheVariants.{WrongOperand, WrongOperands, Mismatch};
 ghost use Rattle.st_rules.specs.declared.typings.Typing.TheVariants.{Elementary};
-ghost use Rattle.st_rules.specs.Faults.{Finds, breaking, unless};
+ghost use Rattle.st_rules.specs.Faults.{breaking, unless};
+ghost use Rattle.st_rules.specs.Collecting.{Collects};
 ghost use Rattle.st_rules.specs.Demands.{expected_of, sorts_of_unary, sorts_of_binary};
 ghost use Rattle.st_rules.specs.Typings.{kind_of, is_untyped_typing, is_nothing, typing_of_kind, joined, settled};
-ghost use Rattle.st_rules.specs.Typings.{allows, are_operands};
+ghost use Rattle.st_rules.specs.Typings.{fits, allows, are_operands};
 ghost use Rattle.st_rules.specs.Nodes.{offered};
 ghost use Rattle.st_rules.specs.Roots.{demand_of_typing};
 
 use crate::kinds::{is_kind, taken_kind};
 use crate::sorts::{in_sorts, is_joining, sorts_of_binary, sorts_of_unary};
-use st_rules::{Broken, Demand, Rule, Sorts, Typing};
+use st_rules::{BrokenRules, Demand, Purpose, Reason, Sorts, Typing};
 use st_types::{BinaryOperator, Kind, UnaryOperator};
 
 /// The type of a typing, if it is elementary or enumerated.
@@ -58,12 +58,12 @@ pub fn is_nothing(typing: Typing) -> bool
 }
 
 /// The demand of a variable on a value: its type. A variable with parts takes none, and an unknown one has no demand.
-pub fn demand_of_typing(typing: Typing) -> Demand
-    ensures { result ≡ demand_of_typing typing }
+pub fn demand_of_typing(purpose: Purpose, typing: Typing) -> Demand
+    ensures { result ≡ demand_of_typing purpose typing }
 {
     match typing {
-        Typing::Elementary(kind) => Demand::Asked(Some(kind), Sorts::Any),
-        Typing::Composite => Demand::Asked(None, Sorts::NoSort),
+        Typing::Elementary(kind) => Demand::Asked(Some(kind), Sorts::Any, purpose),
+        Typing::Composite => Demand::Asked(None, Sorts::NoSort, purpose),
         Typing::Untyped | Typing::Nothing => Demand::Operand(None),
     }
 }
@@ -74,7 +74,7 @@ pub fn expected_of(demand: Demand) -> Option<Kind>
 {
     match demand {
         Demand::Operand(kind) => kind,
-        Demand::Asked(kind, _) => kind,
+        Demand::Asked(kind, _, _) => kind,
     }
 }
 
@@ -88,18 +88,25 @@ pub fn settled(offered: Option<Kind>, typing: Typing) -> Typing
     }
 }
 
-/// Whether the typing meets the demand of a place. One that depends on an unknown name does.
+/// Whether a typing is of these sorts, and of the expected type if one is expected. One that depends on an unknown name is.
+pub fn fits(expected: Option<Kind>, sorts: Sorts, typing: Typing) -> bool
+    ensures { result ≡ fits expected sorts typing }
+{
+    match typing {
+        Typing::Untyped => false,
+        Typing::Elementary(kind) => is_kind(expected, kind) && in_sorts(sorts, kind.row().sort),
+        Typing::Composite => false,
+        Typing::Nothing => true,
+    }
+}
+
+/// Whether the typing meets the demand of a place.
 pub fn allows(demand: Demand, typing: Typing) -> bool
     ensures { result ≡ allows demand typing }
 {
     match demand {
         Demand::Operand(_) => true,
-        Demand::Asked(expected, sorts) => match typing {
-            Typing::Untyped => false,
-            Typing::Elementary(kind) => is_kind(expected, kind) && in_sorts(sorts, kind.row().sort),
-            Typing::Composite => false,
-            Typing::Nothing => true,
-        },
+        Demand::Asked(expected, sorts, _) => fits(expected, sorts, typing),
     }
 }
 
@@ -166,46 +173,44 @@ pub fn offered(
     }
 }
 
-/// A fault at an operator before its operand (C3).
-pub fn wrong_unary(operator: UnaryOperator, place: usize, operand: Typing) -> Option<Broken>
-    ensures { Finds (breaking WrongType (unless (allows (Asked None (sorts_of_unary operator)) operand) place)) result }
+/// Adds a fault at an operator before its operand, which is offered a type (C3).
+pub fn wrong_unary(
+    operator: UnaryOperator,
+    place: usize,
+    operand: Typing,
+    offered: Option<Kind>,
+    broken: &mut BrokenRules,
+)
+    ensures { Collects (breaking (WrongOperand operator operand)
+        (unless (fits None (sorts_of_unary operator) (settled offered operand)) place)) broken.old broken.new }
 {
-    wrong_typing(
-        Demand::Asked(None, sorts_of_unary(operator)),
-        operand,
-        place,
-    )
+    let right = fits(None, sorts_of_unary(operator), settled(offered, operand));
+    broken.add_unless(right, Reason::WrongOperand(operator, operand), place);
 }
 
-/// A fault at an operator between its operands (C3).
+/// Adds a fault at an operator between its operands, which are offered a type (C3).
 pub fn wrong_binary(
     operator: BinaryOperator,
     place: usize,
     left: Typing,
     right: Typing,
-) -> Option<Broken>
-    ensures { Finds (breaking WrongType (unless (are_operands (sorts_of_binary operator) left right) place)) result }
+    offered: Option<Kind>,
+    broken: &mut BrokenRules,
+)
+    ensures { Collects (breaking (WrongOperands operator left right)
+        (unless (are_operands (sorts_of_binary operator) (settled offered left) (settled offered right)) place))
+        broken.old broken.new }
 {
-    if are_operands(sorts_of_binary(operator), left, right) {
-        None
-    } else {
-        Some(Broken {
-            rule: Rule::WrongType,
-            place,
-        })
-    }
+    let sorts = sorts_of_binary(operator);
+    let fit = are_operands(sorts, settled(offered, left), settled(offered, right));
+    broken.add_unless(fit, Reason::WrongOperands(operator, left, right), place);
 }
 
-/// A typing that doesn't meet the demand of its place (C3).
-pub fn wrong_typing(demand: Demand, typing: Typing, place: usize) -> Option<Broken>
-    ensures { Finds (breaking WrongType (unless (allows demand typing) place)) result }
+/// Adds a typing that doesn't meet the demand of its place (C3).
+pub fn wrong_typing(demand: Demand, typing: Typing, place: usize, broken: &mut BrokenRules)
+    ensures { Collects (breaking (Mismatch demand typing)
+        (unless (allows demand (settled (expected_of demand) typing)) place)) broken.old broken.new }
 {
-    if allows(demand, typing) {
-        None
-    } else {
-        Some(Broken {
-            rule: Rule::WrongType,
-            place,
-        })
-    }
+    let right = allows(demand, settled(expected_of(demand), typing));
+    broken.add_unless(right, Reason::Mismatch(demand, typing), place);
 }

@@ -10,11 +10,13 @@ ghost use Rattle.st_rules.specs.Environments.{Environment};
 ghost use Rattle.st_rules.specs.Roots.{demand_of_type};
 ghost use Rattle.st_rules.specs.Typings.{typing_of_type};
 ghost use Rattle.st_rules.specs.ExpressionRules.{wrong_selector};
-ghost use Rattle.st_typing.specs.Selections.{Selects};
+ghost use Rattle.st_rules.specs.Collecting.{Collects};
+ghost use Rattle.st_rules.specs.Reasons.{type_word};
+ghost use Rattle.st_typing.specs.Selections.{selected, wrong_step};
 
 use crate::operands::{demand_of_typing, is_nothing};
-use st_rules::{Broken, Demand, Rule, Typing};
-use st_types::Selector;
+use st_rules::{Broken, BrokenRules, Demand, Purpose, Reason, TypeWord, Typing};
+use st_types::{Selector, SimpleType};
 use symbols::{PlaceType, TextTables};
 
 /// The type of the part that a selector selects.
@@ -51,46 +53,55 @@ pub fn type_after_selectors<'a>(
     Some(behind)
 }
 
-/// The fault in a selector that selects nothing: a member that a type doesn't have (C1), or an element of a variable that
-/// isn't an array (C3).
-pub fn wrong_selector(place: usize, selector: &Selector) -> Broken
-    ensures { wrong_selector place (selector_view selector.now) ≡ result ∷ [] }
+/// A type as its declaration writes it.
+pub fn type_word(declared: PlaceType) -> TypeWord
+    ensures { result ≡ type_word (place_type_view declared.entry) }
+{
+    match declared {
+        PlaceType::Simple(SimpleType::Elementary(kind, _)) => TypeWord::Elementary(*kind),
+        PlaceType::Simple(SimpleType::Named(name)) => TypeWord::Named(name.place),
+        PlaceType::Array(_) => TypeWord::Array,
+        PlaceType::Standard(kind) => TypeWord::Elementary(kind),
+    }
+}
+
+/// The fault in a selector that selects nothing of a variable at a place: a member that its type doesn't have (C1), or an
+/// element of what isn't an array (C3).
+fn wrong_selector(place: usize, declared: PlaceType, selector: &Selector) -> Broken
+    ensures { wrong_selector place (place_type_view declared.entry) (selector_view selector.now) ≡ result ∷ [] }
 {
     match selector {
         Selector::Member(member) => Broken {
-            rule: Rule::UnknownName,
+            reason: Reason::NoMember(type_word(declared)),
             place: member.place,
         },
         Selector::Subscript(_) => Broken {
-            rule: Rule::WrongType,
+            reason: Reason::NotArray(type_word(declared)),
             place,
         },
     }
 }
 
-/// The type of the part that a selector selects of a variable at a place; none if that is unknown.
+/// The type of the part that a selector selects of a variable at a place; none if that is unknown. Adds the selector's fault.
 pub fn select<'a>(
     tables: &TextTables<'a>,
     place: usize,
     declared: Option<PlaceType<'a>>,
     selector: &Selector,
-) -> Result<Option<PlaceType<'a>>, Broken>
-    ensures { (text : Declared) → ServesTables tables.now text
-        → Selects text place (option_map place_type_view declared.entry) (selector_view selector.now) result }
+    broken: &mut BrokenRules,
+) -> Option<PlaceType<'a>>
+    ensures selected { (text : Declared) → ServesTables tables.now text → option_map place_type_view result
+        ≡ selected text (option_map place_type_view declared.entry) (selector_view selector.now) }
+    ensures broken { (text : Declared) → ServesTables tables.now text
+        → Collects (wrong_step text place (option_map place_type_view declared.entry) (selector_view selector.now))
+        broken.old broken.new }
 {
-    let Some(declared) = declared else {
-        return Ok(None);
-    };
-    match selected_type(tables, declared, selector) {
-        Some(found) => Ok(Some(found)),
-        None => {
-            if is_nothing(tables.typing_of_type(declared)) {
-                Ok(None)
-            } else {
-                Err(wrong_selector(place, selector))
-            }
-        }
+    let declared = declared?;
+    let found = selected_type(tables, declared, selector);
+    if found.is_none() && !is_nothing(tables.typing_of_type(declared)) {
+        broken.add(wrong_selector(place, declared, selector));
     }
+    found
 }
 
 /// The typing of the part that a variable selects. If that is unknown there is none.
@@ -105,9 +116,9 @@ pub fn typing_of_place(tables: &TextTables, declared: Option<PlaceType>) -> Typi
 }
 
 /// The demand of a place of this type on a value.
-pub fn demand_of_type(tables: &TextTables, declared: Option<PlaceType>) -> Demand
+pub fn demand_of_type(tables: &TextTables, purpose: Purpose, declared: Option<PlaceType>) -> Demand
     ensures { (env : Environment) → ServesTables tables.now env.text
-        → result ≡ demand_of_type env (option_map place_type_view declared.entry) }
+        → result ≡ demand_of_type env purpose (option_map place_type_view declared.entry) }
 {
-    demand_of_typing(typing_of_place(tables, declared))
+    demand_of_typing(purpose, typing_of_place(tables, declared))
 }

@@ -4,51 +4,49 @@ ghost use Rattle.std.specs.Prelude.{◌≡◌, true};
 ghost use Rattle.st_types.specs.ExpressionViews.{expr_view};
 ghost use Rattle.st_meaning.specs.Resolution.{is_untyped, is_untyped_literal};
 ghost use Rattle.st_rules.specs.Environments.{Environment};
-ghost use Rattle.st_rules.specs.Faults.{Finds};
+ghost use Rattle.st_rules.specs.Collecting.{Collects};
 ghost use Rattle.st_rules.specs.ExpressionRules.{wrong_literal, wrong_within};
 
-use crate::kinds::taken_kind;
 use crate::literals::wrong_number;
 use crate::operands::{wrong_binary, wrong_unary};
 use crate::places::first_byte;
-use crate::verdicts::either;
-use st_rules::{Broken, Typing};
+use st_rules::{BrokenRules, Typing};
 use st_types::{Expr, Kind, Literal};
 
-fn settle_literal(offered: Option<Kind>, literal: &Literal) -> Option<Broken>
+fn settle_literal(offered: Option<Kind>, literal: &Literal, broken: &mut BrokenRules)
     ensures { (env : Environment) → is_untyped_literal literal.now ≡ true
-        → Finds (wrong_literal env.text offered literal.now) result }
+        → Collects (wrong_literal env.text offered literal.now) broken.old broken.new }
 {
-    match literal {
-        Literal::Number(number) => wrong_number(offered, number),
-        _ => None,
+    if let Literal::Number(number) = literal {
+        wrong_number(offered, number, broken);
     }
 }
 
-/// A fault in an untyped expression that is offered a type; none if it has a type.
-pub fn settle(offered: Option<Kind>, expression: &Expr) -> Option<Broken>
+/// Adds the faults in an untyped expression that is offered a type; none if it has a type.
+pub fn settle(offered: Option<Kind>, expression: &Expr, broken: &mut BrokenRules)
     ensures { (env : Environment) → is_untyped (expr_view expression.now) ≡ true
-        → Finds (wrong_within env offered (expr_view expression.now)) result }
+        → Collects (wrong_within env offered (expr_view expression.now)) broken.old broken.new }
 {
     match expression {
-        Expr::Literal(literal) => settle_literal(offered, literal),
-        Expr::Variable(_) => None,
-        Expr::Call(_, _) => None,
-        Expr::Parenthesis(_, inner) => settle(offered, inner),
+        Expr::Literal(literal) => settle_literal(offered, literal, broken),
+        Expr::Variable(_) => {}
+        Expr::Call(_, _) => {}
+        Expr::Parenthesis(_, inner) => settle(offered, inner, broken),
         Expr::Unary(operator, place, operand) => {
-            let taken = Typing::Elementary(taken_kind(offered));
-            either(
-                settle(offered, operand),
-                wrong_unary(*operator, *place, taken),
-            )
+            settle(offered, operand, broken);
+            wrong_unary(*operator, *place, Typing::Untyped, offered, broken);
         }
         Expr::Binary(operator, left, right) => {
-            let taken = Typing::Elementary(taken_kind(offered));
-            let parts = either(settle(offered, left), settle(offered, right));
-            either(
-                parts,
-                wrong_binary(*operator, first_byte(left), taken, taken),
-            )
+            settle(offered, left, broken);
+            settle(offered, right, broken);
+            wrong_binary(
+                *operator,
+                first_byte(left),
+                Typing::Untyped,
+                Typing::Untyped,
+                offered,
+                broken,
+            );
         }
     }
 }

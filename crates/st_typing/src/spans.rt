@@ -1,14 +1,17 @@
 //! The numbers that the labels of a CASE hold: reversed ranges, and labels that overlap (C7).
 
-ghost use Rattle.std.specs.Prelude.{◌≡◌, ◌&&◌, int_le, None, OnOk, IfOk, IfSome, map};
+ghost use Rattle.std.specs.Prelude.{◌≡◌, List, OnOk, IfOk, map};
 ghost use Rattle.std.specs.List.{flat_map};
 ghost use Rattle.std.specs.List.Sorted.{IsPermutation};
-ghost use Rattle.st_types.specs.Kinds.{kind_index, names_in, number_of_type, same_kind};
-ghost use Rattle.st_rules.specs.Faults.{in_case};
-ghost use Rattle.st_rules.specs.LabelRules.{is_reversed, wrong_spans};
-ghost use Rattle.symbols.specs.Searches.{FindsPlace};
-ghost use Rattle.st_typing.specs.Spans.{span_view, Ascend, AreApart, IsTouched};
+ghost use Rattle.st_types.specs.Kinds.{kind_index, names_in, number_of_type};
+ghost use Rattle.st_rules.specs.Collecting.{Adds, Covers, Collects};
+ghost use Rattle.st_rules.specs.Faults.{breaking, in_case};
+ghost use Rattle.st_rules.specs.declared.reason.Reason.TheVariants.{ReversedLabel};
+ghost use Rattle.st_rules.specs.LabelRules.{begins_before, bounds_of, is_reversed, overlap, overlaps, wrong_spans};
+ghost use Rattle.st_typing.specs.declared.spans.Span as code_span;
+ghost use Rattle.st_typing.specs.Spans.{span_view, further, touches, touching, touching_back, Ascend, AreInOrder};
 
+use st_rules::{Bounds, Broken, BrokenRules, Reason};
 use st_types::Kind;
 use std::alloc::AllocError;
 
@@ -28,15 +31,27 @@ fn is_reversed(span: &Span) -> bool
     span.upper < span.lower
 }
 
-fn first_reversed(spans: &[Span]) -> Option<usize>
-    ensures { FindsPlace (flat_map (λ s. in_case (is_reversed s) s.place) (map span_view spans.now)) result }
+fn bounds_of(span: &Span) -> Bounds
+    ensures { result ≡ bounds_of (span_view span.now) }
+{
+    Bounds {
+        lower: span.lower,
+        upper: span.upper,
+    }
+}
+
+/// Adds the reversed spans.
+fn wrong_orders(spans: &[Span], broken: &mut BrokenRules)
+    ensures { Collects (flat_map (λ s. breaking (ReversedLabel (bounds_of s)) (in_case (is_reversed s) s.place))
+        (map span_view spans.now)) broken.old broken.new }
 {
     for span in spans {
-        if is_reversed(span) {
-            return Some(span.place);
-        }
+        broken.add_in_case(
+            is_reversed(span),
+            Reason::ReversedLabel(bounds_of(span)),
+            span.place,
+        );
     }
-    None
 }
 
 /// The row of a type in the table of types.
@@ -82,46 +97,107 @@ fn number_of(kind: Kind) -> u32
     }
 }
 
-/// Puts spans in the order of their types, and those of one type in that of their lower ends.
+/// Puts spans in the order of their types, and those of one type in the order in which they begin. The last key decides
+/// only between spans at one place: the labels of a text have none, but no premise says so.
 fn sort(spans: &mut Vec<Span>) -> Result<(), AllocError>
     ensures permutation { IsPermutation spans.old.items spans.new.items }
     ensures ascending { OnOk result (Ascend spans.new.items) }
 {
     spans.sort_by_key(|span| {
         let kind = span.kind;
-        (row_of(kind), names_of(kind), number_of(kind), span.lower)
+        (
+            row_of(kind),
+            names_of(kind),
+            number_of(kind),
+            span.lower,
+            span.place,
+            span.upper,
+        )
     })?;
     Ok(())
 }
 
-/// Whether a span, of the type of the one before it, begins no later than that one ends.
-fn touches(before: &Span, span: &Span) -> bool
-    ensures { result ≡ (same_kind before.now.kind span.now.kind && int_le span.now.lower before.now.upper) }
+/// Whether the first of two spans begins before the other: at a smaller number, or at the same one and before it in the
+/// text.
+fn begins_before(span: &Span, other: &Span) -> bool
+    ensures { result ≡ begins_before (span_view span.now) (span_view other.now) }
 {
-    before.kind.is(span.kind) && span.lower <= before.upper
+    span.lower < other.lower || span.lower == other.lower && span.place < other.place
 }
 
-/// The place of a span that begins no later than the one before it, of its type, ends.
-fn first_touched(spans: &[Span]) -> Option<usize>
-    ensures found { IfSome result (IsTouched spans.now) }
-    ensures apart { result ≡ None → AreApart spans.now }
+/// Whether a span is of the type of one that begins before it, and begins no later than that one ends.
+fn touches(reach: &Span, span: &Span) -> bool
+    ensures { result ≡ touches reach.now span.now }
 {
+    reach.kind.is(span.kind) && span.lower <= reach.upper && begins_before(reach, span)
+}
+
+/// The fault of a span that overlaps another one.
+fn overlap(span: &Span, other: &Span) -> Broken
+    ensures { result ≡ overlap (span_view span.now) (span_view other.now) }
+{
+    Broken {
+        reason: Reason::Overlap(bounds_of(span), bounds_of(other), other.place),
+        place: span.place,
+    }
+}
+
+/// Adds a span that overlaps one that begins before it.
+fn compare(reach: &Span, span: &Span, broken: &mut BrokenRules)
+    ensures { Collects (touching reach.now span.now) broken.old broken.new }
+{
+    if touches(reach, span) {
+        broken.add(overlap(span, reach));
+    }
+}
+
+/// Adds a span that overlaps the one after it.
+fn compare_back(span: &Span, next: &Span, broken: &mut BrokenRules)
+    ensures { Collects (touching_back span.now next.now) broken.old broken.new }
+{
+    if touches(span, next) {
+        broken.add(overlap(span, next));
+    }
+}
+
+/// Of the spans up to a span, the one of its type that ends last, given the one before it of which that held.
+fn further(reach: &Span, span: &Span) -> Span
+    ensures { result ≡ further reach.now span.now }
+{
+    if reach.kind.is(span.kind) && span.upper < reach.upper {
+        *reach
+    } else {
+        *span
+    }
+}
+
+/// Adds each span that overlaps another one, with one or two of those: of those that begin before it the one that ends
+/// last, and of those that begin after it the first.
+fn wrong_overlaps(spans: &[Span], broken: &mut BrokenRules)
+    ensures { (all : List code_span.Span) → IsPermutation all spans.now → Ascend spans.now → AreInOrder spans.now
+        → Collects (overlaps (map span_view all)) broken.old broken.new }
+{
+    if spans.is_empty() {
+        return;
+    }
+    let mut reach = spans[0];
     for at in 1..spans.len() {
-        if touches(&spans[at - 1], &spans[at]) {
-            return Some(spans[at].place);
-        }
+        compare(&reach, &spans[at], broken);
+        compare_back(&spans[at - 1], &spans[at], broken);
+        reach = further(&reach, &spans[at]);
     }
-    None
 }
 
-/// A place at which a label's range is reversed or overlaps with another label of its type (C7). The spans are sorted
-/// and compared with their neighbours.
-pub fn first_wrong_span(mut spans: Vec<Span>) -> Result<Option<usize>, AllocError>
-    ensures { IfOk result (FindsPlace (wrong_spans (map span_view spans.items))) }
+/// Adds labels whose range is reversed, and each label that overlaps another one, with one or two of those (C7).
+/// The spans are sorted; each is compared with the one of its type that ends last of those before it, and with the next
+/// one.
+pub fn wrong_spans(mut spans: Vec<Span>, broken: &mut BrokenRules) -> Result<(), AllocError>
+    ensures adds { Adds (wrong_spans (map span_view spans.items)) broken.old broken.new }
+    ensures covers { IfOk result (λ done. Covers (wrong_spans (map span_view spans.items)) broken.new) }
 {
-    if let Some(place) = first_reversed(&spans) {
-        return Ok(Some(place));
-    }
+    wrong_orders(&spans, broken);
+    spans.retain(|span| !is_reversed(span));
     sort(&mut spans)?;
-    Ok(first_touched(&spans))
+    wrong_overlaps(&spans, broken);
+    Ok(())
 }

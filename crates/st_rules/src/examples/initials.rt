@@ -9,7 +9,7 @@ ghost use Rattle.st_rules.specs.declared.rule.Rule.TheVariants.{UnknownName, Dec
 ghost use Rattle.st_types.specs.Declarations as declarations;
 ghost use Rattle.st_types.specs.Sources.{types};
 ghost use Rattle.st_rules.specs.declared.rule.Rule.TheVariants.{WrongBounds};
-ghost use Rattle.st_rules.specs.Rules.{broken};
+ghost use Rattle.st_rules.specs.ExampleWords.{broken_rules};
 ghost use Rattle.st_rules.specs.ExampleWords.{breaks, at, digits, typed_digits, elementary, named, starting};
 ghost use Rattle.st_rules.specs.ExampleWords.{start_of, local};
 ghost use Rattle.st_rules.specs.ExampleWords.{with_pair, defining, N, M, B, X};
@@ -19,55 +19,55 @@ ghost use Rattle.st_rules.specs.ExampleWords as words;
 /// Constants and lists.
 pub fn values()
     // n : INT := 5, n : INT := TRUE, n : INT := 40000, n : INT := SINT#5
-    ensures fitting { broken (local (starting (at 14 N) (elementary Int) (start_of 25 (pos 5)) ∷ [])) ≡ [] }
-    ensures other_type { broken (local (starting (at 14 N) (elementary Int) (constant (Truth 25 true)) ∷ []))
+    ensures fitting { broken_rules (local (starting (at 14 N) (elementary Int) (start_of 25 (pos 5)) ∷ [])) ≡ [] }
+    ensures other_type { broken_rules (local (starting (at 14 N) (elementary Int) (constant (Truth 25 true)) ∷ []))
         ≡ breaks WrongType 25 ∷ [] }
-    ensures too_great { broken (local (starting (at 14 N) (elementary Int) (start_of 25 (pos 40000)) ∷ []))
+    ensures too_great { broken_rules (local (starting (at 14 N) (elementary Int) (start_of 25 (pos 40000)) ∷ []))
         ≡ breaks OutOfRange 25 ∷ [] }
-    ensures typed { broken
+    ensures typed { broken_rules
         (local (starting (at 14 N) (elementary Int) (constant (Number (typed_digits 25 Sint (pos 5)))) ∷ []))
         ≡ breaks WrongType 25 ∷ [] }
     // n : foo := TRUE: only the type is reported
-    ensures of_unknown_type { broken (local (starting (at 14 N) (named 18 (codes "FOO")) (constant (Truth 25 true))
+    ensures of_unknown_type { broken_rules (local (starting (at 14 N) (named 18 (codes "FOO")) (constant (Truth 25 true))
         ∷ []))
         ≡ breaks UnknownName 18 ∷ [] }
     // n : foo := [1], n : foo := (m := 1), n : foo := m: a name stands for a value, whatever the type
-    ensures list_for_unknown { broken
+    ensures list_for_unknown { broken_rules
         (local (starting (at 14 N) (named 18 (codes "FOO")) (list 25 (elements_of (single (start_of 26 (pos 1))
         ∷ []))) ∷ []))
         ≡ breaks UnknownName 18 ∷ [] }
-    ensures structure_for_unknown { broken
+    ensures structure_for_unknown { broken_rules
         (local (starting (at 14 N) (named 18 (codes "FOO")) (structure 25 (members_of ((
           at 26 M,
           start_of 31
               (pos 1),
         ) ∷ []))) ∷ []))
         ≡ breaks UnknownName 18 ∷ [] }
-    ensures name_for_unknown { broken
+    ensures name_for_unknown { broken_rules
         (local (starting (at 14 N) (named 18 (codes "FOO")) (constant (Enumerated (words.bare 25 M))) ∷ []))
         ≡ breaks UnknownName 18 ∷ breaks UnknownName 25 ∷ [] }
     // n : ARRAY [1..2] OF INT := [1, 2]
-    ensures all_elements { broken (local (starting (at 14 N) (words.array 18 (pos 1) (pos 2))
+    ensures all_elements { broken_rules (local (starting (at 14 N) (words.array 18 (pos 1) (pos 2))
         (list 40 (elements_of (single (start_of 41 (pos 1)) ∷ single (start_of 44 (pos 2)) ∷ []))) ∷ [])) ≡ [] }
     // .. := [1, 2(0)]
-    ensures too_long { broken (local (starting (at 14 N) (words.array 18 (pos 1) (pos 2))
+    ensures too_long { broken_rules (local (starting (at 14 N) (words.array 18 (pos 1) (pos 2))
         (list 40 (elements_of (single (start_of 41 (pos 1)) ∷ repeated (digits 44 (pos 2)) (start_of 46 (pos 0)) ∷ [])))
         ∷ [])) ≡ breaks WrongBounds 40 ∷ [] }
     // .. := [0(9), 2()]: a count of 0 stands for no element
-    ensures no_element { broken (local (starting (at 14 N) (words.array 18 (pos 1) (pos 2))
+    ensures no_element { broken_rules (local (starting (at 14 N) (words.array 18 (pos 1) (pos 2))
         (list 40 (elements_of (repeated (digits 41 (pos 0)) (start_of 43 (pos 9)) ∷ defaults (digits 47 (pos 2)) ∷ [])))
         ∷ [])) ≡ [] }
     // .. := [SINT#200(1)]: both the count and the list
-    ensures count_out_of_range { broken (local (starting (at 14 N) (words.array 18 (pos 1) (pos 2))
+    ensures count_out_of_range { broken_rules (local (starting (at 14 N) (words.array 18 (pos 1) (pos 2))
         (list 40 (elements_of (repeated (typed_digits 41 Sint (pos 200)) (start_of 51 (pos 1)) ∷ []))) ∷ []))
         ≡ breaks WrongBounds 40 ∷ breaks OutOfRange 41 ∷ [] }
     // .. := [TRUE]
-    ensures element_of_other_type { broken (local (starting (at 14 N) (words.array 18 (pos 1) (pos 2))
+    ensures element_of_other_type { broken_rules (local (starting (at 14 N) (words.array 18 (pos 1) (pos 2))
         (list 40 (elements_of (single (constant (Truth 41 true)) ∷ []))) ∷ [])) ≡ breaks WrongType 41 ∷ [] }
     // .. := 5, and n : INT := [5]
-    ensures no_list { broken (local (starting (at 14 N) (words.array 18 (pos 1) (pos 2)) (start_of 40 (pos 5)) ∷ []))
+    ensures no_list { broken_rules (local (starting (at 14 N) (words.array 18 (pos 1) (pos 2)) (start_of 40 (pos 5)) ∷ []))
         ≡ breaks WrongType 40 ∷ [] }
-    ensures list_for_a_number { broken (local (starting (at 14 N) (elementary Int) (list 25 (elements_of (single
+    ensures list_for_a_number { broken_rules (local (starting (at 14 N) (elementary Int) (list 25 (elements_of (single
         (start_of 26 (pos 5)) ∷ [])))
         ∷ []))
         ≡ breaks WrongType 25 ∷ [] }
@@ -76,36 +76,36 @@ pub fn values()
 /// Lists for `n : ARRAY [1..2] OF INT`.
 pub fn lists()
     // [3()], [3(0)]: each count stands for that number of elements
-    ensures defaults_too_many { broken (starting_array (defaults (digits 41 (pos 3)) ∷ []))
+    ensures defaults_too_many { broken_rules (starting_array (defaults (digits 41 (pos 3)) ∷ []))
         ≡ breaks WrongBounds 40 ∷ [] }
-    ensures repeated_too_many { broken (starting_array (repeated (digits 41 (pos 3)) (start_of 43 (pos 0)) ∷ []))
+    ensures repeated_too_many { broken_rules (starting_array (repeated (digits 41 (pos 3)) (start_of 43 (pos 0)) ∷ []))
         ≡ breaks WrongBounds 40 ∷ [] }
     // [1, 1()], [1, 2()]
-    ensures number_and_default { broken (starting_array (single (start_of 41 (pos 1)) ∷ defaults (digits 44 (pos 1))
+    ensures number_and_default { broken_rules (starting_array (single (start_of 41 (pos 1)) ∷ defaults (digits 44 (pos 1))
         ∷ []))
         ≡ [] }
-    ensures number_and_defaults { broken (starting_array (single (start_of 41 (pos 1))
+    ensures number_and_defaults { broken_rules (starting_array (single (start_of 41 (pos 1))
         ∷ defaults (digits 44 (pos 2)) ∷ []))
         ≡ breaks WrongBounds 40 ∷ [] }
     // [1]: the second has its default value
-    ensures shorter { broken (starting_array (single (start_of 41 (pos 1)) ∷ [])) ≡ [] }
+    ensures shorter { broken_rules (starting_array (single (start_of 41 (pos 1)) ∷ [])) ≡ [] }
     // [1, 2, 3]
-    ensures three { broken (starting_array (single (start_of 41 (pos 1)) ∷ single (start_of 44 (pos 2))
+    ensures three { broken_rules (starting_array (single (start_of 41 (pos 1)) ∷ single (start_of 44 (pos 2))
         ∷ single (start_of 47 (pos 3)) ∷ [])) ≡ breaks WrongBounds 40 ∷ [] }
     // [2(TRUE)], [2(40000)], [1, 40000]
-    ensures repeated_of_other_type { broken (starting_array (repeated (digits 41 (pos 2)) (constant (Truth 43 true))
+    ensures repeated_of_other_type { broken_rules (starting_array (repeated (digits 41 (pos 2)) (constant (Truth 43 true))
         ∷ []))
         ≡ breaks WrongType 43 ∷ [] }
-    ensures repeated_too_great { broken (starting_array (repeated (digits 41 (pos 2)) (start_of 43 (pos 40000)) ∷ []))
+    ensures repeated_too_great { broken_rules (starting_array (repeated (digits 41 (pos 2)) (start_of 43 (pos 40000)) ∷ []))
         ≡ breaks OutOfRange 43 ∷ [] }
-    ensures second_too_great { broken (starting_array (single (start_of 41 (pos 1))
+    ensures second_too_great { broken_rules (starting_array (single (start_of 41 (pos 1))
         ∷ single (start_of 44 (pos 40000)) ∷ []))
         ≡ breaks OutOfRange 44 ∷ [] }
     // [SINT#200()]: both the count and the list
-    ensures count_out_of_range { broken (starting_array (defaults (typed_digits 41 Sint (pos 200)) ∷ []))
+    ensures count_out_of_range { broken_rules (starting_array (defaults (typed_digits 41 Sint (pos 200)) ∷ []))
         ≡ breaks WrongBounds 40 ∷ breaks OutOfRange 41 ∷ [] }
     // [0(TRUE)]: it stands for no element, but is checked
-    ensures none_of_other_type { broken (starting_array (repeated (digits 41 (pos 0)) (constant (Truth 43 true)) ∷ []))
+    ensures none_of_other_type { broken_rules (starting_array (repeated (digits 41 (pos 0)) (constant (Truth 43 true)) ∷ []))
         ≡ breaks WrongType 43 ∷ [] }
 {}
 
@@ -113,7 +113,7 @@ pub fn lists()
 /// END_TYPE`.
 pub fn inside()
     // f : t := [(n := 1, a := [1, 2]), (a := [3])]
-    ensures fitting { broken (starting_structures (list 110 (elements_of
+    ensures fitting { broken_rules (starting_structures (list 110 (elements_of
         (single (structure 111 (members_of ((at 112 N, start_of 117 (pos 1))
         ∷ (at 120 A, list 125 (elements_of (single (start_of 126 (pos 1)) ∷ single (start_of 129 (pos 2)) ∷ [])))
         ∷ [])))
@@ -121,7 +121,7 @@ pub fn inside()
         ∷ [])))
         ∷ [])))) ≡ [] }
     // f : t := [(a := [3(1)])]: the list of the field
-    ensures field_too_long { broken (starting_structures (list 110 (elements_of
+    ensures field_too_long { broken_rules (starting_structures (list 110 (elements_of
         (single (structure 111 (members_of ((
           at 112 A,
           list 117 (elements_of (repeated (digits 118 (pos 3))
@@ -129,30 +129,30 @@ pub fn inside()
         )
         ∷ []))) ∷ [])))) ≡ breaks WrongBounds 117 ∷ [] }
     // f : t := [2((n := TRUE))]
-    ensures field_of_other_type { broken (starting_structures (list 110 (elements_of
+    ensures field_of_other_type { broken_rules (starting_structures (list 110 (elements_of
         (repeated (digits 111 (pos 2)) (structure 113 (members_of ((at 114 N, constant (Truth 119 true)) ∷ [])))
         ∷ []))))
         ≡ breaks WrongType 119 ∷ [] }
     // f : t := [2((m := 1))]
-    ensures unknown_field { broken (starting_structures (list 110 (elements_of
+    ensures unknown_field { broken_rules (starting_structures (list 110 (elements_of
         (repeated (digits 111 (pos 2)) (structure 113 (members_of ((at 114 M, start_of 119 (pos 1)) ∷ []))) ∷ []))))
         ≡ breaks UnknownName 114 ∷ [] }
     // f : t := [1], f : t := (n := 1)
-    ensures number_for_a_structure { broken (starting_structures (list 110 (elements_of (single (start_of 111
+    ensures number_for_a_structure { broken_rules (starting_structures (list 110 (elements_of (single (start_of 111
         (pos 1)) ∷ []))))
         ≡ breaks WrongType 111 ∷ [] }
-    ensures structure_for_an_array { broken (starting_structures (structure 110 (members_of ((
+    ensures structure_for_an_array { broken_rules (starting_structures (structure 110 (members_of ((
       at 111 N,
       start_of 116
           (pos 1),
     ) ∷ []))))
         ≡ breaks WrongType 110 ∷ [] }
     // VAR_GLOBAL n : INT := TRUE; END_VAR
-    ensures of_a_global { broken (configuring None (one_global 40 N (elementary Int) (Some (constant
+    ensures of_a_global { broken_rules (configuring None (one_global 40 N (elementary Int) (Some (constant
         (Truth 51 true))) ∷ []) [])
         ≡ breaks WrongType 51 ∷ [] }
     // TYPE x : STRUCT n : INT := 40000; END_STRUCT; END_TYPE
-    ensures of_a_field { broken (types (defining (at 5 X) (declarations.structure
+    ensures of_a_field { broken_rules (types (defining (at 5 X) (declarations.structure
         (record { name = at 16 N; declared = elementary Int; initial = Some (start_of 27 (pos 40000)) } ∷ [])) ∷ [])
         ∷ [])
         ≡ breaks OutOfRange 27 ∷ [] }
@@ -161,23 +161,23 @@ pub fn inside()
 /// Structures, of `TYPE x : STRUCT n : INT; b : BOOL; END_STRUCT; END_TYPE`.
 pub fn structures()
     // (b := TRUE, n := 5)
-    ensures fitting { broken
+    ensures fitting { broken_rules
         (with_pair (structure 80
         (members_of ((at 81 B, constant (Truth 86 true)) ∷ (at 92 N, start_of 97 (pos 5)) ∷ []))))
         ≡ [] }
     // (m := 5)
-    ensures unknown_field { broken (with_pair (structure 80 (members_of ((at 81 M, start_of 86 (pos 5)) ∷ []))))
+    ensures unknown_field { broken_rules (with_pair (structure 80 (members_of ((at 81 M, start_of 86 (pos 5)) ∷ []))))
         ≡ breaks UnknownName 81 ∷ [] }
     // (n := 5, n := 6)
-    ensures field_twice { broken
+    ensures field_twice { broken_rules
         (with_pair (structure 80 (members_of ((at 81 N, start_of 86 (pos 5)) ∷ (at 92 N, start_of 97 (pos 6)) ∷ []))))
         ≡ breaks DeclaredTwice 92 ∷ [] }
     // (n := TRUE)
-    ensures field_of_other_type { broken (with_pair (structure 80 (members_of ((at 81 N, constant (Truth 86 true))
+    ensures field_of_other_type { broken_rules (with_pair (structure 80 (members_of ((at 81 N, constant (Truth 86 true))
         ∷ []))))
         ≡ breaks WrongType 86 ∷ [] }
     // 5, and [5]
-    ensures no_structure { broken (with_pair (start_of 80 (pos 5))) ≡ breaks WrongType 80 ∷ [] }
-    ensures list_for_a_structure { broken (with_pair (list 80 (elements_of (single (start_of 81 (pos 5)) ∷ []))))
+    ensures no_structure { broken_rules (with_pair (start_of 80 (pos 5))) ≡ breaks WrongType 80 ∷ [] }
+    ensures list_for_a_structure { broken_rules (with_pair (list 80 (elements_of (single (start_of 81 (pos 5)) ∷ []))))
         ≡ breaks WrongType 80 ∷ [] }
 {}

@@ -1,16 +1,11 @@
 use Rattle.st_types.specs.SourceViews.{source_view}
-use Rattle.st_rules.specs.Rules.{wrong_declarations, wrong_types, wrong_starts, wrong_bodies}
-use Rattle.st_check.proofs.JudgeLemmas.{judges_behind, refuses_front}
+use Rattle.st_rules.specs.Rules.{broken}
+use Rattle.st_check.proofs.JudgeLemmas.{has_checked}
 use Rattle.st_check.proofs.checking.judge.Goals as goal
 
 pub returns-in-Ok : goal.returns-in-Ok
 returns-in-Ok c =
     let s = source_view c.args.source.now in
-    judges_behind (wrong_declarations s) (wrong_types s) (wrong_starts s) (wrong_bodies s) c.judge_beside_declarations.result
-    c.in-Ok.ensures c.judge_beside_declarations.ensures
-
-pub returns-in-Err : goal.returns-in-Err
-returns-in-Err c =
-    let s = source_view c.args.source.now in
-    refuses_front (wrong_declarations s) (wrong_types s) (wrong_starts s) (wrong_bodies s) c.in-Err.error
-    c.in-Err.ensures
+    c.answered.ensures.judged (broken s)
+    (has_checked s c.judge_all-ended.result c.in-Ok.broken c.judge_all-ended.new.broken c.in-Ok.ensures.found
+    c.in-Ok.ensures.room c.judge_all-ended.ensures.adds c.judge_all-ended.ensures.covers)

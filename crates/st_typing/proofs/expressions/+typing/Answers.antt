@@ -1,146 +1,137 @@
-use Rattle.std.proofs.Common.{rules, ◌≡◌, ◌∙◌, sym, ap, subst, map, Some, option_map, drop, ◌+◌, inl, inr, arith}
-use Rattle.std.specs.List.{Contains}
+use Rattle.std.proofs.Common.{rules, refl, ◌≡◌, ◌∙◌, sym, ap, ℕ, map, drop, Some, None, option_map, [], arith}
 use Rattle.st_types.specs.declared.expression.Expr as code_expr
 use Rattle.st_types.specs.declared.expression.Variable as code_variable
 use Rattle.st_types.specs.declared.expression.Selector as code_selector
-use Rattle.st_types.specs.Expressions.{literal, read, call, parenthesis, unary, binary, exprs_of, expr_then, no_exprs}
+use Rattle.st_types.specs.Expressions.{literal, read, call, parenthesis, unary, binary, exprs_of, no_exprs, expr_then}
 use Rattle.st_types.specs.Expressions.{variable, selectors_of, subscript}
 use Rattle.st_types.specs.ExpressionViews.{expr_view, variable_view, selector_view}
+use Rattle.st_rules.proofs.CollectLemmas.{search_starts, search_ends, search_is, collects_both}
+use Rattle.st_meaning.specs.Resolution.{common_kind}
+use Rattle.st_rules.specs.Demands.{demands_of_standard}
+use Rattle.st_rules.specs.Environments.{Environment}
+use Rattle.st_rules.specs.ExpressionRules.{count_of}
+use Rattle.st_rules.specs.Typings.{kind_of, kinds_of, typing_of_kind, typing_of_type, typings_of}
+use Rattle.symbols.specs.Serving.{Serves}
+use Rattle.st_rules.specs.declared.typings.Typing.TheVariants.{Nothing}
 use Rattle.symbols.specs.PlaceTypes.{place_type_view}
 use Rattle.symbols.specs.Standard.{standard_view}
-use Rattle.st_typing.specs.Arguments.{demands_of_inputs}
-use Rattle.st_typing.proofs.TypingLemmas.{parenthesis_types, operand_wrong, left_wrong, right_wrong, wrong_inside}
-use Rattle.st_typing.proofs.CallLemmas.{first_wrong, other_wrong, argument_wrong}
-use Rattle.st_typing.proofs.ArgumentLemmas.{count_seen, inputs_counted, argument_step, argument_found, none_left}
-use Rattle.st_typing.proofs.ArgumentLemmas.{call_found, call_clean, miscounted, own_types, standard_miscounted}
-use Rattle.st_typing.proofs.ArgumentLemmas.{one_seen, two_seen, three_seen}
-use Rattle.st_typing.proofs.SelectionLemmas.{selectors_left, none_written, some_written, subscript_wrong}
-use Rattle.st_typing.proofs.SelectionLemmas.{selection_wrong, place_selected, alone_types, read_wrong}
+use Rattle.st_typing.specs.Arguments.{demands_of_inputs, demands_view, demands_on}
+use Rattle.st_rules.specs.Nodes.{first_demand, other_demands}
+use Rattle.st_typing.proofs.CallLemmas.{argument_goes_on, unknown_goes_on, none_left, call_types, counted_call, inputs_counted}
+use Rattle.st_typing.proofs.CallLemmas.{count_seen, left_seen, many_standard, standard_collects, one_typed, more_typed, one_seen, two_seen}
+use Rattle.st_typing.proofs.CallLemmas.{three_seen, many_common}
+use Rattle.st_typing.proofs.SelectionLemmas.{selector_goes_on, type_goes_on, subscript_goes_on, place_found, place_lost}
+use Rattle.st_typing.proofs.SelectionLemmas.{type_ends, selectors_end}
+use Rattle.st_typing.proofs.SelectionLemmas.{none_written, some_written, alone_types, read_types, no_nodes_left}
+use Rattle.st_typing.proofs.TypingLemmas.{parenthesis_types, negation_types, operation_types, placed}
 use Rattle.st_typing.proofs.expressions.+typing.Goals as goal
 
 -- operators
-pub typing-returns-in-Literal : goal.typing-returns-in-Literal
-typing-returns-in-Literal t c env serves =
-    let is = c.in-Literal.is in
-    let seen : expr_view c.args.expression.now ≡ literal c.in-Literal.literal =
-    rw is (search (rules, code_expr.the_lemmas)) in
-    rw seen (c.typing_of_literal.ensures env serves)
-
-pub typing-returns-in-Variable : goal.typing-returns-in-Variable
-typing-returns-in-Variable t c env serves =
-    let is = c.in-Variable.is in
-    let seen : expr_view c.args.expression.now ≡ read (variable_view c.in-Variable.variable) =
-    rw is (search (rules, code_expr.the_lemmas)) in
-    rw seen (c.typing_of_read.ensures env serves)
-
-pub typing-returns-in-Call : goal.typing-returns-in-Call
-typing-returns-in-Call t c env serves =
-    let is = c.in-Call.is in
-    let seen : expr_view c.args.expression.now
-    ≡ call c.in-Call.function (exprs_of (map expr_view c.in-Call.arguments.items)) =
-    rw is (search (rules, code_expr.the_lemmas)) in
-    rw seen (rw c.deref.ensures.value at (c.typing_of_call.ensures env serves))
-
 pub typing-returns-in-Parenthesis : goal.typing-returns-in-Parenthesis
 typing-returns-in-Parenthesis t c env serves =
     let is = c.in-Parenthesis.is in
     let x = expr_view c.in-Parenthesis.inner.value in
     let seen : expr_view c.args.expression.now ≡ parenthesis c.in-Parenthesis.field-0 x =
     rw is (search (rules, code_expr.the_lemmas)) in
-    let inner = rw c.deref-in-Parenthesis.ensures at (c.typing.ensures env serves) in
-    rw seen (parenthesis_types env c.in-Parenthesis.field-0 x c.typing.result inner)
+    rw seen (parenthesis_types env c.in-Parenthesis.field-0 x _ _ _
+    (rw c.deref-in-Parenthesis.ensures at (c.typing.ensures env serves)))
 
-pub typing-returns-in-Ok : goal.typing-returns-in-Ok
-typing-returns-in-Ok t c env serves =
+pub typing-returns-in-Unary : goal.typing-returns-in-Unary
+typing-returns-in-Unary t c env serves =
     let is = c.in-Unary.is in
     let x = expr_view c.in-Unary.operand.value in
     let seen : expr_view c.args.expression.now ≡ unary c.in-Unary.operator c.in-Unary.place x =
     rw is (search (rules, code_expr.the_lemmas)) in
-    rw seen (rw c.deref-in-Unary-2.ensures at (c.negation.ensures env)
-    (rw c.deref-in-Unary.ensures at (c.in-Ok.ensures env serves)))
+    let inner = rw c.deref-in-Unary.ensures at (c.typing-operand_typing.ensures env serves) in
+    rw seen (negation_types env c.in-Unary.operator c.in-Unary.place x _ _ _ _ inner
+    (c.negation.ensures env x inner.typing))
 
-pub typing-returns-in-Err : goal.typing-returns-in-Err
-typing-returns-in-Err t c env serves =
-    let is = c.in-Unary.is in
-    let x = expr_view c.in-Unary.operand.value in
-    let seen : expr_view c.args.expression.now ≡ unary c.in-Unary.operator c.in-Unary.place x =
-    rw is (search (rules, code_expr.the_lemmas)) in
-    let inner = rw c.deref-in-Unary.ensures at (c.in-Err.ensures env serves) in
-    rw seen (operand_wrong env c.in-Unary.operator c.in-Unary.place x c.in-Err.broken inner)
-
-pub typing-returns-in-Ok-typing-2 : goal.typing-returns-in-Ok-typing-2
-typing-returns-in-Ok-typing-2 t c env serves =
+pub typing-returns-in-Binary : goal.typing-returns-in-Binary
+typing-returns-in-Binary t c env serves =
     let is = c.in-Binary.is in
     let l = expr_view c.in-Binary.left.value in
     let r = expr_view c.in-Binary.right.value in
     let seen : expr_view c.args.expression.now ≡ binary c.in-Binary.operator l r =
     rw is (search (rules, code_expr.the_lemmas)) in
-    rw seen (rw (c.deref-in-Binary-3.ensures, c.deref-in-Binary-4.ensures) at (c.operation.ensures env)
-    (rw c.deref-in-Binary.ensures at (c.in-Ok-typing.ensures env serves))
-    (rw c.deref-in-Binary-2.ensures at (c.in-Ok-typing-2.ensures env serves)))
-
-pub typing-returns-in-Err-typing : goal.typing-returns-in-Err-typing
-typing-returns-in-Err-typing t c env serves =
-    let is = c.in-Binary.is in
-    let l = expr_view c.in-Binary.left.value in
-    let r = expr_view c.in-Binary.right.value in
-    let seen : expr_view c.args.expression.now ≡ binary c.in-Binary.operator l r =
-    rw is (search (rules, code_expr.the_lemmas)) in
-    let inner = rw c.deref-in-Binary.ensures at (c.in-Err-typing.ensures env serves) in
-    rw seen (left_wrong env c.in-Binary.operator l r c.in-Err-typing.broken inner)
-
-pub typing-returns-in-Err-typing-2 : goal.typing-returns-in-Err-typing-2
-typing-returns-in-Err-typing-2 t c env serves =
-    let is = c.in-Binary.is in
-    let l = expr_view c.in-Binary.left.value in
-    let r = expr_view c.in-Binary.right.value in
-    let seen : expr_view c.args.expression.now ≡ binary c.in-Binary.operator l r =
-    rw is (search (rules, code_expr.the_lemmas)) in
-    let inner = rw c.deref-in-Binary-2.ensures at (c.in-Err-typing-2.ensures env serves) in
-    rw seen (right_wrong env c.in-Binary.operator l r c.in-Err-typing-2.broken inner)
+    let left = rw c.deref-in-Binary.ensures at (c.typing-left_typing.ensures env serves) in
+    let right = rw c.deref-in-Binary-2.ensures at (c.typing-right_typing.ensures env serves) in
+    let typed = rw (c.deref-in-Binary-3.ensures, c.deref-in-Binary-4.ensures) at (c.operation.ensures.typing env) in
+    let wrong = rw (c.deref-in-Binary-3.ensures, c.deref-in-Binary-4.ensures) at (c.operation.ensures.broken env) in
+    rw seen (operation_types env c.in-Binary.operator l r _ _ _ _ _ _ _ left right (typed left.typing right.typing)
+    (wrong left.typing right.typing))
 
 -- at a place
-pub wrong_expression-returns-in-Err : goal.wrong_expression-returns-in-Err
-wrong_expression-returns-in-Err t c env serves =
-    wrong_inside env c.args.demand (expr_view c.args.expression.now) c.in-Err.broken (c.in-Err.ensures env serves)
+pub wrong_expression-returns-clause-broken : goal.wrong_expression-returns-clause-broken
+wrong_expression-returns-clause-broken t c env serves =
+    let inner = c.typing-found.ensures env serves in
+    placed env c.args.demand (expr_view c.args.expression.now) _ _ _ _ inner (c.wrong_at.ensures env inner.typing)
+
+-- selections
+pub select_all-loop-selector-init : goal.select_all-loop-selector-init
+select_all-loop-selector-init t c env serves = record { types = refl; faults = search_starts _ _ _ refl }
+
+pub select_all-loop-selector-preserved : goal.select_all-loop-selector-preserved
+select_all-loop-selector-preserved t c env serves =
+    let xs = c.args.selectors.now in
+    let i = c.loop-selector.selector-index in
+    let x = c.selector-item.result in
+    let before = c.loop-selector.invariant env serves in
+    let to = c.select-found.ensures.selected env.text serves.tables in
+    record {
+      types = type_goes_on env.text _ _ xs i x _ c.loop-selector-test.true c.selector-item.is to before.types;
+      faults = selector_goes_on env c.args.place _ _ xs i x _ _ _ _ _ c.loop-selector-test.true c.selector-item.is to
+          before.faults (c.wrong_subscript.ensures env serves) (c.select-found.ensures.broken env.text serves.tables);
+    }
+
+pub select_all-returns-clause-selected : goal.select_all-returns-clause-selected
+select_all-returns-clause-selected t c env serves =
+    let before = c.loop-selector.invariant env serves in
+    type_ends env.text c.args.selectors.now c.loop-selector.selector-index _ _ c.loop-selector-test.false
+    before.types
+
+pub select_all-returns-clause-broken : goal.select_all-returns-clause-broken
+select_all-returns-clause-broken t c env serves =
+    let before = c.loop-selector.invariant env serves in
+    selectors_end env c.args.place c.args.selectors.now c.loop-selector.selector-index _ _ _ _
+    c.loop-selector-test.false before.faults
+
+pub wrong_subscripts-loop-selector-init : goal.wrong_subscripts-loop-selector-init
+wrong_subscripts-loop-selector-init t c env serves = search_starts _ _ _ refl
+
+pub wrong_subscripts-loop-selector-preserved : goal.wrong_subscripts-loop-selector-preserved
+wrong_subscripts-loop-selector-preserved t c env serves =
+    subscript_goes_on env c.args.selectors.now c.loop-selector.selector-index c.selector-item.result _ _ _ _
+    c.loop-selector-test.true c.selector-item.is (c.loop-selector.invariant env serves)
+    (c.wrong_subscript.ensures env serves)
+
+pub wrong_subscripts-returns : goal.wrong_subscripts-returns
+wrong_subscripts-returns t c env serves =
+    search_ends _ _ _ (search_is _ _ [] _ _
+    (no_nodes_left env c.args.selectors.now c.loop-selector.selector-index c.loop-selector-test.false)
+    (c.loop-selector.invariant env serves))
 
 pub wrong_subscript-returns-in-Subscript : goal.wrong_subscript-returns-in-Subscript
 wrong_subscript-returns-in-Subscript t c env serves =
     let is = c.in-Subscript.is in
     let seen : selector_view c.args.selector.now ≡ subscript (expr_view c.in-Subscript.subscript) =
     rw is (search (rules, code_selector.the_lemmas)) in
-    rw seen (c.wrong_expression.ensures env serves)
+    rw seen (c.wrong_expression.ensures.broken env serves)
 
--- selections
-pub select_all-returns-in-Some : goal.select_all-returns-in-Some
-select_all-returns-in-Some t c env serves =
-    let xs = c.args.selectors.now in
-    let i = c.loop-selector.selector-index in
-    let x = c.selector-item.result in
-    let left = selectors_left xs i x c.loop-selector-test.true c.selector-item.is in
-    subscript_wrong env c.args.place (Some (place_type_view c.args.declared)) (selectors_of (map selector_view xs))
-    (option_map place_type_view c.loop-selector.found) (selector_view x)
-    (selectors_of (map selector_view (drop (i + 1) xs))) c.in-Some.broken
-    (rw left at (c.loop-selector.invariant env serves)) (c.in-Some.ensures env serves)
-
-pub select_all-returns-in-Err : goal.select_all-returns-in-Err
-select_all-returns-in-Err t c env serves =
-    let xs = c.args.selectors.now in
-    let i = c.loop-selector.selector-index in
-    let x = c.selector-item.result in
-    let left = selectors_left xs i x c.loop-selector-test.true c.selector-item.is in
-    selection_wrong env c.args.place (Some (place_type_view c.args.declared)) (selectors_of (map selector_view xs))
-    (option_map place_type_view c.loop-selector.found) (selector_view x)
-    (selectors_of (map selector_view (drop (i + 1) xs))) c.in-Err.broken
-    (rw left at (c.loop-selector.invariant env serves)) (c.in-Err.ensures env.text serves.tables)
-
-pub place_of-returns-in-Some : goal.place_of-returns-in-Some
-place_of-returns-in-Some t c env serves =
+pub place_of-returns-in-Some-clause-broken : goal.place_of-returns-in-Some-clause-broken
+place_of-returns-in-Some-clause-broken t c env serves =
     let v = c.args.variable.now in
     let xs = selectors_of (map selector_view v.selectors.items) in
     let seen : variable_view v ≡ variable v.name xs = search (rules, code_variable.the_lemmas) in
-    rw seen (place_selected env v.name xs (place_type_view c.in-Some.declared) c.select_all.result
-    (sym (c.in-Some.ensures env serves)) (rw c.deref.ensures.value at (c.select_all.ensures env serves)))
+    rw seen (place_found env v.name xs (place_type_view c.in-Some.declared) _ _ (c.in-Some.ensures env serves)
+    (rw c.deref.ensures.value at (c.select_all.ensures.broken env serves)))
+
+pub place_of-returns-in-None-clause-broken : goal.place_of-returns-in-None-clause-broken
+place_of-returns-in-None-clause-broken t c env serves =
+    let v = c.args.variable.now in
+    let xs = selectors_of (map selector_view v.selectors.items) in
+    let seen : variable_view v ≡ variable v.name xs = search (rules, code_variable.the_lemmas) in
+    rw seen (place_lost env v.name xs _ _ (c.in-None.ensures env serves)
+    (collects_both _ _ _ _ _ c.add.ensures (rw c.deref-in-None.ensures.value at (c.wrong_subscripts.ensures env serves))))
 
 pub typing_of_read-returns-then-is_empty : goal.typing_of_read-returns-then-is_empty
 typing_of_read-returns-then-is_empty t c env serves =
@@ -149,170 +140,170 @@ typing_of_read-returns-then-is_empty t c env serves =
     let seen : variable_view v ≡ variable v.name xs = search (rules, code_variable.the_lemmas) in
     let none = none_written v.selectors.len v.selectors.items v.selectors.ok.0
     (sym c.is_empty.ensures ∙ c.if-is_empty.true) in
-    alone_types env v.name (variable_view v) c.typing_of_alone.result (seen ∙ ap (variable v.name) none)
-    (c.typing_of_alone.ensures env serves)
+    alone_types env v.name (variable_view v) _ _ _ (seen ∙ ap (variable v.name) none)
+    (c.typing_of_alone.ensures.typing env serves) (c.typing_of_alone.ensures.broken env serves)
 
-pub typing_of_read-returns-in-Err : goal.typing_of_read-returns-in-Err
-typing_of_read-returns-in-Err t c env serves =
+pub typing_of_read-returns : goal.typing_of_read-returns
+typing_of_read-returns t c env serves =
     let v = c.args.variable.now in
     let xs = selectors_of (map selector_view v.selectors.items) in
     let seen : variable_view v ≡ variable v.name xs = search (rules, code_variable.the_lemmas) in
     let some = some_written v.selectors.len v.selectors.items v.selectors.ok.0
     (sym c.is_empty.ensures ∙ c.if-is_empty.false) in
-    read_wrong env v.name some.first some.rest (variable_view v) c.in-Err.broken
-    (seen ∙ ap (variable v.name) some.is) (c.in-Err.ensures env serves)
+    read_types env v.name some.first some.rest (variable_view v) _ _ _ (seen ∙ ap (variable v.name) some.is)
+    (c.typing_of_place.ensures env.text serves.tables
+    ∙ ap (typing_of_type env.text) (c.place_of-declared.ensures.selected env serves))
+    (c.place_of-declared.ensures.broken env serves)
 
--- arguments of a function of the text
-pub wrong_arguments-returns-then-arguments-inputs : goal.wrong_arguments-returns-then-arguments-inputs
-wrong_arguments-returns-then-arguments-inputs t c env serves =
-    let xs = c.args.arguments.now in
-    let ks = c.args.inputs.now in
-    rw c.wrong_count.ensures (miscounted env c.args.place (demands_of_inputs ks) (exprs_of (map expr_view xs))
-    (λ h. c.if-arguments-inputs.true (sym (count_seen xs) ∙ h ∙ inputs_counted ks)))
+-- arguments
+pub wrong_arguments-loop-number-init : goal.wrong_arguments-loop-number-init
+wrong_arguments-loop-number-init t c env serves = search_starts _ _ _ refl
 
 pub wrong_arguments-loop-number-preserved : goal.wrong_arguments-loop-number-preserved
 wrong_arguments-loop-number-preserved t c env serves =
-    let i = c.loop-number.number in
-    let x = c.index-arguments-number.result in
-    let clean = rw c.demand_of_input-demand.ensures at (c.in_default.ensures env serves) in
-    argument_step env (demands_of_inputs c.args.inputs.now) c.args.arguments.now i x c.loop-number-test.true
-    c.index-arguments-number.is clean ∙ c.loop-number.invariant env serves
+    let one = rw c.demand_of_input-demand.ensures at (c.wrong_expression.ensures.broken env serves) in
+    argument_goes_on env (demands_of_inputs c.args.place c.args.inputs.now) c.args.arguments.now c.loop-number.number
+    c.index-arguments-number.result _ _ _ _ c.loop-number-test.true c.index-arguments-number.is
+    (c.loop-number.invariant env serves) one
 
-pub wrong_arguments-returns-in-Some : goal.wrong_arguments-returns-in-Some
-wrong_arguments-returns-in-Some t c env serves =
-    let ds = demands_of_inputs c.args.inputs.now in
-    let xs = c.args.arguments.now in
-    let i = c.loop-number.number in
-    let b = c.in-Some.broken in
-    let found = rw c.demand_of_input-demand.ensures at (c.in-Some.ensures env serves) in
-    call_found env c.args.place ds (exprs_of (map expr_view xs)) b
-    (subst (λ ys. Contains ys b) (c.loop-number.invariant env serves)
-    (argument_found env ds xs i c.index-arguments-number.result b c.loop-number-test.true c.index-arguments-number.is
-    found))
+pub wrong_arguments_of_unknown-loop-argument-init : goal.wrong_arguments_of_unknown-loop-argument-init
+wrong_arguments_of_unknown-loop-argument-init t c env serves = search_starts _ _ _ refl
+
+pub wrong_arguments_of_unknown-loop-argument-preserved : goal.wrong_arguments_of_unknown-loop-argument-preserved
+wrong_arguments_of_unknown-loop-argument-preserved t c env serves =
+    unknown_goes_on env c.args.arguments.now c.loop-argument.argument-index c.argument-item.result _ _ _ _
+    c.loop-argument-test.true c.argument-item.is (c.loop-argument.invariant env serves)
+    (c.wrong_expression.ensures.broken env serves)
+
+pub wrong_arguments_of_unknown-returns : goal.wrong_arguments_of_unknown-returns
+wrong_arguments_of_unknown-returns t c env serves =
+    search_ends _ _ _ (search_is _ _ [] _ _
+    (none_left env [] c.args.arguments.now c.loop-argument.argument-index c.loop-argument-test.false)
+    (c.loop-argument.invariant env serves))
 
 pub wrong_arguments-returns : goal.wrong_arguments-returns
 wrong_arguments-returns t c env serves =
-    let ds = demands_of_inputs c.args.inputs.now in
+    let ds = demands_of_inputs c.args.place c.args.inputs.now in
     let xs = c.args.arguments.now in
-    let i = c.loop-number.number in
-    let count = count_seen xs ∙ c.if-arguments-inputs.false ∙ sym (inputs_counted c.args.inputs.now) in
-    call_clean env c.args.place ds (exprs_of (map expr_view xs)) count
-    (sym (c.loop-number.invariant env serves) ∙ none_left env (drop i ds) xs i c.loop-number-test.false)
+    let others = search_ends _ _ _ (search_is _ _ [] _ _ (none_left env ds xs c.loop-number.number c.loop-number-test.false)
+    (c.loop-number.invariant env serves)) in
+    counted_call env c.args.place ds xs _ _ _ (inputs_counted c.args.place c.args.inputs.now) c.wrong_count.ensures others
 
-pub typing_of_call-returns-in-Some-Own : goal.typing_of_call-returns-in-Some-Own
-typing_of_call-returns-in-Some-Own t c env serves =
+pub call_of_standard-loop-number-init : goal.call_of_standard-loop-number-init
+call_of_standard-loop-number-init t c env serves = search_starts _ _ _ refl
+
+pub call_of_standard-loop-number-preserved : goal.call_of_standard-loop-number-preserved
+call_of_standard-loop-number-preserved t c env serves =
+    let ds = demands_view c.demands_of_standard-demands-in-len1-up.result in
+    let one = rw c.of_argument-demand.ensures at (c.wrong_expression.ensures.broken env serves) in
+    argument_goes_on env ds c.args.arguments.now c.loop-number.number c.index-arguments-number.result _ _ _ _
+    c.loop-number-test.true c.index-arguments-number.is (c.loop-number.invariant env serves) one
+
+pub call_of_standard-returns-in-len1-clause-broken : goal.call_of_standard-returns-in-len1-clause-broken
+call_of_standard-returns-in-len1-clause-broken t c env serves =
+    let xs = c.args.arguments.now in
+    let x = c.only-item.result in
+    let es = expr_then (expr_view x) no_exprs in
+    let s = standard_view c.args.called in
+    let seen = one_seen xs x (omega (arith, c.in-len1.len_at_least, c.in-len1.len_below)) c.only-item.is in
+    let own = c.typed-only.ensures.typing env serves in
+    let is = c.typed-only.ensures.expression in
+    rw seen (standard_collects env c.args.place s es _ _ _
+    (one_typed env (demands_on env c.args.place s es) (expr_view x) _ _ _ own)
+    (rw is at (c.call_of_one.ensures.broken env (rw (← is) at own.typing))))
+
+pub call_of_standard-returns-in-len2-clause-broken : goal.call_of_standard-returns-in-len2-clause-broken
+call_of_standard-returns-in-len2-clause-broken t c env serves =
+    let xs = c.args.arguments.now in
+    let x = c.first-item.result in
+    let y = c.second-item.result in
+    let s = standard_view c.args.called in
+    let es = expr_then (expr_view x) (expr_then (expr_view y) no_exprs) in
+    let ds = demands_on env c.args.place s es in
+    let seen = two_seen xs x y (omega (arith, c.in-len2.len_at_least, c.in-len2.len_below)) c.first-item.is
+    c.second-item.is in
+    let one = c.typed-first.ensures.typing env serves in
+    let two = c.typed-second.ensures.typing env serves in
+    let first = c.typed-first.ensures.expression in
+    let second = c.typed-second.ensures.expression in
+    rw seen (standard_collects env c.args.place s es _ _ _
+    (more_typed env ds (expr_view x) (expr_then (expr_view y) no_exprs) _ _ _ _ one
+    (one_typed env (other_demands ds) (expr_view y) _ _ _ two))
+    (rw (first, second) at (c.call_of_two.ensures.broken env (rw (← first) at one.typing)
+    (rw (← second) at two.typing))))
+
+pub call_of_standard-returns-in-len3-clause-broken : goal.call_of_standard-returns-in-len3-clause-broken
+call_of_standard-returns-in-len3-clause-broken t c env serves =
+    let xs = c.args.arguments.now in
+    let x = c.first-item-then-arguments-lt4.result in
+    let y = c.second-item-then-arguments-lt4.result in
+    let z = c.third-item.result in
+    let s = standard_view c.args.called in
+    let es = expr_then (expr_view x) (expr_then (expr_view y) (expr_then (expr_view z) no_exprs)) in
+    let ds = demands_on env c.args.place s es in
+    let seen = three_seen xs x y z (omega (arith, c.in-len3.len_at_least, c.in-len3.len_below))
+    c.first-item-then-arguments-lt4.is c.second-item-then-arguments-lt4.is c.third-item.is in
+    let one = c.typed-first-in-len3.ensures.typing env serves in
+    let two = c.typed-second-in-len3.ensures.typing env serves in
+    let three = c.typed-third.ensures.typing env serves in
+    let first = c.typed-first-in-len3.ensures.expression in
+    let second = c.typed-second-in-len3.ensures.expression in
+    let third = c.typed-third.ensures.expression in
+    rw seen (standard_collects env c.args.place s es _ _ _
+    (more_typed env ds (expr_view x) (expr_then (expr_view y) (expr_then (expr_view z) no_exprs)) _ _ _ _ one
+    (more_typed env (other_demands ds) (expr_view y) (expr_then (expr_view z) no_exprs) _ _ _ _ two
+    (one_typed env (other_demands (other_demands ds)) (expr_view z) _ _ _ three)))
+    (rw (first, second, third) at (c.call_of_three.ensures.broken env (rw (← first) at one.typing)
+    (rw (← second) at two.typing) (rw (← third) at three.typing))))
+
+pub call_of_standard-returns-in-len3-clause-typing : goal.call_of_standard-returns-in-len3-clause-typing
+call_of_standard-returns-in-len3-clause-typing t c env serves =
+    let xs = c.args.arguments.now in
+    let seen = three_seen xs c.first-item-then-arguments-lt4.result c.second-item-then-arguments-lt4.result
+    c.third-item.result (omega (arith, c.in-len3.len_at_least, c.in-len3.len_below))
+    c.first-item-then-arguments-lt4.is c.second-item-then-arguments-lt4.is c.third-item.is in
+    let one = c.typed-first-in-len3.ensures.typing env serves in
+    let two = c.typed-second-in-len3.ensures.typing env serves in
+    let three = c.typed-third.ensures.typing env serves in
+    rw seen (rw (one.typing, two.typing, three.typing) at c.call_of_three.ensures.typing)
+
+-- four and more
+first_kind : (t : ℕ) (c : goal.call_of_standard-After-typing_of_kind-in-len1-up t) (env : Environment)
+    → Serves c.args.names.now env → c.kind_of-common.result
+    ≡ common_kind (standard_view c.args.called) (kinds_of (typings_of env (exprs_of (map expr_view c.args.arguments.now))))
+first_kind t c env serves =
+    let own = c.typed-first-in-len1-up.ensures.typing env serves in
+    many_common env (standard_view c.args.called) c.args.arguments.now c.first-item-2.result c.kind_of-common.result
+    c.in-len1-up.len_at_least c.first-item-2.is (c.kind_of-common.ensures ∙ ap kind_of own.typing)
+
+pub call_of_standard-returns-after-loop-number-clause-typing : goal.call_of_standard-returns-after-loop-number-clause-typing
+call_of_standard-returns-after-loop-number-clause-typing t c env serves =
+    c.typing_of_kind-in-len1-up.ensures
+    ∙ ap typing_of_kind (c.standard_kind-in-len1-up.ensures _ (first_kind t c env serves))
+
+pub call_of_standard-returns-after-loop-number-clause-broken : goal.call_of_standard-returns-after-loop-number-clause-broken
+call_of_standard-returns-after-loop-number-clause-broken t c env serves =
+    let xs = c.args.arguments.now in
+    let x = c.first-item-2.result in
+    let s = standard_view c.args.called in
+    let ds = demands_view c.demands_of_standard-demands-in-len1-up.result in
+    let es = exprs_of (map expr_view (drop 1 xs)) in
+    let own = c.typed-first-in-len1-up.ensures.typing env serves in
+    let is = c.typed-first-in-len1-up.ensures.expression in
+    let seen = left_seen xs 0 x (omega (arith, c.in-len1-up.len_at_least)) c.first-item-2.is in
+    let first = placed env (first_demand ds) (expr_view x) _ _ _ _ own
+    (rw (c.of_argument.ensures, is) at (c.wrong_at.ensures env (rw (← is) at own.typing))) in
+    let others = search_ends _ _ _ (search_is _ _ [] _ _ (none_left env ds xs c.loop-number.number c.loop-number-test.false)
+    (c.loop-number.invariant env serves)) in
+    let demanded = c.demands_of_standard-demands-in-len1-up.ensures
+    ∙ ap (demands_of_standard c.args.place s) (first_kind t c env serves) in
+    rw seen (many_standard env c.args.place s (expr_view x) es ds _ _ _ _ _ (rw seen at demanded)
+    (sym (ap count_of seen) ∙ count_seen xs) first others
+    (rw c.count-in-len1-up.ensures at c.wrong_count-in-len1-up.ensures))
+
+pub typing_of_call-returns-in-None : goal.typing_of_call-returns-in-None
+typing_of_call-returns-in-None t c env serves =
     let f = c.args.function.now in
-    let s = c.in-Some-Own.signature.now in
-    let called = rw c.in-Some-Own.field-0-is at (c.in-Some-Own.ensures env serves.tables) in
-    rw c.verdict.ensures
-    (own_types env f (exprs_of (map expr_view c.args.arguments.now)) s.inputs.items s.result c.typing_of_kind.result
-    c.wrong_arguments.result (record { callee = sym called }) c.typing_of_kind.ensures
-    (rw c.deref.ensures.value at (c.wrong_arguments.ensures env serves)))
-
--- standard functions
-pub call_of_standard-returns-in-Ok : goal.call_of_standard-returns-in-Ok
-call_of_standard-returns-in-Ok t c env serves calls =
-    let xs = c.args.arguments.now in
-    let seen = one_seen xs c.only-item.result (omega (arith, c.in-len1.len_at_least, c.in-len1.len_below))
-    c.only-item.is in
-    rw seen (c.call_of_one.ensures env calls (c.in-Ok.ensures env serves))
-
-pub call_of_standard-returns-in-Err : goal.call_of_standard-returns-in-Err
-call_of_standard-returns-in-Err t c env serves calls =
-    let xs = c.args.arguments.now in
-    let e = expr_view c.only-item.result in
-    let seen = one_seen xs c.only-item.result (omega (arith, c.in-len1.len_at_least, c.in-len1.len_below))
-    c.only-item.is in
-    rw seen (argument_wrong env c.args.function.now (expr_then e no_exprs) c.in-Err.broken
-    (first_wrong env e no_exprs c.in-Err.broken (c.in-Err.ensures env serves)))
-
-pub call_of_standard-returns-in-Ok-typing-2 : goal.call_of_standard-returns-in-Ok-typing-2
-call_of_standard-returns-in-Ok-typing-2 t c env serves calls =
-    let seen = two_seen c.args.arguments.now c.first-item.result c.second-item.result
-    (omega (arith, c.in-len2.len_at_least, c.in-len2.len_below)) c.first-item.is c.second-item.is in
-    rw seen (c.call_of_two.ensures env calls (c.in-Ok-typing.ensures env serves) (c.in-Ok-typing-2.ensures env serves))
-
-pub call_of_standard-returns-in-Err-typing : goal.call_of_standard-returns-in-Err-typing
-call_of_standard-returns-in-Err-typing t c env serves calls =
-    let e = expr_view c.first-item.result in
-    let es = expr_then (expr_view c.second-item.result) no_exprs in
-    let b = c.in-Err-typing.broken in
-    let seen = two_seen c.args.arguments.now c.first-item.result c.second-item.result
-    (omega (arith, c.in-len2.len_at_least, c.in-len2.len_below)) c.first-item.is c.second-item.is in
-    rw seen (argument_wrong env c.args.function.now (expr_then e es) b
-    (first_wrong env e es b (c.in-Err-typing.ensures env serves)))
-
-pub call_of_standard-returns-in-Err-typing-2 : goal.call_of_standard-returns-in-Err-typing-2
-call_of_standard-returns-in-Err-typing-2 t c env serves calls =
-    let e = expr_view c.first-item.result in
-    let f = expr_view c.second-item.result in
-    let b = c.in-Err-typing-2.broken in
-    let seen = two_seen c.args.arguments.now c.first-item.result c.second-item.result
-    (omega (arith, c.in-len2.len_at_least, c.in-len2.len_below)) c.first-item.is c.second-item.is in
-    rw seen (argument_wrong env c.args.function.now (expr_then e (expr_then f no_exprs)) b
-    (other_wrong env e (expr_then f no_exprs) b (first_wrong env f no_exprs b (c.in-Err-typing-2.ensures env serves))))
-
-pub call_of_standard-returns-in-Ok-typing-5 : goal.call_of_standard-returns-in-Ok-typing-5
-call_of_standard-returns-in-Ok-typing-5 t c env serves calls =
-    let seen = three_seen c.args.arguments.now c.first-item-then-arguments-lt4.result
-    c.second-item-then-arguments-lt4.result c.third-item.result
-    (omega (arith, c.in-len3.len_at_least, c.in-len3.len_below)) c.first-item-then-arguments-lt4.is
-    c.second-item-then-arguments-lt4.is c.third-item.is in
-    rw seen (c.call_of_three.ensures env calls (c.in-Ok-typing-3.ensures env serves)
-    (c.in-Ok-typing-4.ensures env serves) (c.in-Ok-typing-5.ensures env serves))
-
-pub call_of_standard-returns-in-Err-typing-3 : goal.call_of_standard-returns-in-Err-typing-3
-call_of_standard-returns-in-Err-typing-3 t c env serves calls =
-    let x = expr_view c.first-item-then-arguments-lt4.result in
-    let y = expr_view c.second-item-then-arguments-lt4.result in
-    let z = expr_view c.third-item.result in
-    let b = c.in-Err-typing-3.broken in
-    let seen = three_seen c.args.arguments.now c.first-item-then-arguments-lt4.result
-    c.second-item-then-arguments-lt4.result c.third-item.result
-    (omega (arith, c.in-len3.len_at_least, c.in-len3.len_below)) c.first-item-then-arguments-lt4.is
-    c.second-item-then-arguments-lt4.is c.third-item.is in
-    rw seen (argument_wrong env c.args.function.now (expr_then x (expr_then y (expr_then z no_exprs))) b
-    (first_wrong env x (expr_then y (expr_then z no_exprs)) b (c.in-Err-typing-3.ensures env serves)))
-
-pub call_of_standard-returns-in-Err-typing-4 : goal.call_of_standard-returns-in-Err-typing-4
-call_of_standard-returns-in-Err-typing-4 t c env serves calls =
-    let x = expr_view c.first-item-then-arguments-lt4.result in
-    let y = expr_view c.second-item-then-arguments-lt4.result in
-    let z = expr_view c.third-item.result in
-    let b = c.in-Err-typing-4.broken in
-    let seen = three_seen c.args.arguments.now c.first-item-then-arguments-lt4.result
-    c.second-item-then-arguments-lt4.result c.third-item.result
-    (omega (arith, c.in-len3.len_at_least, c.in-len3.len_below)) c.first-item-then-arguments-lt4.is
-    c.second-item-then-arguments-lt4.is c.third-item.is in
-    rw seen (argument_wrong env c.args.function.now (expr_then x (expr_then y (expr_then z no_exprs))) b
-    (other_wrong env x (expr_then y (expr_then z no_exprs)) b
-    (first_wrong env y (expr_then z no_exprs) b (c.in-Err-typing-4.ensures env serves))))
-
-pub call_of_standard-returns-in-Err-typing-5 : goal.call_of_standard-returns-in-Err-typing-5
-call_of_standard-returns-in-Err-typing-5 t c env serves calls =
-    let x = expr_view c.first-item-then-arguments-lt4.result in
-    let y = expr_view c.second-item-then-arguments-lt4.result in
-    let z = expr_view c.third-item.result in
-    let b = c.in-Err-typing-5.broken in
-    let seen = three_seen c.args.arguments.now c.first-item-then-arguments-lt4.result
-    c.second-item-then-arguments-lt4.result c.third-item.result
-    (omega (arith, c.in-len3.len_at_least, c.in-len3.len_below)) c.first-item-then-arguments-lt4.is
-    c.second-item-then-arguments-lt4.is c.third-item.is in
-    rw seen (argument_wrong env c.args.function.now (expr_then x (expr_then y (expr_then z no_exprs))) b
-    (other_wrong env x (expr_then y (expr_then z no_exprs)) b
-    (other_wrong env y (expr_then z no_exprs) b
-    (first_wrong env z no_exprs b (c.in-Err-typing-5.ensures env serves)))))
-
-pub call_of_standard-returns-in-empty : goal.call_of_standard-returns-in-empty
-call_of_standard-returns-in-empty t c env serves calls =
-    let xs = c.args.arguments.now in
-    rw c.wrong_count.ensures
-    (standard_miscounted env c.args.function.now (standard_view c.args.called) xs calls
-    (inl c.in-empty.len_below))
-
-pub call_of_standard-returns-in-len4-up : goal.call_of_standard-returns-in-len4-up
-call_of_standard-returns-in-len4-up t c env serves calls =
-    let xs = c.args.arguments.now in
-    rw c.wrong_count-in-len4-up.ensures
-    (standard_miscounted env c.args.function.now (standard_view c.args.called) xs calls
-    (inr c.in-len4-up.len_at_least))
+    let es = exprs_of (map expr_view c.args.arguments.now) in
+    call_types env f es None Nothing _ _ (sym (c.in-None.ensures env serves.tables)) refl
+    (collects_both _ _ _ _ _ c.add.ensures (c.wrong_arguments_of_unknown.ensures env serves))

@@ -3,8 +3,9 @@ use Rattle.st_types.specs.declared.expression.Expr as code_expr
 use Rattle.st_types.specs.Expressions.{literal, parenthesis, unary, binary}
 use Rattle.st_types.specs.ExpressionViews.{expr_view}
 use Rattle.st_meaning.specs.Resolution.{is_untyped, is_joining}
-use Rattle.st_typing.proofs.PartLemmas.{left_untyped, right_untyped, literal_within, parenthesis_within}
-use Rattle.st_typing.proofs.PartLemmas.{untyped_unary_within, untyped_binary_within}
+use Rattle.st_rules.specs.declared.typings.Typing.TheVariants.{Untyped}
+use Rattle.st_typing.proofs.PartLemmas.{left_untyped, right_untyped, typing_untyped, literal_within, parenthesis_within}
+use Rattle.st_typing.proofs.PartLemmas.{unary_within, untyped_binary_within}
 use Rattle.st_typing.proofs.settling.+settle.Goals as goal
 
 pub returns-in-Literal : goal.returns-in-Literal
@@ -13,8 +14,8 @@ returns-in-Literal t c env untyped =
     let seen : expr_view c.args.expression.now ≡ literal c.in-Literal.literal =
     rw is (search (rules, code_expr.the_lemmas)) in
     let whole = (sym (ap is_untyped seen)) ∙ untyped in
-    literal_within env c.args.offered c.in-Literal.literal (expr_view c.args.expression.now) c.settle_literal.result
-    seen (c.settle_literal.ensures env whole)
+    literal_within env c.args.offered c.in-Literal.literal (expr_view c.args.expression.now) c.args.broken.now
+    c.settle_literal.new.broken seen (c.settle_literal.ensures env whole)
 
 pub returns-in-Parenthesis : goal.returns-in-Parenthesis
 returns-in-Parenthesis t c env untyped =
@@ -25,7 +26,7 @@ returns-in-Parenthesis t c env untyped =
     let whole = (sym (ap is_untyped seen)) ∙ untyped in
     let inner = rw c.deref.ensures at (c.settle.ensures env) whole in
     parenthesis_within env c.args.offered c.in-Parenthesis.field-0 x (expr_view c.args.expression.now)
-    c.settle.result seen inner
+    c.args.broken.now c.settle.new.broken seen inner
 
 pub returns-in-Unary : goal.returns-in-Unary
 returns-in-Unary t c env untyped =
@@ -35,10 +36,8 @@ returns-in-Unary t c env untyped =
     rw is (search (rules, code_expr.the_lemmas)) in
     let whole = (sym (ap is_untyped seen)) ∙ untyped in
     let inner = rw c.deref-in-Unary.ensures at (c.settle-in-Unary.ensures env) whole in
-    let itself = rw c.taken_kind.ensures at c.wrong_unary.ensures in
-    rw c.either.ensures
-    (untyped_unary_within env c.args.offered c.in-Unary.operator c.in-Unary.place x (expr_view c.args.expression.now)
-    c.settle-in-Unary.result c.wrong_unary.result seen whole inner itself)
+    unary_within env c.args.offered c.in-Unary.operator c.in-Unary.place x (expr_view c.args.expression.now) Untyped
+    _ _ _ seen (sym (typing_untyped env x whole)) inner c.wrong_unary.ensures
 
 pub returns-in-Binary : goal.returns-in-Binary
 returns-in-Binary t c env untyped =
@@ -52,8 +51,6 @@ returns-in-Binary t c env untyped =
     (left_untyped (is_joining c.in-Binary.operator) l r whole) in
     let right = rw c.deref-in-Binary-2.ensures at (c.settle-in-Binary-2.ensures env)
     (right_untyped (is_joining c.in-Binary.operator) l r whole) in
-    let itself = rw (c.taken_kind-in-Binary.ensures, c.first_byte.ensures, c.deref-in-Binary-3.ensures)
-    at c.wrong_binary.ensures in
-    rw (c.either-in-Binary.ensures, c.either-parts.ensures)
-    (untyped_binary_within env c.args.offered c.in-Binary.operator l r (expr_view c.args.expression.now)
-    c.settle-in-Binary.result c.settle-in-Binary-2.result c.wrong_binary.result seen whole left right itself)
+    let itself = rw (c.first_byte.ensures, c.deref-in-Binary-3.ensures) at c.wrong_binary.ensures in
+    untyped_binary_within env c.args.offered c.in-Binary.operator l r (expr_view c.args.expression.now)
+    _ _ _ _ seen whole left right itself

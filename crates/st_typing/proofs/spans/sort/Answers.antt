@@ -8,5 +8,5 @@ pub returns-clause-ascending : goal.returns-clause-ascending
 returns-clause-ascending c =
     ascend_sorted _
     (c.in_ok-sort_by_key.ensures.sorted
-    (λ s. (kind_index s.kind, names_in s.kind, number_of_type s.kind, s.lower))
+    (λ s. (kind_index s.kind, names_in s.kind, number_of_type s.kind, s.lower, s.place, s.upper))
     (answers_always _ _ _ (λ f a r g h. search rules)))

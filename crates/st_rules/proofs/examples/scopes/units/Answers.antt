@@ -39,3 +39,7 @@ returns-clause-apart c = refl
 pub returns-clause-in_one_declaration : goal.returns-clause-in_one_declaration
 unfolding standard_of standard_functions block_of has_chain leads_to
 returns-clause-in_one_declaration c = refl
+
+pub returns-clause-three_times : goal.returns-clause-three_times
+unfolding standard_of standard_functions block_of has_chain leads_to
+returns-clause-three_times c = refl

@@ -1,0 +1,15 @@
+use Rattle.std.proofs.Common.{map, drop}
+use Rattle.std.specs.List.{flat_map}
+use Rattle.st_meaning.specs.NameTypes.{Declared}
+use Rattle.st_rules.specs.TypeRules.{wrong_element}
+use Rattle.st_rules.proofs.CollectLemmas.{Searches}
+use Rattle.symbols.specs.Texts.{ServesText}
+use Rattle.symbols.specs.Tables.{ServesTables}
+use Rattle.st_decl.specs.Entries.{of_each, entry_view, array_of}
+use Rattle.st_check.proofs.arrays.wrong_elements.Given as goal
+
+abbrev pub invariant-loop-entry : goal.invariant-loop-entry
+invariant-loop-entry l = (text : Declared) → ServesText l.names text → ServesTables l.tables text
+    → Searches (flat_map (λ e. of_each (wrong_element text) (array_of e)) (map entry_view l.entries))
+    (flat_map (λ e. of_each (wrong_element text) (array_of e)) (map entry_view (drop l.entry-index l.entries)))
+    l.initial.broken l.broken
