@@ -7,8 +7,8 @@ use Rattle.std.proofs.lemmas.Bool.Decides.{nat_tests}
 use Rattle.slot_run.specs.declared.snapshot.Snapshot.{Snapshot}
 use Rattle.retain_store.specs.declared.fault.StoreFault.{StoreFault}
 use Rattle.retain_store.specs.declared.fault.StoreFault.TheVariants as stores
-use Rattle.serial_core.specs.declared.refusal.Answer.{Answer}
-use Rattle.serial_core.specs.declared.refusal.Refusal.{Refusal as SerialRefusal}
+use Rattle.core_engine.specs.declared.refusal.Answer.{Answer}
+use Rattle.core_engine.specs.declared.refusal.Refusal.{Refusal as SerialRefusal}
 use Rattle.serial_core.specs.Steps.{State}
 use Rattle.durable_core.specs.declared.refusal.Refusal.{Refusal}
 use Rattle.durable_core.specs.declared.refusal.Refusal.TheVariants.{StoreFailed, Serial}

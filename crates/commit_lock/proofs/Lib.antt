@@ -1,4 +1,5 @@
 mod DriveLemmas
+mod EndlessDriveLemmas
 mod LogLemmas
 mod AckedLemmas
 mod LifeLemmas

@@ -11,10 +11,10 @@ use Rattle.slot_run.specs.declared.snapshot.Snapshot.{Snapshot}
 use Rattle.slot_run.specs.Effects.{Effect}
 use Rattle.plan.specs.declared.plan.Plan.{Plan}
 use Rattle.plan.specs.PlanViews.{plan_view}
-use Rattle.serial_core.specs.declared.refusal.Answer.{Answer}
-use Rattle.serial_core.specs.declared.refusal.Answer.TheVariants.{Committed, Stale}
-use Rattle.serial_core.specs.declared.refusal.Refusal.{Refusal as SerialRefusal}
-use Rattle.serial_core.specs.declared.refusal.Refusal.TheVariants as refusals
+use Rattle.core_engine.specs.declared.refusal.Answer.{Answer}
+use Rattle.core_engine.specs.declared.refusal.Answer.TheVariants.{Committed, Stale}
+use Rattle.core_engine.specs.declared.refusal.Refusal.{Refusal as SerialRefusal}
+use Rattle.core_engine.specs.declared.refusal.Refusal.TheVariants as refusals
 use Rattle.serial_core.specs.Steps.{State, Latches, Takes, Commits, CommitsHere}
 use Rattle.durable_core.specs.declared.refusal.Refusal.{Refusal}
 use Rattle.durable_core.specs.declared.refusal.Refusal.TheVariants.{StoreFailed, Serial}

@@ -19,8 +19,8 @@ use Rattle.plan.specs.PlanViews.{plan_view}
 use Rattle.serial_core.specs.Steps.{State, store_in}
 use Rattle.core_values.specs.Restored.{restored}
 use Rattle.serial_core.specs.Retained.{paired, retained_kinds, retained_paths, retained_values, kept_from}
-use Rattle.serial_core.proofs.PlanSlots.{no_variables}
-use Rattle.serial_core.proofs.RetainedLemmas.{goes_by_itself, kept_paired, kinds_kept, restart_is, restored_back, restored_typed}
+use Rattle.core_engine.proofs.PlanSlots.{no_variables}
+use Rattle.core_engine.proofs.RetainedLemmas.{goes_by_itself, kept_paired, kinds_kept, restart_is, restored_back, restored_typed}
 use Rattle.durable_core.specs.Starting.{started}
 use Rattle.durable_core.specs.declared.starting.StartMode.{StartMode}
 use Rattle.durable_core.specs.declared.starting.StartMode.TheVariants.{Warm, Cold}

@@ -4,8 +4,8 @@ use Rattle.std.specs.Prelude.{◌+◌, ◌==◌, cond, slice_get, slice_set, opt
 use Rattle.slot_run.specs.Effects.{Effect}
 use Rattle.slot_run.specs.Executions.{IsEffectOf}
 use Rattle.slot_run.specs.declared.snapshot.Snapshot.{Snapshot}
-use Rattle.serial_core.specs.declared.refusal.Answer.{Answer}
-use Rattle.serial_core.specs.declared.refusal.Refusal.TheVariants.{NotWaiting, NoMemory}
+use Rattle.core_engine.specs.declared.refusal.Answer.{Answer}
+use Rattle.core_engine.specs.declared.refusal.Refusal.TheVariants.{NotWaiting, NoMemory}
 use Rattle.serial_core.specs.Steps.{Latches, Takes, Commits, CommitsHere}
 use Rattle.retain_store.specs.declared.fault.StoreFault.{StoreFault}
 use Rattle.retain_store.specs.declared.fault.StoreFault.TheVariants as stores
@@ -71,9 +71,13 @@ saves acked [] = 0
 saves acked (reply ∷ replies) = saved acked reply + saves (acked_after acked reply) replies
 
 -- the disk serves a whole file, and if the store has failed its generations are used up
+abbrev pub IsWellStored : {D : Type 0} → (D → ℕ → Type 0) → D → Option StoreFault → Type 0
+IsWellStored serves disk failed =
+    serves disk FILE_BYTES × ((cause : StoreFault) → failed ≡ Some cause → cause ≡ stores.Generations)
+
+-- the same of a core
 abbrev pub IsWell : {D : Type 0} → (D → ℕ → Type 0) → CoreView D → Type 0
-IsWell serves core = serves core.store.disk FILE_BYTES
-    × ((cause : StoreFault) → core.failed ≡ Some cause → cause ≡ stores.Generations)
+IsWell serves core = IsWellStored serves core.store.disk core.failed
 
 -- if the reply is K5, the generations are used up
 abbrev pub IsWellAnswered : Reply → Type 0
@@ -104,6 +108,13 @@ module _ {D : Type 0} (failure_count : D → ℕ) where
       (result : Result ℕ Refusal) × Flushes old result new
       × CountsFlush result (failure_count old.store.disk) (failure_count new.store.disk) old new
       × (reply ≡ reply_to Flushed result) × (kept ≡ held)
+
+-- Each stop within a call and after it leaves a file that survives; and while the disk serves a whole file, K5 comes only if
+-- the generations are used up.
+pub record Withstands {D : Type 0} (tells : Type 0) (left_since : D → D → List ℕ → Type 0) (may_leave : D → List ℕ → Type 0)
+    (serves : D → ℕ → Type 0) (old : CoreView D) (reply : Reply) (new : CoreView D) : Type 0 where
+  pub outlives : tells → Outlives left_since may_leave old new
+  pub well : IsWell serves old → IsWell serves new × IsWellAnswered reply
 
 -- The file survives for the life so far and some front of these calls with their answers: for the log that they make, with
 -- all that they have acknowledged.

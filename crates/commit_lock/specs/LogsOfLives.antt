@@ -6,7 +6,7 @@ use Rattle.st_types.specs.declared.entry.Entry.TheVariants as entries
 use Rattle.st_meaning.specs.Due.{IsBest}
 use Rattle.st_meaning.specs.Plans.{Plan, schedules_of}
 use Rattle.st_meaning.specs.Logs.{Log, past_of}
-use Rattle.serial_core.specs.declared.refusal.Answer.TheVariants.{Committed}
+use Rattle.core_engine.specs.declared.refusal.Answer.TheVariants.{Committed}
 use Rattle.commit_lock.specs.declared.event.Event.{Event}
 use Rattle.commit_lock.specs.declared.event.Event.TheVariants.{Latch, Take, Commit, CommitHere}
 use Rattle.commit_lock.specs.declared.event.Reply.{Reply}

@@ -21,7 +21,7 @@ use slot_run::{Snapshot, run};
 use std::alloc::{AllocError, Global};
 
 /// Takes out the snapshot that is held under a number, which holds none from then on.
-fn take_held(held: &mut Vec<Option<Snapshot>>, i: usize) -> Option<Snapshot>
+pub(crate) fn take_held(held: &mut Vec<Option<Snapshot>>, i: usize) -> Option<Snapshot>
     ensures value { result ≡ held_at held.old.items i }
     ensures rest { held.new.items ≡ slice_set held.old.items i None }
     ensures capacity { vec_capacity held.new ≡ vec_capacity held.old }

@@ -6,21 +6,25 @@
 
 mod disks;
 mod driving;
+mod driving_endless;
 mod event;
 mod findings;
 mod laws;
 mod life;
 mod living;
+mod living_endless;
 mod nobody;
 mod replaying;
 mod starting;
 
 pub use driving::drive;
-pub use durable_core::{Answer, Core};
+pub use driving_endless::drive_endless;
+pub use durable_core::{Answer, Core, EndlessCore};
 pub use event::{Event, Reply};
 pub use findings::Replayed;
 pub use laws::each_core_has_a_trace;
 pub use life::{Course, Life, LifeEnd};
 pub use living::lives;
+pub use living_endless::endless_lives;
 pub use replaying::{replay, replay_text, replay_watched};
 pub use trace::{ReplayError, Watcher, trace_budget, write_trace};

@@ -1,2 +1,3 @@
 pub mod ImageLemmas
 pub mod WindowLemmas
+pub mod HeldLemmas

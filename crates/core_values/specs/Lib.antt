@@ -1,1 +1,2 @@
 pub mod Restored
+pub mod Held

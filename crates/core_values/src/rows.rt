@@ -1,9 +1,7 @@
 //! Rows of a log.
 
-ghost use Rattle.std.specs.Prelude.{◌≡◌, ◌<◌, ◌&&◌, length, slice_get, slice_index, Some};
+ghost use Rattle.std.specs.Prelude.{◌≡◌, ◌&&◌};
 ghost use Rattle.st_types.specs.Kinds.{same_kind, holds};
-ghost use Rattle.st_types.specs.declared.entry.Entry.TheVariants.{Row as row_entry};
-ghost use Rattle.st_types.specs.Rows.{Latch};
 ghost use Rattle.st_meaning.specs.Logs.{is_later as is_later_than};
 ghost use Rattle.st_meaning.specs.Plans.{fits as fits_plan, holds_each};
 ghost use Rattle.plan.specs.PlanViews.{plan_view};
@@ -11,19 +9,7 @@ ghost use Rattle.plan.specs.PlanViews.{plan_view};
 use plan::Plan;
 use st_meaning::PlanInput;
 use st_types::limits::MOMENT_LIMIT;
-use st_types::{Entry, Row, Value};
-
-/// The row of this number, by the place of each row in the log.
-pub fn row_of<'a>(log: &'a [Entry], rows: &[usize], k: usize) -> &'a Row
-    requires there { k < length rows.now }
-    requires row { (latch : Latch) × (slice_get log.now (slice_index rows.now k) ≡ Some (row_entry latch)) }
-    ensures { slice_get log.now (slice_index rows.now k) ≡ Some (row_entry result.now) }
-{
-    match &log[rows[k]] {
-        Entry::Row(row) => row,
-        Entry::Done(_) => unreachable!(),
-    }
-}
+use st_types::{Row, Value};
 
 /// Whether the moment is later than the last one, if there is one.
 pub fn is_later(last: Option<u64>, moment: u64) -> bool

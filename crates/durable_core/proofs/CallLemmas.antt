@@ -1,20 +1,20 @@
 -- The invariant of a core over a disk when its log grows.
-use Rattle.std.proofs.Common.{ℕ, [], ◌∷◌, Option, Some, None, inl, inr, sym, subst, arith, length-append}
+use Rattle.std.proofs.Common.{◌≡◌, ℕ, [], ◌∷◌, Option, Some, None, inl, inr, sym, ap, subst, arith, length-append}
 use Rattle.std.specs.Prelude.{Result, Ok, Err}
 use Rattle.st_types.specs.declared.entry.Entry.{Entry}
 use Rattle.st_types.specs.declared.entry.Entry.TheVariants.{Row, Done}
+use Rattle.st_types.specs.declared.entry.Activation.{Activation}
 use Rattle.st_types.specs.Rows.{Latch}
+use Rattle.st_meaning.specs.declared.outcome.Outcome.{Outcome}
 use Rattle.slot_run.specs.Effects.{Effect}
-use Rattle.retain_store.specs.declared.fault.StoreFault.{StoreFault}
-use Rattle.retain_store.specs.Kept.{StoreView}
-use Rattle.serial_core.specs.declared.refusal.Answer.{Answer}
-use Rattle.serial_core.specs.declared.refusal.Answer.TheVariants.{Committed, Stale}
-use Rattle.serial_core.specs.declared.refusal.Refusal.{Refusal}
-use Rattle.serial_core.specs.declared.refusal.Refusal.TheVariants.{Full, NotWaiting, Foreign, NotLater, NoMemory}
-use Rattle.serial_core.specs.Steps.{State, grown, Latches, Commits, CommitsHere}
-use Rattle.durable_core.specs.declared.starting.StartMode.{StartMode}
+use Rattle.core_engine.specs.declared.refusal.Answer.{Answer}
+use Rattle.core_engine.specs.declared.refusal.Answer.TheVariants.{Committed, Stale}
+use Rattle.core_engine.specs.declared.refusal.Refusal.{Refusal}
+use Rattle.core_engine.specs.declared.refusal.Refusal.TheVariants.{Full, NotWaiting, Foreign, NotLater, NoMemory}
+use Rattle.core_engine.specs.Steps.{State, grown, Latches, Commits, CommitsHere}
+use Rattle.core_engine.specs.Quick.{CommitsOne}
 use Rattle.durable_core.specs.Kept.{CoreInvariant}
-use Rattle.durable_core.specs.Cores.{IsLonger}
+use Rattle.durable_core.specs.Cores.{CoreView, IsLonger, with_state}
 use Rattle.durable_core.proofs.SurvivalLemmas.{survives_longer}
 
 pub latches_longer : (old : State) (row : Latch) (r : Result ℕ Refusal) (new : State) → Latches old row r new
@@ -42,27 +42,36 @@ here_longer old resource (Err NotWaiting) new h = absurd h
 here_longer old resource (Err Foreign) new h = absurd h
 here_longer old resource (Err NotLater) new h = absurd h
 
-kept_grown : {D : Type 0} (mode : StartMode) (state : State) (acked : ℕ) (failed : Option StoreFault)
-    (store : StoreView D) (room : ℕ) (entry : Entry)
-    → CoreInvariant mode state acked failed store room
-    → CoreInvariant mode (grown state entry) acked failed store room
-kept_grown mode state acked failed store room entry k = record {
-  started = k.started;
-  early = k.early;
-  log_room = k.log_room;
-  last = survives_longer state.plan state.start state.before state.log acked store.last entry k.last;
-  tried = survives_longer state.plan state.start state.before state.log acked store.tried entry k.tried;
-  few = omega (arith, k.few, length-append state.log (entry ∷ []));
-  met = k.met;
-  saves = k.saves;
-  room_is = k.room_is;
-}
+pub one_longer : (old : State) (a : Activation) (r : Result Outcome Refusal) (new : State)
+    → CommitsOne old a r new → IsLonger old new
+one_longer old a (Ok outcome) new h = inr (Done a, h.1)
+one_longer old a (Err Full) new h = inl h.1
+one_longer old a (Err NoMemory) new h = inl h
+one_longer old a (Err NotWaiting) new h = absurd h
+one_longer old a (Err Foreign) new h = absurd h
+one_longer old a (Err NotLater) new h = absurd h
 
-pub kept_longer : {D : Type 0} (mode : StartMode) (old new : State) (acked : ℕ) (failed : Option StoreFault)
-    (store : StoreView D) (room : ℕ) → IsLonger old new
-    → CoreInvariant mode old acked failed store room → CoreInvariant mode new acked failed store room
-kept_longer mode old new acked failed store room (inl same) k =
-    subst (λ (s : State). CoreInvariant mode s acked failed store room) (sym same) k
-kept_longer mode old new acked failed store room (inr more) k =
-    subst (λ (s : State). CoreInvariant mode s acked failed store room) (sym more.1)
-    (kept_grown mode old acked failed store room more.0 k)
+-- the plan is the same
+pub longer_plan : (old new : State) → IsLonger old new → new.plan ≡ old.plan
+longer_plan old new (inl same) = ap (λ (s : State). s.plan) same
+longer_plan old new (inr more) = ap (λ (s : State). s.plan) more.1
+
+kept_grown : {D : Type 0} (core : CoreView D) (entry : Entry) → CoreInvariant core
+    → CoreInvariant (with_state core (grown core.state entry))
+kept_grown core entry k =
+    let state = core.state in
+    record {
+      started = k.started;
+      early = k.early;
+      last = survives_longer state.plan state.start state.before state.log core.acked core.store.last entry k.last;
+      tried = survives_longer state.plan state.start state.before state.log core.acked core.store.tried entry k.tried;
+      few = omega (arith, k.few, length-append state.log (entry ∷ []));
+      met = k.met;
+      saves = k.saves;
+    }
+
+pub kept_longer : {D : Type 0} (core : CoreView D) (new : State) → IsLonger core.state new → CoreInvariant core
+    → CoreInvariant (with_state core new)
+kept_longer core new (inl same) k = subst (λ (s : State). CoreInvariant (with_state core s)) (sym same) k
+kept_longer core new (inr more) k =
+    subst (λ (s : State). CoreInvariant (with_state core s)) (sym more.1) (kept_grown core more.0 k)

@@ -6,3 +6,8 @@ pub mod CallLemmas
 pub mod GivenBack
 pub mod MigratingLemmas
 pub mod GivenToOthers
+pub mod EngineLemmas
+pub mod EndlessLemmas
+pub mod LogLemmas
+pub mod FlushLemmas
+pub mod FirstLemmas

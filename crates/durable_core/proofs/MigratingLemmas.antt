@@ -21,8 +21,8 @@ use Rattle.plan.specs.PlanViews.{plan_view}
 use Rattle.core_values.specs.Restored.{restored}
 use Rattle.serial_core.specs.Steps.{State, past_in}
 use Rattle.serial_core.specs.Retained.{retained_values, retained_kinds, kept_from}
-use Rattle.serial_core.proofs.RetainedLemmas.{restart_is}
-use Rattle.serial_core.proofs.PlanSlots.{no_variables}
+use Rattle.core_engine.proofs.RetainedLemmas.{restart_is}
+use Rattle.core_engine.proofs.PlanSlots.{no_variables}
 use Rattle.retain_records.specs.Records.{Content, IsLine}
 use Rattle.retain_store.specs.Recovered.{Found}
 use Rattle.durable_core.specs.Recorded.{recorded}

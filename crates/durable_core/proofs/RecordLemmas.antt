@@ -34,7 +34,7 @@ use Rattle.retain_records.proofs.LayoutLemmas.{words_again}
 use Rattle.retain_records.specs.ContentLines.{line_then, lines_in, kept_in}
 use Rattle.durable_core.proofs.RecordedLemmas.{numbered, place_recorded, typed, typed_back}
 use Rattle.durable_core.proofs.RecordedLemmas.{typed_held, typed_kinds, width_recorded}
-use Rattle.serial_core.proofs.RetainedLemmas.{cons_head, cons_tail}
+use Rattle.core_engine.proofs.RetainedLemmas.{cons_head, cons_tail}
 use Rattle.std.proofs.lemmas.Option.{same_Some}
 use Rattle.layout.specs.Names.{are_different}
 

@@ -12,7 +12,7 @@ use Rattle.st_types.specs.Kinds.{holds, width_of}
 use Rattle.st_types.specs.Values.{Datum, IsHeld, in_range}
 use Rattle.retain_records.specs.Records.{has_keyword, is_byte_place}
 use Rattle.durable_core.specs.Recorded.{recorded_kind, recorded, renumbered, all_renumbered}
-use Rattle.serial_core.proofs.RetainedLemmas.{cons_head, cons_tail}
+use Rattle.core_engine.proofs.RetainedLemmas.{cons_head, cons_tail}
 use Rattle.st_types.proofs.TestLemmas.{or_true}
 
 -- a record leaves an elementary type as it is

@@ -5,7 +5,7 @@ use Rattle.st_types.specs.declared.entry.Entry.{Entry}
 use Rattle.retain_store.specs.declared.fault.StoreFault.{StoreFault}
 use Rattle.retain_store.specs.Kept.{StoreView}
 use Rattle.retain_store.specs.Recovered.{Recovered, recovered}
-use Rattle.serial_core.specs.declared.refusal.Refusal.{Refusal as SerialRefusal}
+use Rattle.core_engine.specs.declared.refusal.Refusal.{Refusal as SerialRefusal}
 use Rattle.serial_core.specs.Steps.{State, grown}
 use Rattle.durable_core.specs.declared.refusal.Refusal.{Refusal}
 use Rattle.durable_core.specs.declared.starting.StartMode.{StartMode}

@@ -5,3 +5,4 @@ pub mod Kept
 pub mod Starting
 pub mod Flushing
 pub mod Started
+pub mod Endless

@@ -11,7 +11,7 @@ use crate::refusal::Refusal;
 use disk::Disk;
 use serial_core::Answer;
 use slot_run::{Execution, Snapshot, Taken};
-use st_types::Row;
+use st_types::{Entry, Row};
 use std::alloc::Global;
 
 impl<D: Disk> Core<D> {
@@ -23,15 +23,13 @@ impl<D: Disk> Core<D> {
         ensures latches { Guards self.old result self.new (λ r. Latches self.old.state row r self.new.state) }
         ensures outlives { D.tells → Outlives D.left_since D.may_leave self.old self.new }
     {
-        self.kept();
-        if let Some(cause) = self.failed {
-            return Err(Refusal::StoreFailed(cause));
-        }
-        let result = self.serial.latch(row);
-        self.kept();
+        let result = self.endless.latch(&row);
         match result {
-            Ok(number) => Ok(number),
-            Err(refusal) => Err(Refusal::Serial(refusal)),
+            Ok(number) => {
+                self.history.append(Entry::Row(row), None);
+                Ok(number as usize)
+            }
+            Err(refusal) => Err(refusal),
         }
     }
 
@@ -44,14 +42,19 @@ impl<D: Disk> Core<D> {
         ensures outlives { D.tells → Outlives D.left_since D.may_leave self.old self.new }
     {
         self.kept();
-        if let Some(cause) = self.failed {
+        if let Some(cause) = self.endless.failed {
             return Err(Refusal::StoreFailed(cause));
         }
-        let result = self.serial.commit_here(alloc, resource);
-        self.kept();
+        let Some(activation) = self.endless.best(resource) else {
+            return Ok(None);
+        };
+        let result = self.endless.commit_activation(alloc, activation);
         match result {
-            Ok(length) => Ok(length),
-            Err(refusal) => Err(Refusal::Serial(refusal)),
+            Ok(outcome) => {
+                self.history.append(Entry::Done(activation), Some(outcome));
+                Ok(Some(self.history.len()))
+            }
+            Err(refusal) => Err(refusal),
         }
     }
 
@@ -64,15 +67,15 @@ impl<D: Disk> Core<D> {
         ensures commits { Guards self.old result self.new (λ r. Commits self.old.state execution r self.new.state) }
         ensures outlives { D.tells → Outlives D.left_since D.may_leave self.old self.new }
     {
-        self.kept();
-        if let Some(cause) = self.failed {
-            return Err(Refusal::StoreFailed(cause));
-        }
-        let result = self.serial.commit(execution);
-        self.kept();
+        let activation = execution.activation();
+        let outcome = execution.outcome();
+        let result = self.endless.commit(execution);
         match result {
-            Ok(answer) => Ok(answer),
-            Err(refusal) => Err(Refusal::Serial(refusal)),
+            Ok(answer) => {
+                self.history.append_done(&Ok(answer), activation, outcome);
+                Ok(answer)
+            }
+            Err(refusal) => Err(refusal),
         }
     }
 
@@ -83,15 +86,15 @@ impl<D: Disk> Core<D> {
         ensures commits { Guards self.old result self.new (λ r. Commits self.old.state execution r self.new.state) }
         ensures outlives { D.tells → Outlives D.left_since D.may_leave self.old self.new }
     {
-        self.kept();
-        if let Some(cause) = self.failed {
-            return Err(Refusal::StoreFailed(cause));
-        }
-        let result = self.serial.commit_own(execution);
-        self.kept();
+        let activation = execution.activation();
+        let outcome = execution.outcome();
+        let result = self.endless.commit_own(execution);
         match result {
-            Ok(answer) => Ok(answer),
-            Err(refusal) => Err(Refusal::Serial(refusal)),
+            Ok(answer) => {
+                self.history.append_done(&Ok(answer), activation, outcome);
+                Ok(answer)
+            }
+            Err(refusal) => Err(refusal),
         }
     }
 
@@ -104,13 +107,7 @@ impl<D: Disk> Core<D> {
             → survives self.now (recovered file) }
     {
         self.kept();
-        if let Some(cause) = self.failed {
-            return Err(Refusal::StoreFailed(cause));
-        }
-        match self.serial.take(alloc, resource) {
-            Ok(taken) => Ok(taken),
-            Err(refusal) => Err(Refusal::Serial(refusal)),
-        }
+        self.endless.take(alloc, resource)
     }
 
     /// The input of a run of the best activation that waits on the resource: the values of the slots that its code
@@ -123,12 +120,6 @@ impl<D: Disk> Core<D> {
             → survives self.now (recovered file) }
     {
         self.kept();
-        if let Some(cause) = self.failed {
-            return Err(Refusal::StoreFailed(cause));
-        }
-        match self.serial.take_quick(alloc, resource) {
-            Ok(taken) => Ok(taken),
-            Err(refusal) => Err(Refusal::Serial(refusal)),
-        }
+        self.endless.take_quick(alloc, resource)
     }
 }

@@ -9,41 +9,27 @@ ghost use Rattle.retain_store.specs.Kept.{IsLast};
 ghost use Rattle.durable_core.specs.Cores.{survives};
 ghost use Rattle.durable_core.specs.Starting.{IsStart, start_in};
 
-use crate::starting::StartMode;
+use crate::endless::EndlessCore;
 use disk::Disk;
-use retain_store::{Store, StoreFault};
-use serial_core::SerialCore;
-use st_types::Value;
+use serial_core::History;
 use std::marker::Model;
 
-/// A core over a disk. Contracts see how it was started, its plan, start and log, how many entries are acknowledged, and
+/// A core over a disk with its log. Contracts see how it was started, its plan, start and log, how many entries are acknowledged, and
 /// its store.
 ///
 /// It was started as these say. Its log is legal, its variables have the values after the log's executions, one after
 /// another, and on a disk with `tells` every file that a stop now may leave survives: a warm restart gives the values
 /// after a prefix of the log that holds all that is acknowledged.
 pub struct Core<D: Disk> {
-    /// How it was started.
-    pub(crate) mode: StartMode,
-    pub(crate) serial: SerialCore,
-    pub(crate) store: Store<D>,
-    /// Room for the values of a record.
-    pub(crate) kept: Vec<Value>,
-    /// How many entries of the log are acknowledged.
-    pub(crate) acked: usize,
-    /// Why the store failed, once a flush has failed.
-    pub(crate) failed: Option<StoreFault>,
+    pub(crate) endless: EndlessCore<D>,
+    pub(crate) history: History,
 }
 
 impl<D: Disk + Drop> Drop for Core<D> {
     fn drop(self) {
         let Self {
-            mode: _,
-            serial: _,
-            store: _,
-            kept: _,
-            acked: _,
-            failed: _,
+            endless: _,
+            history: _,
         } = self;
     }
 }
@@ -58,18 +44,11 @@ impl<D: Disk> Model for Core<D> {
 
     ghost coded = { Prim.hlevel (codes, source.the_row.coded, code.the_row.coded) };
 
-    ghost use Rattle.std.specs.Prelude.{◌≡◌, ◌≤◌, length, vec_capacity};
-    ghost use Rattle.durable_core.specs.Kept.{CoreInvariant};
+    ghost use Rattle.durable_core.specs.Endless.{HasLog, core_in};
 
-    ghost view = { λ x. record {
-      mode = x.mode;
-      state = x.serial;
-      acked = x.acked;
-      failed = x.failed;
-      store = x.store;
-    } };
+    ghost view = { λ x. core_in x.endless x.history.start x.history.log };
 
-    ghost invariant = { λ x. CoreInvariant x.mode x.serial x.acked x.failed x.store (vec_capacity x.kept) };
+    ghost invariant = { λ x. HasLog x.endless x.history };
 }
 
 impl<D: Disk> Core<D> {
@@ -86,8 +65,7 @@ impl<D: Disk> Core<D> {
         ensures legal { IsLegal (plan_view self.now.state.plan) self.now.state.start self.now.state.before
             self.now.state.log }
     {
-        self.store.kept();
-        let _length = self.serial.len();
+        self.endless.kept();
     }
 
     /// Ends the life and gives the disk back, without a device call.
@@ -97,13 +75,9 @@ impl<D: Disk> Core<D> {
     {
         self.kept();
         let Core {
-            mode: _,
-            serial: _,
-            store,
-            kept: _,
-            acked: _,
-            failed: _,
+            endless,
+            history: _,
         } = self;
-        store.into_disk()
+        endless.stop()
     }
 }

@@ -7,6 +7,9 @@
 
 mod calling;
 mod core_state;
+mod endless;
+mod endless_calls;
+mod endless_reading;
 mod flushing;
 mod laws;
 mod migrating;
@@ -16,8 +19,10 @@ mod recording;
 mod refusal;
 mod saving;
 mod starting;
+mod starting_core;
 
 pub use core_state::Core;
+pub use endless::EndlessCore;
 pub use laws::{
     records_hold_what_was_kept, records_know_types_by_their_names, what_survives_is_given_back,
     what_survives_is_given_to_other_plans,

@@ -10,6 +10,7 @@ ghost use Rattle.retain_records.specs.Lines.{lines_of};
 ghost use Rattle.retain_records.specs.ContentLines.{kept_in};
 ghost use Rattle.durable_core.specs.Restart.{fresh_state, layout_text_of, record_now, warm};
 ghost use Rattle.durable_core.specs.Starting.{started};
+ghost use Rattle.durable_core.specs.Endless.{IsFirstEngine, first_state};
 
 use crate::parts::Parts;
 use retain_records::restore_from;
@@ -20,24 +21,26 @@ use retain_store::Record;
 ///
 /// The record of the start that the core then has gives the same start again.
 pub(crate) fn migrate(parts: &mut Parts, last: &Record)
-    requires begun { parts.old.serial ≡ fresh_state parts.old.serial.plan parts.old.serial.room }
-    requires kept { length parts.old.serial.plan.variables.items ≤ vec_capacity parts.old.kept }
-    requires lines { parts.old.lines ≡ lines_of (layout_text_of parts.old.serial.plan) }
+    requires new { IsFirstEngine parts.old.engine }
+    requires begun { first_state parts.old.engine ≡ fresh_state parts.old.engine.plan parts.old.engine.room }
+    requires kept { length parts.old.engine.plan.variables.items ≤ vec_capacity parts.old.kept }
+    requires lines { parts.old.lines ≡ lines_of (layout_text_of parts.old.engine.plan) }
     requires sound { IsRecordable last.now }
 
-    ensures resumed { parts.new.serial ≡ started parts.old.serial.plan parts.old.serial.room
-        (warm_start (plan_view parts.old.serial.plan) (Some (kept_in last.now))) }
-    ensures again { (generation : ℕ) → parts.new.serial ≡ started parts.old.serial.plan parts.old.serial.room
-        (warm parts.old.serial.plan (Found generation (record_now parts.new.serial))) }
-    ensures early { IfSome parts.new.serial.before (λ t. t < MOMENT_LIMIT) }
+    ensures new { IsFirstEngine parts.new.engine }
+    ensures resumed { first_state parts.new.engine ≡ started parts.old.engine.plan parts.old.engine.room
+        (warm_start (plan_view parts.old.engine.plan) (Some (kept_in last.now))) }
+    ensures again { (generation : ℕ) → first_state parts.new.engine ≡ started parts.old.engine.plan parts.old.engine.room
+        (warm parts.old.engine.plan (Found generation (record_now (first_state parts.new.engine)))) }
+    ensures early { IfSome (first_state parts.new.engine).before (λ t. t < MOMENT_LIMIT) }
     ensures kept { vec_capacity parts.old.kept ≤ vec_capacity parts.new.kept }
 {
-    parts.serial.retain(&mut parts.kept);
+    parts.engine.retain(&mut parts.kept);
     restore_from(
         &mut parts.kept,
         &mut parts.lines,
         last.layout(),
         last.values(),
     );
-    parts.serial.resume(&parts.kept, last.moment());
+    parts.engine.resume(&parts.kept, last.moment());
 }

@@ -2,7 +2,7 @@
 
 ghost use Rattle.std.specs.Prelude.{◌≡◌, ◌≢◌, ◌≤◌, ◌+◌, List, ℕ, [], None, IsTrue, false, length};
 ghost use Rattle.std.specs.Prelude.{◌<◌, vec_capacity, IfOk, IfErr, IfSome, MatchResult};
-ghost use Rattle.st_types.specs.declared.limits.TheConstants.{MAX_LOG_ROOM, MOMENT_LIMIT};
+ghost use Rattle.st_types.specs.declared.limits.TheConstants.{MOMENT_LIMIT};
 ghost use Rattle.disk.specs.Disk.{Only};
 ghost use Rattle.disk.specs.Runs.{LeavesOnly};
 ghost use Rattle.retain_store.specs.declared.shape.TheConstants.{FILE_BYTES};
@@ -15,14 +15,15 @@ ghost use Rattle.durable_core.specs.Cores.{survives};
 ghost use Rattle.durable_core.specs.Starting.{IsStart, start_in, started, HasOtherLayout, Saves};
 ghost use Rattle.durable_core.specs.Starting.{CanStart, RefusesStart, CountsStart, LeftByStart, IsOutOfMemory};
 ghost use Rattle.durable_core.specs.Starting.{IsLeftByStart, StartKeeps, WritesOrStays};
+ghost use Rattle.durable_core.specs.Endless.{IsCoreOf, IsFirstEngine, first_core, first_state};
 ghost use Rattle.durable_core.specs.Started.{IsResumed, IsSavedFirst, IsStarted, StartsFrom};
 
-use crate::core_state::Core;
+use crate::endless::EndlessCore;
 use crate::migrating::migrate;
 use crate::parts::{Parts, layout_text};
 use crate::recording::take_numbers;
 use crate::refusal::StartFault;
-use crate::saving::save_record;
+use crate::saving::save_first;
 use disk::Disk;
 use plan::Plan;
 use retain_store::{Store, StoreFault};
@@ -41,33 +42,35 @@ pub enum StartMode {
 
 /// Goes on from the last record, if there is one; false if it is of another layout text.
 fn resume_from<D: Disk>(parts: &mut Parts, store: &Store<D>) -> bool
-    requires begun { parts.old.serial ≡ fresh_state parts.old.serial.plan parts.old.serial.room }
-    requires kept { length parts.old.serial.plan.variables.items ≤ vec_capacity parts.old.kept }
-    requires lines { parts.old.lines ≡ lines_of (layout_text_of parts.old.serial.plan) }
+    requires new { IsFirstEngine parts.old.engine }
+    requires begun { first_state parts.old.engine ≡ fresh_state parts.old.engine.plan parts.old.engine.room }
+    requires kept { length parts.old.engine.plan.variables.items ≤ vec_capacity parts.old.kept }
+    requires lines { parts.old.lines ≡ lines_of (layout_text_of parts.old.engine.plan) }
     requires last { IsLast store.now.generation store.now.last }
 
-    ensures resumed { parts.new.serial ≡ started parts.old.serial.plan parts.old.serial.room
-        (warm parts.old.serial.plan store.now.last) }
-    ensures early { IfSome parts.new.serial.before (λ t. t < MOMENT_LIMIT) }
-    ensures survives { IsTrue result → Survives parts.new.serial.plan parts.new.serial.start parts.new.serial.before
+    ensures new { IsFirstEngine parts.new.engine }
+    ensures resumed { first_state parts.new.engine ≡ started parts.old.engine.plan parts.old.engine.room
+        (warm parts.old.engine.plan store.now.last) }
+    ensures early { IfSome (first_state parts.new.engine).before (λ t. t < MOMENT_LIMIT) }
+    ensures survives { IsTrue result → Survives parts.new.engine.plan (first_state parts.new.engine).start (first_state parts.new.engine).before
         [] 0 store.now.last }
-    ensures same { IsTrue result → IsOfPlan parts.old.serial.plan store.now.last }
-    ensures other { result ≡ false → HasOtherLayout parts.old.serial.plan store.now.last }
+    ensures same { IsTrue result → IsOfPlan parts.old.engine.plan store.now.last }
+    ensures other { result ≡ false → HasOtherLayout parts.old.engine.plan store.now.last }
     ensures again { result ≡ false → (generation : ℕ)
-        → parts.new.serial ≡ started parts.old.serial.plan parts.old.serial.room
-        (warm parts.old.serial.plan (Found generation (record_now parts.new.serial))) }
+        → first_state parts.new.engine ≡ started parts.old.engine.plan parts.old.engine.room
+        (warm parts.old.engine.plan (Found generation (record_now (first_state parts.new.engine)))) }
     ensures kept { vec_capacity parts.old.kept ≤ vec_capacity parts.new.kept }
 {
     let Some(record) = store.last() else {
         return true;
     };
-    if record.layout() != layout_text(&parts.serial) {
+    if record.layout() != layout_text(&parts.engine) {
         migrate(parts, record);
         return false;
     }
-    parts.serial.retain(&mut parts.kept);
+    parts.engine.retain(&mut parts.kept);
     take_numbers(&mut parts.kept, record.values());
-    parts.serial.resume(&parts.kept, record.moment());
+    parts.engine.resume(&parts.kept, record.moment());
     true
 }
 
@@ -76,50 +79,50 @@ fn saved_first<D: Disk>(
     mode: StartMode,
     parts: Parts,
     store: Store<D>,
-) -> Result<Core<D>, (StartFault, D)>
-    requires start { IsStart parts.serial.plan mode (start_in parts.serial) }
-    requires empty { parts.serial.log ≡ [] }
-    requires early { IfSome parts.serial.before (λ t. t < MOMENT_LIMIT) }
-    requires kept { length parts.serial.plan.variables.items ≤ vec_capacity parts.kept }
-    requires log_room { parts.serial.room ≤ MAX_LOG_ROOM }
+) -> Result<EndlessCore<D>, (StartFault, D)>
+    requires new { IsFirstEngine parts.engine }
+    requires start { IsStart parts.engine.plan mode (start_in (first_state parts.engine)) }
+    requires early { IfSome (first_state parts.engine).before (λ t. t < MOMENT_LIMIT) }
+    requires kept { length parts.engine.plan.variables.items ≤ vec_capacity parts.kept }
     requires last { IsLast store.generation store.last }
     requires fresh { store.failed ≡ false }
     requires room { store.room ≡ MAX_RECORD_BODY }
-    requires saves { Saves mode parts.serial.plan store.last }
+    requires saves { Saves mode parts.engine.plan store.last }
 
-    ensures core { IfOk result (λ core. IsSavedFirst store parts.serial mode core) }
-    ensures unwritten { IfErr result (λ e. WritesOrStays mode parts.serial.plan store.last store.disk e.1) }
+    ensures life { IfOk result (λ core. IsCoreOf core.engine.values [] core) }
+    ensures core { IfOk result (λ core. IsSavedFirst store (first_state parts.engine) mode (first_core core)) }
+    ensures unwritten { IfErr result (λ e. WritesOrStays mode parts.engine.plan store.last store.disk e.1) }
     ensures serves { D.serves store.disk FILE_BYTES → MatchResult result
         (λ core. D.serves core.store.disk FILE_BYTES)
         (λ e. (e.0 ≢ StartFault.Store StoreFault.Device) × D.serves e.1 FILE_BYTES) }
     ensures memory { IfErr result (λ e. IsOutOfMemory e.0 → ⊥) }
     ensures survives { D.tells
-        → IfOk result (λ core. (file : List ℕ) → D.may_leave core.store.disk file → survives core (recovered file)) }
+        → IfOk result (λ core. (file : List ℕ) → D.may_leave core.store.disk file → survives (first_core core) (recovered file)) }
     ensures answers { MatchResult result
-        (λ core. CanStart mode parts.serial.plan store.last)
-        (λ e. RefusesStart mode parts.serial.plan store.last e.0) }
+        (λ core. CanStart mode parts.engine.plan store.last)
+        (λ e. RefusesStart mode parts.engine.plan store.last e.0) }
     ensures any_moment { D.tells → MatchResult result
         (λ core. LeavesOnly D.left_since D.may_leave store.disk core.store.disk
-        (λ file. IsEither store.last (Found (store.generation + 1) (record_now parts.serial)) (recovered file)))
+        (λ file. IsEither store.last (Found (store.generation + 1) (record_now (first_state parts.engine))) (recovered file)))
         (λ e. LeavesOnly D.left_since D.may_leave store.disk e.1
-        (λ file. IsEither store.last (Found (store.generation + 1) (record_now parts.serial)) (recovered file))) }
+        (λ file. IsEither store.last (Found (store.generation + 1) (record_now (first_state parts.engine))) (recovered file))) }
     ensures device { MatchResult result
         (λ core. D.failure_count core.store.disk ≡ D.failure_count store.disk)
         (λ e. CountsStart e.0 (D.failure_count store.disk) (D.failure_count e.1)) }
 {
     let Parts {
-        serial,
+        engine,
         mut kept,
         lines: _,
     } = parts;
     let mut store = store;
-    match save_record(&serial, &mut store, &mut kept) {
+    match save_first(&engine, &mut store, &mut kept) {
         Ok(()) => {}
         Err(fault) => return Err((StartFault::Store(fault), store.into_disk())),
     }
-    let core = Core {
+    let core = EndlessCore {
         mode,
-        serial,
+        engine,
         store,
         kept,
         acked: 0,
@@ -130,34 +133,34 @@ fn saved_first<D: Disk>(
 }
 
 /// A core that goes on from the last record of the store, which is of the plan's layout text.
-fn gone_on<D: Disk>(parts: Parts, store: Store<D>) -> Core<D>
-    requires start { IsStart parts.serial.plan StartMode.Warm (start_in parts.serial) }
-    requires empty { parts.serial.log ≡ [] }
-    requires early { IfSome parts.serial.before (λ t. t < MOMENT_LIMIT) }
-    requires kept { length parts.serial.plan.variables.items ≤ vec_capacity parts.kept }
-    requires log_room { parts.serial.room ≤ MAX_LOG_ROOM }
-    requires survives { Survives parts.serial.plan parts.serial.start parts.serial.before [] 0 store.last }
+fn gone_on<D: Disk>(parts: Parts, store: Store<D>) -> EndlessCore<D>
+    requires new { IsFirstEngine parts.engine }
+    requires start { IsStart parts.engine.plan StartMode.Warm (start_in (first_state parts.engine)) }
+    requires early { IfSome (first_state parts.engine).before (λ t. t < MOMENT_LIMIT) }
+    requires kept { length parts.engine.plan.variables.items ≤ vec_capacity parts.kept }
+    requires survives { Survives parts.engine.plan (first_state parts.engine).start (first_state parts.engine).before [] 0 store.last }
     requires tried { store.tried ≡ store.last }
     requires fresh { store.failed ≡ false }
     requires room { store.room ≡ MAX_RECORD_BODY }
 
-    ensures core { result ≡ record {
+    ensures life { IsCoreOf result.engine.values [] result }
+    ensures core { first_core result ≡ record {
       mode = StartMode.Warm;
-      state = parts.serial;
+      state = first_state parts.engine;
       acked = 0;
       failed = None;
       store = store;
     } }
-    ensures survives { D.tells → (file : List ℕ) → D.may_leave result.store.disk file → survives result (recovered file) }
+    ensures survives { D.tells → (file : List ℕ) → D.may_leave result.store.disk file → survives (first_core result) (recovered file) }
 {
     let Parts {
-        serial,
+        engine,
         kept,
         lines: _,
     } = parts;
-    let core = Core {
+    let core = EndlessCore {
         mode: StartMode::Warm,
-        serial,
+        engine,
         store,
         kept,
         acked: 0,
@@ -169,34 +172,35 @@ fn gone_on<D: Disk>(parts: Parts, store: Store<D>) -> Core<D>
 
 /// A core that goes on from the last record of the store. If that is of another layout text, the record of the start is
 /// saved first.
-fn warm<D: Disk>(parts: Parts, store: Store<D>) -> Result<Core<D>, (StartFault, D)>
-    requires begun { parts.serial ≡ fresh_state parts.serial.plan parts.serial.room }
-    requires kept { length parts.serial.plan.variables.items ≤ vec_capacity parts.kept }
-    requires lines { parts.lines ≡ lines_of (layout_text_of parts.serial.plan) }
-    requires log_room { parts.serial.room ≤ MAX_LOG_ROOM }
+fn warm<D: Disk>(parts: Parts, store: Store<D>) -> Result<EndlessCore<D>, (StartFault, D)>
+    requires new { IsFirstEngine parts.engine }
+    requires begun { first_state parts.engine ≡ fresh_state parts.engine.plan parts.engine.room }
+    requires kept { length parts.engine.plan.variables.items ≤ vec_capacity parts.kept }
+    requires lines { parts.lines ≡ lines_of (layout_text_of parts.engine.plan) }
     requires last { IsLast store.generation store.last }
     requires tried { store.tried ≡ store.last }
     requires fresh { store.failed ≡ false }
     requires room { store.room ≡ MAX_RECORD_BODY }
 
-    ensures core { IfOk result (λ core. IsResumed store parts.serial.plan parts.serial.room core) }
+    ensures life { IfOk result (λ core. IsCoreOf core.engine.values [] core) }
+    ensures core { IfOk result (λ core. IsResumed store parts.engine.plan parts.engine.room (first_core core)) }
     ensures unwritten { MatchResult result
-        (λ core. WritesOrStays StartMode.Warm parts.serial.plan store.last store.disk core.store.disk)
-        (λ e. WritesOrStays StartMode.Warm parts.serial.plan store.last store.disk e.1) }
+        (λ core. WritesOrStays StartMode.Warm parts.engine.plan store.last store.disk core.store.disk)
+        (λ e. WritesOrStays StartMode.Warm parts.engine.plan store.last store.disk e.1) }
     ensures serves { D.serves store.disk FILE_BYTES → MatchResult result
         (λ core. D.serves core.store.disk FILE_BYTES)
         (λ e. (e.0 ≢ StartFault.Store StoreFault.Device) × D.serves e.1 FILE_BYTES) }
     ensures memory { IfErr result (λ e. IsOutOfMemory e.0 → ⊥) }
     ensures survives { D.tells
-        → IfOk result (λ core. (file : List ℕ) → D.may_leave core.store.disk file → survives core (recovered file)) }
+        → IfOk result (λ core. (file : List ℕ) → D.may_leave core.store.disk file → survives (first_core core) (recovered file)) }
     ensures answers { MatchResult result
-        (λ core. CanStart StartMode.Warm parts.serial.plan store.last)
-        (λ e. RefusesStart StartMode.Warm parts.serial.plan store.last e.0) }
+        (λ core. CanStart StartMode.Warm parts.engine.plan store.last)
+        (λ e. RefusesStart StartMode.Warm parts.engine.plan store.last e.0) }
     ensures any_moment { D.tells → MatchResult result
         (λ core. LeavesOnly D.left_since D.may_leave store.disk core.store.disk
-        (λ file. LeftByStart StartMode.Warm parts.serial.plan store.last (recovered file)))
+        (λ file. LeftByStart StartMode.Warm parts.engine.plan store.last (recovered file)))
         (λ e. LeavesOnly D.left_since D.may_leave store.disk e.1
-        (λ file. LeftByStart StartMode.Warm parts.serial.plan store.last (recovered file))) }
+        (λ file. LeftByStart StartMode.Warm parts.engine.plan store.last (recovered file))) }
     ensures device { MatchResult result
         (λ core. D.failure_count core.store.disk ≡ D.failure_count store.disk)
         (λ e. CountsStart e.0 (D.failure_count store.disk) (D.failure_count e.1)) }
@@ -211,8 +215,9 @@ fn warm<D: Disk>(parts: Parts, store: Store<D>) -> Result<Core<D>, (StartFault, 
     }
 }
 
-impl<D: Disk> Core<D> {
-    /// Starts a life of the plan over this disk, with room for `log_room` entries of its log, 0 to 65,536. It allocates
+impl<D: Disk> EndlessCore<D> {
+    /// Starts a life of the plan over this disk, with room for so many entries; a life that is to go on for ever has room for
+    /// 2^64 - 1. It allocates
     /// its memory before the first device call. A cold start, and a warm one over a record of another layout text,
     /// saves the record of the start before it answers.
     ///
@@ -225,13 +230,12 @@ impl<D: Disk> Core<D> {
         plan: Arc<Plan>,
         disk: D,
         mode: StartMode,
-        log_room: usize,
-    ) -> Result<Core<D>, (StartFault, D)>
-        requires room { log_room ≤ MAX_LOG_ROOM }
-
-        ensures core { IfOk result (λ core. IsStarted core plan.value mode log_room) }
+        room: u64,
+    ) -> Result<EndlessCore<D>, (StartFault, D)>
+        ensures life { IfOk result (λ core. IsCoreOf core.engine.values [] core) }
+        ensures core { IfOk result (λ core. IsStarted (first_core core) plan.value mode room) }
         ensures file { D.tells → IfOk result
-            (λ core. StartsFrom D.seen D.may_leave (D.seen disk) plan.value mode log_room core) }
+            (λ core. StartsFrom D.seen D.may_leave (D.seen disk) plan.value mode room (first_core core)) }
 
         // A start that is refused leaves the file as it was. After S3 it may differ if it was too short, or if the
         // start writes over its content.
@@ -265,7 +269,7 @@ impl<D: Disk> Core<D> {
             (IsLeftByStart mode plan.value (D.seen disk)))
             (λ e. LeavesOnly D.left_since D.may_leave disk e.1 (IsLeftByStart mode plan.value (D.seen disk))) }
     {
-        let Ok(parts) = Parts::new(alloc, plan, log_room) else {
+        let Ok(parts) = Parts::new(alloc, plan, room) else {
             return Err((StartFault::NoMemory, disk));
         };
         let store = match Store::open(alloc, disk, MAX_RECORD_BODY) {

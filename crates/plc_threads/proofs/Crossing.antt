@@ -12,13 +12,19 @@ use Rattle.st_types.specs.contracts.entry.Row as Row
 use Rattle.st_types.specs.contracts.entry.Entry as Entry
 use Rattle.st_meaning.specs.contracts.outcome.Outcome as Outcome
 use Rattle.ready_list.specs.contracts.list.ReadyList as ReadyList
-use Rattle.serial_core.specs.contracts.serial.SerialCore.TheInside as SerialInside
-use Rattle.serial_core.specs.contracts.serial.SerialCore as SerialCore
+use Rattle.core_values.specs.contracts.held.HeldRow.TheInside as HeldInside
+use Rattle.core_values.specs.contracts.held.HeldRow as HeldRow
+use Rattle.core_engine.specs.contracts.engine.Engine.TheInside as EngineInside
+use Rattle.core_engine.specs.contracts.engine.Engine as Engine
+use Rattle.serial_core.specs.contracts.history.History.TheInside as HistoryInside
+use Rattle.serial_core.specs.contracts.history.History as History
 use Rattle.retain_records.specs.contracts.record.Record.TheInside as RecordInside
 use Rattle.retain_records.specs.contracts.record.Record as Record
 use Rattle.disk.specs.declared.disk.Disk as Disk
 use Rattle.retain_store.specs.contracts.store.Store as Store
 use Rattle.retain_store.specs.contracts.store.Store.TheInside as StoreInside
+use Rattle.durable_core.specs.contracts.endless.EndlessCore as EndlessCore
+use Rattle.durable_core.specs.contracts.endless.EndlessCore.TheInside as EndlessInside
 use Rattle.durable_core.specs.contracts.core_state.Core as Core
 use Rattle.durable_core.specs.contracts.core_state.Core.TheInside as CoreInside
 use Rattle.std.specs.declared.sync.ledger.Ledger as Ledger
@@ -54,20 +60,36 @@ outcome-send = search plain depth 20
 ready-send : IsSend ReadyList.the_row
 ready-send = search plain depth 20
 
-serial_inside-send : IsSend SerialInside.the_row
-serial_inside-send = declared_send SerialInside.the_type (search (
+held_inside-send : IsSend HeldInside.the_row
+held_inside-send = declared_send HeldInside.the_type (search (plain, value-send) depth 40)
+
+held-send : IsSend HeldRow.the_row
+held-send = search (plain, held_inside-send) depth 20
+
+engine_inside-send : IsSend EngineInside.the_row
+engine_inside-send = declared_send EngineInside.the_type (search (
   plain,
   plan-send,
   plan-sync,
   value-send,
+  ready-send,
+  held-send,
+) depth 100 fits 20000)
+
+engine-send : IsSend Engine.the_row
+engine-send = search (plain, engine_inside-send) depth 20
+
+history_inside-send : IsSend HistoryInside.the_row
+history_inside-send = declared_send HistoryInside.the_type (search (
+  plain,
+  value-send,
   entry-send,
   option-send,
   outcome-send,
-  ready-send,
 ) depth 100 fits 20000)
 
-serial-send : IsSend SerialCore.the_row
-serial-send = search (plain, serial_inside-send) depth 20
+history-send : IsSend History.the_row
+history-send = search (plain, history_inside-send) depth 20
 
 record_inside-send : IsSend RecordInside.the_row
 record_inside-send = declared_send RecordInside.the_type (search (plain, value-send) depth 40)
@@ -90,17 +112,24 @@ module _ (D : RattleType) (disk : Disk.Ghosts D.Denot) where
   store-send s = let inside : IsSend (StoreInside.the_row D disk) = store_inside-send s in search (sendable, inside)
       depth 20
 
-  core_inside-send : IsSend D → IsSend (CoreInside.the_row D disk)
-  core_inside-send s = declared_send (CoreInside.the_type D disk) (
+  endless_inside-send : IsSend D → IsSend (EndlessInside.the_row D disk)
+  endless_inside-send s = declared_send (EndlessInside.the_type D disk) (
     search plain depth 20,
     (
-      serial-send,
+      engine-send,
       (
         store-send s,
         (Vec-send _ value-send, (search plain depth 20, (search plain depth 20, tt))),
       ),
     ),
   )
+
+  endless-send : IsSend D → IsSend (EndlessCore.the_row D disk)
+  endless-send s = let inside : IsSend (EndlessInside.the_row D disk) = endless_inside-send s in search (sendable, inside)
+      depth 20
+
+  core_inside-send : IsSend D → IsSend (CoreInside.the_row D disk)
+  core_inside-send s = declared_send (CoreInside.the_type D disk) (endless-send s, (history-send, tt))
 
   pub core-send : IsSend D → IsSend (Core.the_row D disk)
   core-send s = let inside : IsSend (CoreInside.the_row D disk) = core_inside-send s in search (sendable, inside)

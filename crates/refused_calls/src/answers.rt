@@ -3,7 +3,7 @@
 use crate::trial::Answer;
 use commit_lock::Reply as Told;
 use disk::Disk;
-use durable_core::{Answer as Committed, Core};
+use durable_core::{Answer as Committed, Core, EndlessCore};
 use slot_memory::Cell;
 use slot_run::Execution;
 use st_meaning::Outcome;
@@ -41,6 +41,18 @@ pub fn write_replies(answer: &mut Answer, replies: &[Told]) -> fmt::Result {
     for reply in replies {
         write_reply(answer, *reply)?;
         answer.write_str("; ")?;
+    }
+    Ok(())
+}
+
+/// Writes a core that keeps no log after its calls, in the same words as one that does.
+pub fn write_endless<D: Disk>(answer: &mut Answer, core: &EndlessCore<D>) -> fmt::Result {
+    write_values(answer, core.values())?;
+    let (acked, entries) = (core.acked(), core.entries());
+    write!(answer, "; acked {acked} of {entries}; overruns")?;
+    for program in 0..core.plan().programs() {
+        let overruns = core.overruns(program);
+        write!(answer, " {overruns}")?;
     }
     Ok(())
 }

@@ -3,13 +3,13 @@
 ghost use Rattle.std.specs.Prelude.{◌≤◌};
 ghost use Rattle.st_types.specs.declared.limits.TheConstants.{MAX_LOG_ROOM};
 
-use crate::answers::{write_core, write_replies, write_values};
+use crate::answers::{write_core, write_endless, write_replies, write_values};
 use crate::findings::Findings;
-use crate::stage::Stage;
+use crate::stage::{Stage, endless_of};
 use crate::trial::{Answer, Reply, Trial};
-use commit_lock::{Course, Event, Life, LifeEnd, Reply as Told, drive, lives};
+use commit_lock::{Course, Event, Life, LifeEnd, Reply as Told, drive, drive_endless, lives};
 use disk::SimDisk;
-use durable_core::{Core, Refusal, StartMode};
+use durable_core::{Core, EndlessCore, Refusal, StartMode};
 use serial_core::Refusal as Serial;
 use st_types::limits::MAX_LOG_ROOM;
 use std::alloc::Global;
@@ -55,6 +55,45 @@ impl<'a> Trial for Driving<'a> {
         match drive(&mut core, alloc, events) {
             Ok(replies) => driven(&core, &replies),
             Err(_) if core.len() == 0 => Reply::out_of_memory(),
+            Err(_) => Reply::done("another core after a refusal"),
+        }
+    }
+}
+
+/// The reply of such a list of a core that keeps no log.
+fn driven_endless(core: &EndlessCore<SimDisk>, replies: &[Told]) -> Reply {
+    if core.acked() != core.entries() {
+        return Reply::done("entries that are not acknowledged");
+    }
+    if replies.contains(&NO_MEMORY) {
+        return Reply::refused(Serial::NoMemory);
+    }
+    let mut answer = Answer::new();
+    let _ = write_replies(&mut answer, replies);
+    let _ = write_endless(&mut answer, core);
+    Reply::Done(answer)
+}
+
+#[derive(Drop)]
+struct DrivingEndless<'a> {
+    stage: &'a Stage<'a>,
+}
+
+impl<'a> Trial for DrivingEndless<'a> {
+    type Given = (EndlessCore<SimDisk>, Vec<Event>);
+
+    fn given(&self, alloc: Global) -> Option<(EndlessCore<SimDisk>, Vec<Event>)> {
+        let room = self.stage.scene.log_room as u64;
+        let core = endless_of(alloc, &self.stage.plan, room)?;
+        Some((core, self.stage.events(alloc)?))
+    }
+
+    fn call(&self, alloc: Global, given: (EndlessCore<SimDisk>, Vec<Event>)) -> Reply {
+        let (core, events) = given;
+        let mut core = core;
+        match drive_endless(&mut core, alloc, events) {
+            Ok(replies) => driven_endless(&core, &replies),
+            Err(_) if core.entries() == 0 => Reply::out_of_memory(),
             Err(_) => Reply::done("another core after a refusal"),
         }
     }
@@ -144,5 +183,6 @@ impl<'a> Trial for Living<'a> {
 pub fn try_all(findings: &mut Findings<'_>, stage: &Stage<'_>) -> io::Result<()> {
     let wanted = &stage.scene.wanted;
     findings.try_call("drive", &Driving { stage }, wanted.replies)?;
+    findings.try_call("drive_endless", &DrivingEndless { stage }, wanted.replies)?;
     findings.try_call("lives", &Living { stage }, wanted.lived)
 }

@@ -10,6 +10,7 @@ mod asking;
 mod calm_blocks;
 mod calm_cores;
 mod calm_disks;
+mod calm_endless;
 mod calm_lists;
 mod calm_marks;
 mod cores;
@@ -63,6 +64,7 @@ fn try_calm(findings: &mut Findings<'_>) -> io::Result<()> {
     findings.begin("calm");
     calm_blocks::try_all(findings)?;
     calm_cores::try_all(findings)?;
+    calm_endless::try_all(findings)?;
     calm_disks::try_all(findings)?;
     calm_lists::try_all(findings)?;
     calm_marks::try_all(findings)

@@ -5,7 +5,7 @@ use crate::scenes::{Call, Scene};
 use commit_lock::Event;
 use config::build;
 use disk::SimDisk;
-use durable_core::{Core, StartMode};
+use durable_core::{Core, EndlessCore, StartMode};
 use plan::Plan;
 use st_types::limits::MAX_LOG_ROOM;
 use st_types::{Row, Value};
@@ -42,6 +42,13 @@ pub fn core_of(alloc: Global, plan: &Arc<Plan>, log_room: usize) -> Option<Core<
         log_room.min(MAX_LOG_ROOM),
     )
     .ok()
+}
+
+/// A core of the plan over an empty disk that keeps no log, with room for so many entries.
+pub fn endless_of(alloc: Global, plan: &Arc<Plan>, room: u64) -> Option<EndlessCore<SimDisk>> {
+    let plan = Arc::clone(plan).ok()?;
+    let disk = empty_disk(alloc)?;
+    EndlessCore::start(alloc, plan, disk, StartMode::Cold, room).ok()
 }
 
 /// A scene with its plan.

@@ -8,9 +8,9 @@ use Rattle.st_meaning.proofs.CountLemmas.{counted_behind}
 use Rattle.st_meaning.proofs.LogLemmas.{past_of-add}
 use Rattle.plan.specs.PlanViews.{plan_view}
 use Rattle.slot_run.specs.Effects.{Effect}
-use Rattle.serial_core.specs.declared.refusal.Answer.{Answer}
-use Rattle.serial_core.specs.declared.refusal.Answer.TheVariants.{Committed, Stale}
-use Rattle.serial_core.specs.declared.refusal.Refusal.TheVariants.{Full, NotWaiting, Foreign, NotLater, NoMemory}
+use Rattle.core_engine.specs.declared.refusal.Answer.{Answer}
+use Rattle.core_engine.specs.declared.refusal.Answer.TheVariants.{Committed, Stale}
+use Rattle.core_engine.specs.declared.refusal.Refusal.TheVariants.{Full, NotWaiting, Foreign, NotLater, NoMemory}
 use Rattle.serial_core.specs.Steps.{State, past_in, grown, Latches, Commits, CommitsHere}
 use Rattle.durable_core.specs.declared.refusal.Refusal.{Refusal}
 use Rattle.durable_core.specs.declared.refusal.Refusal.TheVariants.{StoreFailed, Serial}

@@ -2,8 +2,8 @@
 use Rattle.std.proofs.Common.{◌≡◌, ◌∙◌, ◌≤◌, ℕ, refl, ap, arith, length, List, [], ◌∷◌, Option, Some, None, inl, inr}
 use Rattle.std.specs.Prelude.{Result, Ok, Err, IfErr}
 use Rattle.retain_store.specs.declared.fault.StoreFault.{StoreFault}
-use Rattle.serial_core.specs.declared.refusal.Refusal.{Refusal as SerialRefusal}
-use Rattle.serial_core.specs.declared.refusal.Refusal.TheVariants.{Full, NotWaiting, Foreign, NotLater, NoMemory}
+use Rattle.core_engine.specs.declared.refusal.Refusal.{Refusal as SerialRefusal}
+use Rattle.core_engine.specs.declared.refusal.Refusal.TheVariants.{Full, NotWaiting, Foreign, NotLater, NoMemory}
 use Rattle.serial_core.specs.Steps.{State, Latches}
 use Rattle.durable_core.specs.Cores.{CoreView, Guards}
 use Rattle.durable_core.specs.Flushing.{Flushes}

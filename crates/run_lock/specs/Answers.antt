@@ -1,7 +1,7 @@
 -- A worker's counts of its answers.
 use Rattle.std.specs.Prelude.{ℕ, ◌+◌, min, Option, Some, None, Result, Ok, Err}
-use Rattle.serial_core.specs.declared.refusal.Answer.{Answer}
-use Rattle.serial_core.specs.declared.refusal.Answer.TheVariants.{Committed, Stale}
+use Rattle.core_engine.specs.declared.refusal.Answer.{Answer}
+use Rattle.core_engine.specs.declared.refusal.Answer.TheVariants.{Committed, Stale}
 use Rattle.durable_core.specs.declared.refusal.Refusal.{Refusal}
 
 -- how many executions an answer reports

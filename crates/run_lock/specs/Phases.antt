@@ -3,7 +3,7 @@ use Rattle.std.specs.Prelude.{◌≡◌, ◌≤◌, refl, List, [], Result, Ok, 
 use Rattle.std.specs.Coded.{Coded-set, coded_option}
 use Rattle.std.proofs.Math.Bridge.{le_prop}
 use Rattle.retain_store.specs.contracts.fault.StoreFault as fault
-use Rattle.serial_core.specs.declared.refusal.Refusal.TheVariants.{Full, NotWaiting, Foreign, NotLater, NoMemory}
+use Rattle.core_engine.specs.declared.refusal.Refusal.TheVariants.{Full, NotWaiting, Foreign, NotLater, NoMemory}
 use Rattle.durable_core.specs.Cores.{CoreView}
 use Rattle.st_types.specs.Rows.{Latch}
 use Rattle.durable_core.specs.declared.refusal.Refusal.{Refusal}

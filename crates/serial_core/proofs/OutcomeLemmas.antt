@@ -1,17 +1,11 @@
 -- The outcomes of a log.
-use Rattle.std.proofs.Common.{◌≡◌, ℕ, suc, Bool, List, [], ◌∷◌, ◌++◌, length, Option, refl, ap, ◌∙◌}
+use Rattle.std.proofs.Common.{◌≡◌, suc, List, [], ◌∷◌, ◌++◌, length, Option, refl, ap}
 use Rattle.std.specs.List.{fold}
-use Rattle.st_types.specs.Values.{Datum}
 use Rattle.st_types.specs.declared.entry.Entry.{Entry}
 use Rattle.st_meaning.specs.declared.outcome.Outcome.{Outcome}
 use Rattle.st_meaning.specs.Stores.{Store}
 use Rattle.st_meaning.specs.Plans as plans
 use Rattle.st_meaning.specs.Logs.{Past, past_of, with_entry, outcome_at, outcomes_from, beginning, outcomes_of}
-use Rattle.plan.specs.declared.plan.Plan.{Plan}
-use Rattle.plan.specs.PlanViews.{plan_view}
-use Rattle.ready_list.specs.Ready.{Ready}
-use Rattle.serial_core.specs.Steps.{store_in}
-use Rattle.serial_core.specs.Kept.{SerialInvariant}
 
 outcomes_from-add : (plan : plans.Plan) (past : Past) (log : List Entry) (e : Entry)
     → outcomes_from plan past (log ++ e ∷ []) ≡ outcomes_from plan past log
@@ -32,9 +26,6 @@ outcomes_counted plan past [] = refl
 outcomes_counted plan past (x ∷ log) = ap suc (outcomes_counted plan (with_entry plan past x) log)
 
 -- as many as there are entries
-pub outcomes_kept : {plan : Plan} {start values : List Datum} {before : Option ℕ} {samples : List Bool}
-    {log : List Entry} {outcomes : List (Option Outcome)} {rows : List ℕ} {last : Option ℕ} {ready : Ready}
-    → SerialInvariant plan start before values samples log outcomes rows last ready → length outcomes ≡ length log
-outcomes_kept {plan} {start} {values} {before} {samples} {log} {outcomes} {rows} {last} {ready} kept =
-    ap (λ (os : List (Option Outcome)). length os) kept.outcomes_are
-    ∙ outcomes_counted (plan_view plan) (beginning (store_in plan start)) log
+pub outcomes_long : (plan : plans.Plan) (start : Store) (log : List Entry)
+    → length (outcomes_of plan start log) ≡ length log
+outcomes_long plan start log = outcomes_counted plan (beginning start) log

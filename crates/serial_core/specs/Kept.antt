@@ -1,44 +1,59 @@
--- The invariant of a core's fields.
-use Rattle.std.specs.Prelude.{◌≡◌, ℕ, ◌<◌, ◌≤◌, IfSome, List, Bool, length, map, Option, Some, slice_get}
-use Rattle.std.specs.Prelude.{slice_index}
-use Rattle.st_types.specs.declared.limits.TheConstants.{MOMENT_LIMIT}
+-- The invariant of a core: its engine is that of the life that it keeps.
+use Rattle.std.specs.Prelude.{◌≡◌, ◌≤◌, ◌++◌, ◌∷◌, [], ℕ, List, length, Option, Some, Result, Ok, Err}
 use Rattle.st_types.specs.Values.{Datum}
+use Rattle.st_types.specs.declared.entry.Activation.{Activation}
 use Rattle.st_types.specs.declared.entry.Entry.{Entry}
-use Rattle.st_types.specs.declared.entry.Entry.TheVariants.{Row}
+use Rattle.st_types.specs.declared.entry.Entry.TheVariants.{Done}
 use Rattle.st_meaning.specs.declared.outcome.Outcome.{Outcome}
-use Rattle.st_meaning.specs.Plans.{schedules_of}
-use Rattle.st_meaning.specs.Logs.{Past, past_of, row_at, last_moment, outcomes_of, IsLegal}
-use Rattle.plan.specs.declared.plan.Plan.{Plan}
+use Rattle.st_meaning.specs.Logs.{outcomes_of}
 use Rattle.plan.specs.PlanViews.{plan_view}
-use Rattle.ready_list.specs.Ready.{Ready, IsReadyOf}
-use Rattle.serial_core.specs.Steps.{store_in}
+use Rattle.core_engine.specs.declared.refusal.Answer.{Answer}
+use Rattle.core_engine.specs.declared.refusal.Answer.TheVariants.{Committed, Stale}
+use Rattle.core_engine.specs.declared.refusal.Refusal.{Refusal}
+use Rattle.core_engine.specs.Steps.{store_in}
+use Rattle.core_engine.specs.Lived.{EngineView, IsEngineOf}
 
--- The fields are those after this past.
-pub record IsOfPast (plan : Plan) (before : Option ℕ) (values : List Datum) (log : List Entry) (rows : List ℕ)
-    (last : Option ℕ) (ready : Ready) (now : Past) : Type 0 where
-  pub variables : store_in plan values ≡ now.store
-  pub rows_are : (k : ℕ) → k < length rows → slice_get log (slice_index rows k) ≡ Some (Row (row_at now.rows k))
-  pub row_count : length rows ≡ length now.rows
-  pub sampled_count : length now.history.sampled ≡ length now.rows
-  pub images : (k : ℕ) → k < length now.rows
-      → map (λ d. d.kind) (row_at now.rows k).image ≡ map (λ i. i.kind) plan.inputs.items
-  pub last_is : last ≡ last_moment before now.rows
-  pub later : 0 < ready.rows → last ≡ Some ready.last
-  pub ready_is : IsReadyOf now.history ready
+-- The engine is that of this life, so the log is legal and the variables are those after it; each execution ended as it did
+-- in the log, and the log has no more entries than the engine has room for.
+pub record SerialInvariant (engine : EngineView) (start : List Datum) (log : List Entry)
+    (outcomes : List (Option Outcome)) : Type 0 where
+  pub lived : IsEngineOf start log engine
+  pub outcomes_are : outcomes ≡ outcomes_of (plan_view engine.plan) (store_in engine.plan start) log
+  pub within : length log ≤ engine.room
 
--- The log is legal, the variables and outcomes are those after it, each variable and each input has its type, moments are
--- within their limit, and the ready list has all activations that wait.
-pub record SerialInvariant (plan : Plan) (start : List Datum) (before : Option ℕ) (values : List Datum)
-    (samples : List Bool) (log : List Entry) (outcomes : List (Option Outcome)) (rows : List ℕ) (last : Option ℕ)
-    (ready : Ready) : Type 0 where
-  pub legal : IsLegal (plan_view plan) (store_in plan start) before log
-  pub begun : length start ≡ length plan.variables.items
-  pub sized : length values ≡ length plan.variables.items
-  pub typed : map (λ d. d.kind) values ≡ map (λ v. v.initial.kind) plan.variables.items
-  pub early : IfSome last (λ t. t < MOMENT_LIMIT)
-  pub numbered : length samples ≡ length plan.tasks.items
-  pub few_rows : length rows ≤ length log
-  pub outcomes_are : outcomes ≡ outcomes_of (plan_view plan) (store_in plan start) log
-  pub schedules : ready.schedules ≡ schedules_of (plan_view plan)
-  pub tasks : length ready.samples ≡ length plan.tasks.items
-  pub of_past : IsOfPast plan before values log rows last ready (past_of (plan_view plan) (store_in plan start) log)
+-- the log of a life beside its engine: the values that the life started with, its entries, how the execution of each ended,
+-- and how many entries there is room for
+pub record HistoryView : Type 0 where
+  pub start : List Datum
+  pub log : List Entry
+  pub outcomes : List (Option Outcome)
+  pub room : ℕ
+
+-- the history with these entries and outcomes
+abbrev pub with_log : HistoryView → List Entry → List (Option Outcome) → HistoryView
+with_log history log outcomes = record {
+  start = history.start;
+  log = log;
+  outcomes = outcomes;
+  room = history.room;
+}
+
+-- the history with another start
+abbrev pub with_start : HistoryView → List Datum → HistoryView
+with_start history start = record {
+  start = start;
+  log = history.log;
+  outcomes = history.outcomes;
+  room = history.room;
+}
+
+-- the log after a commit with this answer, and the outcomes
+abbrev pub log_after : Result Answer Refusal → List Entry → Activation → List Entry
+log_after (Ok (Committed n)) log a = log ++ Done a ∷ []
+log_after (Ok Stale) log a = log
+log_after (Err refusal) log a = log
+
+abbrev pub outcomes_after : Result Answer Refusal → List (Option Outcome) → Outcome → List (Option Outcome)
+outcomes_after (Ok (Committed n)) outcomes outcome = outcomes ++ Some outcome ∷ []
+outcomes_after (Ok Stale) outcomes outcome = outcomes
+outcomes_after (Err refusal) outcomes outcome = outcomes

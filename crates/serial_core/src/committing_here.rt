@@ -1,82 +1,36 @@
 //! Committing in one step.
 
-ghost use Rattle.std.specs.Prelude.{◌≡◌, true, IfErr, IfOk};
-ghost use Rattle.serial_core.specs.Steps.{CommitsHere, CommitsWaiting, IsOwn, IsSnapshotIn, reads_are_current, waits_in};
-ghost use Rattle.serial_core.specs.Quick.{CommitsOne, IsQuickSnapshotIn};
+ghost use Rattle.std.specs.Prelude.{MatchOption};
+ghost use Rattle.serial_core.specs.Steps.{CommitsHere, CommitsWaiting, none_waits, waits_in};
+ghost use Rattle.core_engine.specs.Quick.{CommitsOne, IsBestIn};
 
-use crate::refusal::{Answer, Refusal};
 use crate::serial::SerialCore;
-use slot_run::{Execution, QuickSnapshot, Snapshot, Taken, run_by_values, run_quick};
-use st_types::Activation;
+use core_engine::Refusal;
+use st_meaning::Outcome;
+use st_types::{Activation, Entry};
 use std::alloc::Global;
 
 impl SerialCore {
-    /// An execution of a snapshot, by the machine on values; K6 out of memory.
-    fn whole_execution(&self, alloc: Global, snapshot: Snapshot) -> Result<Execution, Refusal>
-        requires parts { IsSnapshotIn self.now snapshot }
-        ensures activation { IfOk result (λ e. e.activation ≡ snapshot.activation) }
-        ensures own { IfOk result (IsOwn self.now) }
-        ensures stands { IfOk result (λ e. reads_are_current self.now e ≡ true) }
-        ensures memory { IfErr result (λ e. e ≡ Refusal.NoMemory) }
+    /// The best activation that waits on the resource; none if nothing waits there.
+    fn best(&self, resource: usize) -> Option<Activation>
+        ensures { MatchOption result (none_waits self.now resource) (IsBestIn self.now resource) }
     {
-        match run_by_values(alloc, snapshot) {
-            Ok(execution) => Ok(execution),
-            Err(_) => Err(Refusal::NoMemory),
-        }
+        self.engine.best(resource)
     }
 
-    /// An execution of a quick snapshot, by the machine on values if quick code cannot tell how the run ends; K6 out of
+    /// Runs and commits an activation that waits, in one step, and gives how it ended. K1 if the log is full, K6 out of
     /// memory.
-    fn quick_execution(&self, alloc: Global, quick: QuickSnapshot) -> Result<Execution, Refusal>
-        requires waits { waits_in self.now quick.activation }
-        requires parts { IsQuickSnapshotIn self.now quick }
-        ensures activation { IfOk result (λ e. e.activation ≡ quick.activation) }
-        ensures own { IfOk result (IsOwn self.now) }
-        ensures stands { IfOk result (λ e. reads_are_current self.now e ≡ true) }
-        ensures memory { IfErr result (λ e. e ≡ Refusal.NoMemory) }
-    {
-        let activation = quick.activation;
-        match run_quick(alloc, quick) {
-            Ok(Some(execution)) => Ok(execution),
-            Ok(None) => {
-                let snapshot = self.snapshot_of(alloc, activation)?;
-                self.whole_execution(alloc, snapshot)
-            }
-            Err(_) => Err(Refusal::NoMemory),
-        }
-    }
-
-    /// An execution of an activation that waits. The values that it read are still current, since nothing else happens
-    /// meanwhile. K6 out of memory.
-    fn execution_of(&self, alloc: Global, activation: Activation) -> Result<Execution, Refusal>
-        requires waits { waits_in self.now activation }
-        ensures activation { IfOk result (λ e. e.activation ≡ activation) }
-        ensures own { IfOk result (IsOwn self.now) }
-        ensures stands { IfOk result (λ e. reads_are_current self.now e ≡ true) }
-        ensures memory { IfErr result (λ e. e ≡ Refusal.NoMemory) }
-    {
-        match self.taken_of(alloc, activation)? {
-            Taken::Quick(quick) => self.quick_execution(alloc, quick),
-            Taken::Whole(snapshot) => self.whole_execution(alloc, snapshot),
-        }
-    }
-
-    /// Runs and commits an activation that waits, in one step, and gives the log's length after it. K1 if the log is full,
-    /// K6 out of memory.
     fn commit_activation(
         &mut self,
         alloc: Global,
         activation: Activation,
-    ) -> Result<Option<usize>, Refusal>
+    ) -> Result<Outcome, Refusal>
         requires waits { waits_in self.old activation }
         ensures { CommitsOne self.old activation result self.new }
     {
-        let execution = self.execution_of(alloc, activation)?;
-        match self.commit_own(execution) {
-            Ok(Answer::Committed(length)) => Ok(Some(length)),
-            Err(Refusal::Full) => Err(Refusal::Full),
-            _ => unreachable!(),
-        }
+        let outcome = self.engine.commit_activation(alloc, activation)?;
+        self.history.append(Entry::Done(activation), Some(outcome));
+        Ok(outcome)
     }
 
     /// Runs and commits the activation of a program that waits, by the program's number from 0, in one step, and gives the
@@ -93,7 +47,8 @@ impl SerialCore {
         let Some(row) = self.waiting(program) else {
             return Ok(None);
         };
-        self.commit_activation(alloc, Activation { program, row })
+        self.commit_activation(alloc, Activation { program, row })?;
+        Ok(Some(self.len()))
     }
 
     /// Takes, runs and commits the best activation that waits on the resource, in one step, and gives the log's length after
@@ -106,6 +61,7 @@ impl SerialCore {
         let Some(activation) = self.best(resource) else {
             return Ok(None);
         };
-        self.commit_activation(alloc, activation)
+        self.commit_activation(alloc, activation)?;
+        Ok(Some(self.len()))
     }
 }

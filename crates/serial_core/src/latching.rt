@@ -3,11 +3,8 @@
 ghost use Rattle.std.specs.Prelude.{◌≡◌};
 ghost use Rattle.serial_core.specs.Steps.{Latches};
 
-use crate::refusal::Refusal;
-use crate::sampling::sample_all;
 use crate::serial::SerialCore;
-use core_values::{fits, is_later};
-use plan::Plan;
+use core_engine::Refusal;
 use st_types::{Entry, Row};
 
 impl SerialCore {
@@ -17,24 +14,8 @@ impl SerialCore {
     pub fn latch(&mut self, row: Row) -> Result<usize, Refusal>
         ensures { Latches self.old row result self.new }
     {
-        if self.log.len() >= self.room {
-            return Err(Refusal::Full);
-        }
-        let plan: &Plan = &self.plan;
-        if !fits(plan, &row) {
-            return Err(Refusal::Foreign);
-        }
-        let moment = row.moment();
-        if !is_later(self.last, moment) {
-            return Err(Refusal::NotLater);
-        }
-        let number = self.rows.len();
-        sample_all(&plan.tasks, &self.values, row.image(), &mut self.samples);
-        self.ready.due(moment, &self.samples);
-        self.rows.push_reserved(self.log.len());
-        self.outcomes.push_reserved(None);
-        self.log.push_reserved(Entry::Row(row));
-        self.last = Some(moment);
-        Ok(number)
+        let number = self.engine.latch(&row)?;
+        self.history.append(Entry::Row(row), None);
+        Ok(number as usize)
     }
 }

@@ -9,8 +9,6 @@ ghost use Rattle.plan.specs.PlanViews.{plan_view};
 ghost use Rattle.serial_core.specs.Retained.{retained_kinds, kept_from};
 
 use crate::serial::SerialCore;
-use core_values::restore;
-use plan::Plan;
 use st_types::Value;
 
 impl SerialCore {
@@ -32,10 +30,7 @@ impl SerialCore {
         // The values kept of this start are these values again.
         ensures kept { map (λ e. e.1) (kept (plan_view self.old.plan) self.new.start) ≡ values.now }
     {
-        let plan: &Plan = &self.plan;
-        restore(&mut self.start, &plan.variables, values);
-        restore(&mut self.values, &plan.variables, values);
-        self.before = moment;
-        self.last = moment;
+        self.history.restore(&self.engine.plan().variables, values);
+        self.engine.resume(values, moment);
     }
 }

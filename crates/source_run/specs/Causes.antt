@@ -25,8 +25,8 @@ use Rattle.trace.specs.declared.trace_error.ReplayError.{ReplayError}
 use Rattle.trace.specs.declared.trace_error.ReplayError.TheVariants as replays
 use Rattle.retain_store.specs.declared.fault.StoreFault.{StoreFault}
 use Rattle.retain_store.specs.declared.fault.StoreFault.TheVariants as stores
-use Rattle.serial_core.specs.declared.refusal.Refusal.{Refusal as SerialRefusal}
-use Rattle.serial_core.specs.declared.refusal.Refusal.TheVariants as steps
+use Rattle.core_engine.specs.declared.refusal.Refusal.{Refusal as SerialRefusal}
+use Rattle.core_engine.specs.declared.refusal.Refusal.TheVariants as steps
 use Rattle.durable_core.specs.declared.refusal.Refusal.{Refusal}
 use Rattle.durable_core.specs.declared.refusal.Refusal.TheVariants as calls
 use Rattle.durable_core.specs.declared.refusal.StartFault.{StartFault}

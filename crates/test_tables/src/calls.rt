@@ -13,16 +13,16 @@ fn number_at(written: &str, time: u64) -> Result<u64, RowError> {
     Ok(number(first)?.saturating_add(grown))
 }
 
-/// A TRUE for each word.
+/// The values of words, each `TRUE` or `FALSE`.
 fn image_of(alloc: Global, words: &str) -> Result<Vec<Value>, AllocError> {
     let mut image = Vec::new(alloc);
-    for _ in words.split_whitespace() {
-        image.push(Value::from_bool(true))?;
+    for word in words.split_whitespace() {
+        image.push(Value::from_bool(word == "TRUE"))?;
     }
     Ok(image)
 }
 
-/// The call of a word with its number, and for a row with a word for each input.
+/// The call of a word with its number, and for a row with `TRUE` or `FALSE` for each input.
 fn event_of(alloc: Global, word: &str, number: u64, inputs: &str) -> Result<Event, RowError> {
     match word {
         "row" => Ok(Event::Latch(Row::new(number, image_of(alloc, inputs)?))),
@@ -55,6 +55,13 @@ fn push_events(
         events.push(event)?;
     }
     Ok(())
+}
+
+/// The calls of a list like `row 0+10, here 0`, as they are made at a time.
+pub fn events_at(alloc: Global, calls: &str, time: u64) -> Result<Vec<Event>, RowError> {
+    let mut events = Vec::new(alloc);
+    push_events(&mut events, alloc, calls, time)?;
+    Ok(events)
 }
 
 /// The calls of a list like `row 0, take 0, commit 0, here 1, flush`, or of `100 times row 0+10, here 0`.

@@ -7,7 +7,7 @@ use durable_core::{Answer, Core, Refusal, StartFault};
 use slot_memory::Cell;
 use slot_run::Execution;
 use st_meaning::Outcome;
-use st_types::{Name, Path};
+use st_types::{Name, Path, Value};
 use std::alloc::{AllocError, Global};
 use std::fmt::Write;
 
@@ -98,13 +98,23 @@ pub fn write_execution(text: &mut String, execution: &Execution) -> Result<(), A
     write_outcome(text, Some(execution.outcome()))
 }
 
+/// The path of a global.
+pub fn path_of(alloc: Global, global: &str) -> Result<Path, AllocError> {
+    let name = Name::from_slice(alloc, global.as_bytes())?;
+    Ok(Path::global(alloc, name))
+}
+
+/// The number of a value; -1 if there is none.
+pub fn shown(value: Option<Value>) -> i128 {
+    match value {
+        Some(value) => value.number(),
+        None => -1,
+    }
+}
+
 /// The number of a global; -1 if it doesn't exist.
 pub fn number_of(alloc: Global, core: &Core<SimDisk>, global: &str) -> Result<i128, AllocError> {
-    let name = Name::from_slice(alloc, global.as_bytes())?;
-    match core.value(&Path::global(alloc, name)) {
-        Some(value) => Ok(value.number()),
-        None => Ok(-1),
-    }
+    Ok(shown(core.value(&path_of(alloc, global)?)))
 }
 
 /// Writes each global with its number.

@@ -10,7 +10,7 @@ use crate::disks::Cut;
 use crate::living::{Setting, plan_of};
 use crate::row_error::RowError;
 use crate::row_words::{number, split, write_number};
-use commit_lock::{Course, Event, Life, LifeEnd, lives};
+use commit_lock::{Course, Event, Life, LifeEnd, endless_lives, lives};
 use disk::Stop;
 use durable_core::StartMode;
 use std::alloc::{AllocError, Global};
@@ -111,6 +111,17 @@ fn write_end(text: &mut String, end: &LifeEnd) -> Result<(), AllocError> {
     }
 }
 
+/// Writes the ends of lives in turn.
+fn write_ends(text: &mut String, ends: &[LifeEnd]) -> Result<(), AllocError> {
+    for (number, end) in ends.iter().enumerate() {
+        if number > 0 {
+            text.push_str(" / ")?;
+        }
+        write_end(text, end)?;
+    }
+    Ok(())
+}
+
 /// Lives the lives over a copy of the file in turn, and writes the end of each.
 pub fn write_lives(
     text: &mut String,
@@ -121,11 +132,18 @@ pub fn write_lives(
 ) -> Result<(), RowError> {
     let plan = plan_of(alloc, setting.text)?;
     let ends = lives(alloc, &plan, file.to_vec(alloc)?, lives_of(alloc, written)?)?;
-    for (number, end) in ends.iter().enumerate() {
-        if number > 0 {
-            text.push_str(" / ")?;
-        }
-        write_end(text, end)?;
-    }
-    Ok(())
+    Ok(write_ends(text, &ends)?)
+}
+
+/// The same by cores that keep no log.
+pub fn write_endless_lives(
+    text: &mut String,
+    alloc: Global,
+    setting: Setting<'_>,
+    file: &[u8],
+    written: &str,
+) -> Result<(), RowError> {
+    let plan = plan_of(alloc, setting.text)?;
+    let ends = endless_lives(alloc, &plan, file.to_vec(alloc)?, lives_of(alloc, written)?)?;
+    Ok(write_ends(text, &ends)?)
 }

@@ -16,6 +16,7 @@ mod depths;
 mod details;
 mod disk_calls;
 mod disks;
+mod endless;
 mod escapes;
 mod executions;
 mod files;

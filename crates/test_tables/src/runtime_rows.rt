@@ -48,6 +48,16 @@
 //! - `recovered`: the moment and the values that a store alone recovers of the file
 //! - `lives cold, stops 3 \A5 0: row 0, here 0 / warm, fails 2`: lives over a copy of the file in turn, by one call; of
 //!   each the values at its start, its replies, and how much of its log is acknowledged
+//! - `endless 200000 times row 0+10, here 0`: these calls on a life that keeps no log and is saved every thousand times; the
+//!   globals, the rows, how many entries are acknowledged, and whether its memory is as it was after the first thousand
+//!   times
+//! - `beside 3000: 33334 times row 0+60, here 0`: the same, and beside it lives of a core with its log, of which a warm one
+//!   begins over the file of the one before every 3,000 times: `alike` if all their replies, values and overruns are the
+//!   same
+//! - `cuts 10 60: 20 times row 0+10, here 0, flush`: for each device step from 10 to below 60 a life that keeps no log and
+//!   stops within that step, and one in which the step fails: how often the first global has after a warm restart the
+//!   value after a front of the log that holds all that is acknowledged. Each execution adds 1 to it
+//! - `endless_lives cold: row 0, here 0 / warm`: the same as `lives` by cores that keep no log
 //! - `chain cold 0 10, warm 20 30 by k`: two lives, with a stop within any step of each, the second of the text with
 //!   `K : INT := 7` before N, which is retained too; the values of N after them
 //! - `run`, `run moment 51`: the execution of a core of the plan at a row of moment 50, as it is or changed

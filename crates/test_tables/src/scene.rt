@@ -6,10 +6,11 @@ use crate::configuration::Configuration;
 use crate::details::{write_execution, write_reply};
 use crate::disk_calls::{play, write_content};
 use crate::disks::disk_with;
+use crate::endless::{write_beside, write_cut_lives, write_endless};
 use crate::escapes::unescaped;
 use crate::executions::{committed, execution_of, write_machine};
 use crate::files::file_of;
-use crate::lives_in_turn::write_lives;
+use crate::lives_in_turn::{write_endless_lives, write_lives};
 use crate::living::{Detail, Life, Setting, live};
 use crate::marks::write_loads;
 use crate::numbers::{write_refusals, write_start_faults};
@@ -212,6 +213,20 @@ impl<'a, R: Threads + Wait + Clock + Sync> Scene<'a, R> {
             "commit" => self.commit(),
             "lives" => {
                 write_lives(
+                    &mut self.answer,
+                    self.alloc,
+                    self.setting,
+                    &self.file,
+                    given,
+                )
+            }
+            "endless" => {
+                write_endless(&mut self.answer, self.rt, self.alloc, self.setting, given)
+            }
+            "beside" => write_beside(&mut self.answer, self.alloc, self.setting, given),
+            "cuts" => write_cut_lives(&mut self.answer, self.alloc, self.setting, given),
+            "endless_lives" => {
+                write_endless_lives(
                     &mut self.answer,
                     self.alloc,
                     self.setting,

@@ -24,8 +24,8 @@ use Rattle.st_meaning.specs.Stores.{Store}
 use Rattle.plan.specs.declared.task.ProgramInstance.{ProgramInstance}
 use Rattle.plan.specs.PlanViews.{plan_view, program_view}
 use Rattle.serial_core.specs.Steps.{CommitsWaiting, Latches, State, comes_later, grown, past_in, waits_in}
-use Rattle.serial_core.specs.declared.refusal.Refusal.{Refusal}
-use Rattle.serial_core.specs.declared.refusal.Refusal.TheVariants as refusals
+use Rattle.core_engine.specs.declared.refusal.Refusal.{Refusal}
+use Rattle.core_engine.specs.declared.refusal.Refusal.TheVariants as refusals
 use Rattle.serial_core.proofs.OutcomeLemmas.{outcomes_of-add}
 use Rattle.trace.specs.Rests.{Grows, IsRest, outcome_in, rows_in}
 use Rattle.trace.specs.Texts.{row_outcome_text}

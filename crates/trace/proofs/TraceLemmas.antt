@@ -16,7 +16,7 @@ use Rattle.plan.specs.declared.plan.Plan.{Plan}
 use Rattle.plan.specs.PlanViews.{plan_view}
 use Rattle.serial_core.specs.Steps.{store_in}
 use Rattle.serial_core.specs.Retained.{retained_paths, retained_values, paired}
-use Rattle.serial_core.proofs.RetainedLemmas.{kept_paired, goes_by_itself}
+use Rattle.core_engine.proofs.RetainedLemmas.{kept_paired, goes_by_itself}
 use Rattle.st_meaning.specs.Logs.{outcomes_of}
 use Rattle.durable_core.specs.declared.starting.StartMode.{StartMode}
 use Rattle.durable_core.specs.Cores.{CoreView}

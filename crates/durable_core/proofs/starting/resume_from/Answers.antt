@@ -6,11 +6,13 @@ use Rattle.durable_core.specs.Recorded.{all_renumbered, recorded}
 use Rattle.durable_core.specs.Restart.{layout_text_of}
 use Rattle.durable_core.proofs.RecordLemmas.{long_known, taken, types_known}
 use Rattle.durable_core.proofs.StartLemmas.{survives_found, resumed_from}
+use Rattle.durable_core.specs.Endless.{first_state}
+use Rattle.durable_core.proofs.EngineLemmas.{new_engine, new_life_is, resumed_kept}
 use Rattle.durable_core.proofs.starting.resume_from.Goals as goal
 
 pub take_numbers-requires : goal.take_numbers-requires
 take_numbers-requires g c =
-    let plan = c.args.parts.now.serial.plan in
+    let plan = c.args.parts.now.engine.plan in
     let content = c.in-Some.record.now in
     let sound : IsRecordable content = search rules in
     let same : c.layout.result.now ≡ c.layout_text.result.now = search rules in
@@ -23,7 +25,7 @@ take_numbers-requires g c =
 
 pub resume-requires-clause-kinds : goal.resume-requires-clause-kinds
 resume-requires-clause-kinds g c =
-    let plan = c.args.parts.now.serial.plan in
+    let plan = c.args.parts.now.engine.plan in
     let content = c.in-Some.record.now in
     let sound : IsRecordable content = search rules in
     let same : c.layout.result.now ≡ c.layout_text.result.now = search rules in
@@ -37,7 +39,7 @@ resume-requires-clause-kinds g c =
 
 pub resume-requires-clause-held : goal.resume-requires-clause-held
 resume-requires-clause-held g c =
-    let plan = c.args.parts.now.serial.plan in
+    let plan = c.args.parts.now.engine.plan in
     let content = c.in-Some.record.now in
     let sound : IsRecordable content = search rules in
     let same : c.layout.result.now ≡ c.layout_text.result.now = search rules in
@@ -51,7 +53,10 @@ resume-requires-clause-held g c =
 
 pub returns-clause-survives : goal.returns-clause-survives
 returns-clause-survives g c = λ yes.
-    let plan = c.args.parts.now.serial.plan in
+    let plan = c.args.parts.now.engine.plan in
+    let restarted = new_life_is c.resume.new.self _ c.resume.ensures.lived ∙ c.resume.ensures.restarted in
+    let back = resumed_kept c.args.parts.now.engine.plan c.resume.new.self _ _ c.resume.ensures.lived
+    (ap (λ (st : State). st.plan) c.resume.ensures.restarted) c.resume.ensures.kept in
     let content = c.in-Some.record.now in
     let sound : IsRecordable content = search rules in
     let same : c.layout.result.now ≡ c.layout_text.result.now = search rules in
@@ -62,14 +67,17 @@ returns-clause-survives g c = λ yes.
     let are : c.deref.result.now ≡ all_renumbered own content.values =
     c.deref.ensures.value ∙ c.take_numbers.ensures.items ∙ ap (all_renumbered own) c.values.ensures in
     let t = taken plan content own c.deref.result.now known sound c.retain.ensures.kinds are in
-    survives_found plan content c.resume.new.self c.args.store.now.last found layout
-    (ap (λ (st : State). st.plan) c.resume.ensures.restarted)
-    (ap (λ (st : State). st.before) c.resume.ensures.restarted ∙ c.moment.ensures)
-    (ap (map recorded) c.resume.ensures.kept ∙ t.back)
+    survives_found plan content (first_state c.resume.new.self) c.args.store.now.last found layout
+    (ap (λ (st : State). st.plan) restarted)
+    (ap (λ (st : State). st.before) restarted ∙ c.moment.ensures)
+    (ap (map recorded) back ∙ t.back)
 
 pub returns-clause-resumed : goal.returns-clause-resumed
 returns-clause-resumed g c =
-    let plan = c.args.parts.now.serial.plan in
+    let plan = c.args.parts.now.engine.plan in
+    let restarted = new_life_is c.resume.new.self _ c.resume.ensures.lived ∙ c.resume.ensures.restarted in
+    let back = resumed_kept c.args.parts.now.engine.plan c.resume.new.self _ _ c.resume.ensures.lived
+    (ap (λ (st : State). st.plan) c.resume.ensures.restarted) c.resume.ensures.kept in
     let content = c.in-Some.record.now in
     let sound : IsRecordable content = search rules in
     let same : c.layout.result.now ≡ c.layout_text.result.now = search rules in
@@ -80,6 +88,12 @@ returns-clause-resumed g c =
     let are : c.deref.result.now ≡ all_renumbered own content.values =
     c.deref.ensures.value ∙ c.take_numbers.ensures.items ∙ ap (all_renumbered own) c.values.ensures in
     let t = taken plan content own c.deref.result.now known sound c.retain.ensures.kinds are in
-    c.resume.ensures.restarted
-    ∙ resumed_from plan c.args.parts.now.serial.room content c.args.store.now.last c.deref.result.now c.moment.result found
+    restarted
+    ∙ resumed_from plan c.args.parts.now.engine.room content c.args.store.now.last c.deref.result.now c.moment.result found
     layout known t.are c.moment.ensures
+
+pub returns-clause-new : goal.returns-clause-new
+returns-clause-new g c = new_engine c.resume.new.self _ c.resume.ensures.lived
+
+pub resume-requires-clause-empty : goal.resume-requires-clause-empty
+resume-requires-clause-empty g c = c.requires.new.counted

@@ -1,18 +1,68 @@
-use Rattle.std.proofs.Common.{rules, ap, subst, Ok}
-use Rattle.serial_core.specs.Steps.{Latches}
-use Rattle.durable_core.specs.Cores.{CoreView, with_state}
-use Rattle.durable_core.proofs.CallLemmas.{kept_longer, latches_longer}
+use Rattle.std.proofs.Common.{rules, ◌≡◌, ℕ, Ok, Err, refl, sym, subst, arith}
+use Rattle.core_engine.specs.Steps.{Latches}
+use Rattle.serial_core.proofs.GrownLemmas.{outcomes_kept}
+use Rattle.durable_core.specs.Cores.{CoreView, Guards, Outlives}
+use Rattle.durable_core.proofs.LogLemmas.{keeps_as, latch_refused, refused_on, row_in, seen_as}
 use Rattle.durable_core.proofs.core_state.Core.latch.Goals as goal
 
+pub append-requires-clause-log : goal.append-requires-clause-log
+append-requires-clause-log g c =
+    let (longer, ((none, same, step), left), life) = c.in-Ok.ensures _ _ c.self.invariant.life in
+    omega (arith, step.0, c.self.invariant.room)
+
+pub append-requires-clause-outcomes : goal.append-requires-clause-outcomes
+append-requires-clause-outcomes g c =
+    let (longer, ((none, same, step), left), life) = c.in-Ok.ensures _ _ c.self.invariant.life in
+    omega (arith, step.0, outcomes_kept c.self.invariant.serial, c.self.invariant.room)
+
 pub invariant_of-self : goal.invariant_of-self
-invariant_of-self g c = kept_longer c.self.inside.mode c.self.inside.serial c.latch-result.new.self c.self.inside.acked
-    c.self.inside.failed c.self.inside.store _ (latches_longer c.self.inside.serial c.args.row c.latch-result.result
-    c.latch-result.new.self c.latch-result.ensures) c.self.invariant
+invariant_of-self g c =
+    let call = row_in c.self.inside.endless c.latch-result.new.self c.self.inside.history c.self.invariant
+    (λ a b. g.D.Disk.tells → Outlives g.D.Disk.left_since g.D.Disk.may_leave a b) c.args.row c.in-Ok.number
+    (c.in-Ok.ensures _ _ c.self.invariant.life) in
+    keeps_as (λ a b. Guards a (Ok c.in-Ok.number) b (λ r. Latches a.state c.args.row r b.state)
+    × (g.D.Disk.tells → Outlives g.D.Disk.left_since g.D.Disk.may_leave a b))
+    c.self.inside.endless c.latch-result.new.self c.self.inside.history _ c.append.new.self call c.append.ensures
+
+pub invariant_of-self-in-Err-1 : goal.invariant_of-self-in-Err-1
+invariant_of-self-in-Err-1 g c =
+    let call = refused_on c.self.inside.endless c.latch-result.new.self c.self.inside.history c.self.invariant
+    (λ a r b. Latches a c.args.row r b) (λ a b. g.D.Disk.tells → Outlives g.D.Disk.left_since g.D.Disk.may_leave a b)
+    (λ a b e. latch_refused c.args.row a b e) c.in-Err.refusal (c.in-Err.ensures _ _ c.self.invariant.life) in
+    call.keeps
 
 pub returns-in-Ok-clause-latches : goal.returns-in-Ok-clause-latches
 returns-in-Ok-clause-latches g c =
-    let new = c.latch-result.new.self in (
-      search rules,
-      ap (λ (v : CoreView _). with_state v new) c.self.view_is,
-      subst (λ (v : CoreView _). Latches v.state c.args.row (Ok c.in-Ok.number) new) c.self.view_is c.in-Ok.ensures,
-    )
+    let call = row_in c.self.inside.endless c.latch-result.new.self c.self.inside.history c.self.invariant
+    (λ a b. g.D.Disk.tells → Outlives g.D.Disk.left_since g.D.Disk.may_leave a b) c.args.row c.in-Ok.number
+    (c.in-Ok.ensures _ _ c.self.invariant.life) in
+    (seen_as (λ a b. Guards a (Ok c.in-Ok.number) b (λ r. Latches a.state c.args.row r b.state)
+    × (g.D.Disk.tells → Outlives g.D.Disk.left_since g.D.Disk.may_leave a b))
+    c.self.inside.endless c.latch-result.new.self c.self.inside.history _ c.append.new.self _ call c.append.ensures c.self.view_is).0
+
+pub returns-in-Ok-clause-outlives : goal.returns-in-Ok-clause-outlives
+returns-in-Ok-clause-outlives g c =
+    let call = row_in c.self.inside.endless c.latch-result.new.self c.self.inside.history c.self.invariant
+    (λ a b. g.D.Disk.tells → Outlives g.D.Disk.left_since g.D.Disk.may_leave a b) c.args.row c.in-Ok.number
+    (c.in-Ok.ensures _ _ c.self.invariant.life) in
+    (seen_as (λ a b. Guards a (Ok c.in-Ok.number) b (λ r. Latches a.state c.args.row r b.state)
+    × (g.D.Disk.tells → Outlives g.D.Disk.left_since g.D.Disk.may_leave a b))
+    c.self.inside.endless c.latch-result.new.self c.self.inside.history _ c.append.new.self _ call c.append.ensures c.self.view_is).1
+
+pub returns-in-Err-clause-latches : goal.returns-in-Err-clause-latches
+returns-in-Err-clause-latches g c =
+    let call = refused_on c.self.inside.endless c.latch-result.new.self c.self.inside.history c.self.invariant
+    (λ a r b. Latches a c.args.row r b) (λ a b. g.D.Disk.tells → Outlives g.D.Disk.left_since g.D.Disk.may_leave a b)
+    (λ a b e. latch_refused c.args.row a b e) c.in-Err.refusal (c.in-Err.ensures _ _ c.self.invariant.life) in
+    (seen_as (λ a b. Guards a (Err c.in-Err.refusal) b (λ r. Latches a.state c.args.row r b.state)
+    × (g.D.Disk.tells → Outlives g.D.Disk.left_since g.D.Disk.may_leave a b))
+    c.self.inside.endless c.latch-result.new.self c.self.inside.history c.self.inside.history c.self.inside.history _ call refl c.self.view_is).0
+
+pub returns-in-Err-clause-outlives : goal.returns-in-Err-clause-outlives
+returns-in-Err-clause-outlives g c =
+    let call = refused_on c.self.inside.endless c.latch-result.new.self c.self.inside.history c.self.invariant
+    (λ a r b. Latches a c.args.row r b) (λ a b. g.D.Disk.tells → Outlives g.D.Disk.left_since g.D.Disk.may_leave a b)
+    (λ a b e. latch_refused c.args.row a b e) c.in-Err.refusal (c.in-Err.ensures _ _ c.self.invariant.life) in
+    (seen_as (λ a b. Guards a (Err c.in-Err.refusal) b (λ r. Latches a.state c.args.row r b.state)
+    × (g.D.Disk.tells → Outlives g.D.Disk.left_since g.D.Disk.may_leave a b))
+    c.self.inside.endless c.latch-result.new.self c.self.inside.history c.self.inside.history c.self.inside.history _ call refl c.self.view_is).1

@@ -1,54 +1,9 @@
-use Rattle.std.proofs.Common.{◌≡◌, Some, None, slice_get, sym, ap, subst, refl, ◌∙◌}
-use Rattle.std.specs.Prelude.{position}
-use Rattle.st_types.specs.Paths.{same_path}
+use Rattle.std.proofs.Common.{◌≡◌, subst}
 use Rattle.st_meaning.specs.Scopes.{seen}
-use Rattle.plan.specs.declared.plan.Plan.{Plan}
-use Rattle.plan.specs.declared.slots.SlotPlace.TheVariants.{Input, Variable}
-use Rattle.plan.specs.SlotPlaces.{place_of}
-use Rattle.serial_core.specs.Steps.{State, past_in, first_image, last_image, inputs_now}
-use Rattle.serial_core.proofs.ReadingLemmas.{input_told, is_placed, other_told, variable_told}
+use Rattle.core_engine.specs.Steps.{State, past_in, inputs_now}
 use Rattle.serial_core.proofs.serial.SerialCore.value.Goals as goal
 
-pub returns-in-Some-Input : goal.returns-in-Some-Input
-returns-in-Some-Input c =
-    let plan = c.self.inside.plan.value in
-    let path = c.args.path.now in
-    let number = c.in-Some-Input.number in
-    let at : Some (Input number) ≡ place_of plan.variables.items plan.inputs.items path =
-    ap Some (sym c.in-Some-Input.field-0-is) ∙ sym c.in-Some-Input.is ∙ c.place.ensures
-    ∙ ap (λ (p : Plan). place_of p.variables.items p.inputs.items path) c.deref.ensures in
-    let placed = is_placed (position (λ i. same_path path i.path) plan.inputs.items)
-    (position (λ v. same_path path v.path) plan.variables.items) (Some (Input number)) at in
-    let told = subst (λ (st : State). Some c.input.result
-    ≡ slice_get (last_image (first_image st.plan.inputs.items) (past_in st).rows) number) (sym c.self.view_is)
-    c.input.ensures in
-    subst (λ (st : State). Some c.input.result ≡ seen (inputs_now st) (past_in st).store path) c.self.view_is
-    (input_told c.self.invariant.0 path number c.input.result placed told)
-
-pub returns-in-Some-Variable : goal.returns-in-Some-Variable
-returns-in-Some-Variable c =
-    let plan = c.self.inside.plan.value in
-    let path = c.args.path.now in
-    let number = c.in-Some-Variable.number in
-    let at : Some (Variable number) ≡ place_of plan.variables.items plan.inputs.items path =
-    ap Some (sym c.in-Some-Variable.field-0-is) ∙ sym c.in-Some-Variable.is ∙ c.place.ensures
-    ∙ ap (λ (p : Plan). place_of p.variables.items p.inputs.items path) c.deref.ensures in
-    let placed = is_placed (position (λ i. same_path path i.path) plan.inputs.items)
-    (position (λ v. same_path path v.path) plan.variables.items) (Some (Variable number)) at in
-    let told = variable_told c.self.invariant.0 path (Some number) c.value_at.result (sym placed.1)
-    (c.value_at.ensures ∙ ap (λ vs. slice_get vs number) c.deref-in-Some-Variable.ensures.value) in
-    subst (λ (st : State). c.value_at.result ≡ seen (inputs_now st) (past_in st).store path) c.self.view_is
-    (other_told c.self.invariant.0 path c.value_at.result placed.0 told)
-
-pub returns-in-None : goal.returns-in-None
-returns-in-None c =
-    let plan = c.self.inside.plan.value in
-    let path = c.args.path.now in
-    let at : None ≡ place_of plan.variables.items plan.inputs.items path =
-    sym c.in-None.is ∙ c.place.ensures
-    ∙ ap (λ (p : Plan). place_of p.variables.items p.inputs.items path) c.deref.ensures in
-    let placed = is_placed (position (λ i. same_path path i.path) plan.inputs.items)
-    (position (λ v. same_path path v.path) plan.variables.items) None at in
-    let told = variable_told c.self.invariant.0 path None None (sym placed.1) refl in
-    subst (λ (st : State). None ≡ seen (inputs_now st) (past_in st).store path) c.self.view_is
-    (other_told c.self.invariant.0 path None placed.0 told)
+pub returns : goal.returns
+returns c =
+    subst (λ (st : State). c.value.result ≡ seen (inputs_now st) (past_in st).store c.args.path.now) c.self.view_is
+    (c.value.ensures _ _ c.self.invariant.0.lived)

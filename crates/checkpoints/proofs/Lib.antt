@@ -1,0 +1,7 @@
+mod ProgressLemmas
+mod RowLemmas
+mod DoneLemmas
+mod ContinuationLemmas
+mod SizeLemmas
+mod PrefixLemmas
+mod EndlessLemmas

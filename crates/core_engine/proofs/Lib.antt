@@ -1,0 +1,17 @@
+pub mod Views
+pub mod RowLemmas
+pub mod VariableLemmas
+pub mod LatchLemmas
+pub mod LivedLemmas
+pub mod PlanSlots
+pub mod TakeLemmas
+pub mod CommitLemmas
+pub mod DoneLemmas
+pub mod FirstLemmas
+pub mod ReadingLemmas
+pub mod RetainedLemmas
+pub mod ResumeLemmas
+pub mod ReadLemmas
+pub mod QuickTaking
+pub mod CommitOne
+pub mod CheckpointLemmas

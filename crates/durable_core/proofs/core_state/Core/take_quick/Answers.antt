@@ -1,0 +1,9 @@
+use Rattle.std.proofs.Common.{subst}
+use Rattle.core_engine.specs.Quick.{TakesQuick}
+use Rattle.durable_core.specs.Cores.{CoreView, Guards}
+use Rattle.durable_core.proofs.core_state.Core.take_quick.Goals as goal
+
+pub returns-clause-takes : goal.returns-clause-takes
+returns-clause-takes g c =
+    subst (λ (v : CoreView _). Guards v c.take_quick.result v (λ r. TakesQuick v.state c.args.resource r)) c.self.view_is
+    (c.take_quick.ensures _ _ c.self.invariant.life)
