@@ -19,8 +19,8 @@ fn is_name_at(record: &ByteRecord, column: usize, name: &[u8]) -> bool
     }
 }
 
-/// Whether the record is the header of a plant of these inputs.
-pub(crate) fn is_header(inputs: &[PlanInput], record: &ByteRecord) -> bool
+/// Whether the record is the header of a plant of these inputs: `t` and their names in declaration order, in any case.
+pub fn is_header(inputs: &[PlanInput], record: &ByteRecord) -> bool
     ensures { IsTrue result ↔ IsHeader inputs.now (fields_of record.now) }
 {
     if record.len() != inputs.len() + 1 {

@@ -9,5 +9,7 @@ mod plant;
 mod plant_error;
 mod row;
 
+pub use header::is_header;
 pub use plant::read_plant;
 pub use plant_error::PlantError;
+pub use row::row_of;

@@ -12,7 +12,7 @@ ghost use Rattle.image.specs.Records.{OfRecords};
 
 use crate::header::is_header;
 use crate::plant_error::PlantError;
-use crate::row::row;
+use crate::row::row_of;
 use csv::{ByteRecord, ReaderBuilder};
 use plan::Plan;
 use st_meaning::PlanInput;
@@ -52,7 +52,7 @@ fn add_row(
     if rows.len() >= MAX_ROWS {
         return Err(PlantError::TooManyRows);
     }
-    let row = row(alloc, inputs, record)?;
+    let row = row_of(alloc, inputs, record)?;
     if !is_later(rows, row.moment()) {
         return Err(PlantError::NotLater);
     }

@@ -62,12 +62,9 @@ fn moment_of(record: &ByteRecord) -> Option<u64>
     }
 }
 
-/// The row that the record spells.
-pub(crate) fn row(
-    alloc: Global,
-    inputs: &[PlanInput],
-    record: &ByteRecord,
-) -> Result<Row, PlantError>
+/// The row that the record spells: its moment in milliseconds, and a value for each input in declaration order. I2 if it spells
+/// none, I6 out of memory.
+pub fn row_of(alloc: Global, inputs: &[PlanInput], record: &ByteRecord) -> Result<Row, PlantError>
     ensures spelled { IfOk result (λ row. fields_of record.now ≡ spelled row) }
     ensures fits { IfOk result (IsRowOf inputs.now) }
     ensures none { IsErrOf result PlantError.Field → IsNoRow inputs.now (fields_of record.now) }

@@ -1,2 +1,3 @@
 mod PlotLemmas
 mod ReplayLemmas
+pub mod EndLemmas

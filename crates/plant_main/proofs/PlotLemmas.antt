@@ -23,3 +23,5 @@ ends_well D job plan rows trace plan_is are (ends.Declined NoVariable) names =
 ends_well D job plan rows trace plan_is are (ends.Declined SharedStore) well = absurd well
 ends_well D job plan rows trace plan_is are (ends.Declined SharedPicture) well = absurd well
 ends_well D job plan rows trace plan_is are (ends.Declined NoCode) well = absurd well
+ends_well D job plan rows trace plan_is are (ends.Lived text) life = absurd life
+ends_well D job plan rows trace plan_is are ends.OutputFailed life = absurd life

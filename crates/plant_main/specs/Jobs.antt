@@ -141,12 +141,13 @@ pub record NamesNothing (paths : List (Bor (List ℕ))) : Type 0 where
   pub names : NamesNone plan paths
 
 -- the report of a job that is done: some text of the built-in run, the sizes of a check, the report of a run and of a
--- replay, the contents of a retain file or the result of a warm start from it, some picture of a life that a trace records,
+-- replay (a live job has none: it sends answers), the contents of a retain file or the result of a warm start from it, some picture of a life that a trace records,
 -- and the explanation of a code
 abbrev pub Reports : Type 0 → Job → List ℕ → Type 0
 Reports D jobs.First text = Unit {0}
 Reports D (jobs.Check job) text = IsCheck DEFAULT_BUDGET text
 Reports D (jobs.Run job) text = IsRun D job.budget job.start text
+Reports D (jobs.Live job) text = ⊥
 Reports D (jobs.Replay job) text = IsReplay text
 Reports D (jobs.Show job) text = IsShowing job.view text
 Reports D (jobs.Plot job) text = IsPlotted
@@ -166,6 +167,7 @@ Declines job why = ⊥
 abbrev pub EndsWell : Type 0 → Job → End → Type 0
 EndsWell D job (ends.Report text) = Reports D job text.items
 EndsWell D job (ends.Declined why) = Declines job why
+EndsWell D job other = ⊥
 
 -- V1 to V4
 abbrev pub IsTraceFault : Fault → Type 0

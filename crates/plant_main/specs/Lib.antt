@@ -2,3 +2,4 @@ pub mod Endings
 pub mod Jobs
 pub mod Sizes
 pub mod Statuses
+pub mod LiveJobs

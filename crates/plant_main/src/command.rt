@@ -98,6 +98,26 @@ fn run<'a>(alloc: Global) -> Result<Command<'a>, AllocError> {
         .args(args)
 }
 
+fn live<'a>(alloc: Global) -> Result<Command<'a>, AllocError> {
+    let args = vec![in alloc;
+        source(alloc),
+        file(alloc, "store", "The retain file").required(true),
+        start(alloc),
+        budget(alloc),
+        flag(
+            alloc,
+            "newest",
+            "Latch only the newest of the rows that wait, and answer the others with `missed`"
+        ),
+        explain_flag(alloc),
+    ]?;
+    Command::new(alloc, "live")
+        .about(
+            "Runs a source against rows from standard input and writes outputs to standard output",
+        )
+        .args(args)
+}
+
 fn replay<'a>(alloc: Global) -> Result<Command<'a>, AllocError> {
     let args = vec![in alloc;
         source(alloc),
@@ -158,7 +178,7 @@ fn plant<'a>(alloc: Global) -> Result<Command<'a>, AllocError> {
     let plant = Command::new(alloc, "plant").bin_name("plant")?;
     let first = Command::new(alloc, "first").about("Runs the built-in configuration");
     plant
-        .about("Runs Structured Text against a recorded plant")
+        .about("Runs Structured Text against a plant, recorded or live")
         .subcommand_required(true)
         .subcommand(first)
 }
@@ -175,6 +195,7 @@ fn with<'a>(
 pub(crate) fn command<'a>(alloc: Global) -> Result<Command<'a>, AllocError> {
     let command = with(plant(alloc), check(alloc));
     let command = with(command, run(alloc));
+    let command = with(command, live(alloc));
     let command = with(command, replay(alloc));
     let command = with(command, show(alloc));
     let command = with(command, plot(alloc));

@@ -14,8 +14,8 @@ const OUTPUT_FAILED: u8 = 5;
 /// Why a job isn't begun.
 #[derive(Clone, Copy, Debug, PartialEq, Eq, Error)]
 pub enum Declined {
-    /// The retain file is, by another name, the source, the plant or the trace.
-    #[error("error: the retain file is the source, the plant or the trace")]
+    /// The retain file is, by another name, the source, the plant, the trace or the standard output.
+    #[error("error: the retain file is the source, the plant, the trace or the standard output")]
     SharedStore,
     /// The file for the picture is, by another name, the source, the plant or the trace.
     #[error("error: the picture is the source, the plant or the trace")]
@@ -34,7 +34,7 @@ pub enum Declined {
 /// How the program ends.
 #[derive(Clone, Copy, Debug, PartialEq, Eq)]
 pub enum Ending {
-    /// The job is done, and its report is on the standard output.
+    /// The job is done, and its report is on the standard output, or, of a live job, on the standard error.
     Done,
     /// The help that was asked for is on the standard output.
     Helped,

@@ -12,6 +12,7 @@ fn is_explained(job: &Job<'_>) -> bool {
     match job {
         Job::Check(job) => job.explain,
         Job::Run(job) => job.explain,
+        Job::Live(job) => job.explain,
         Job::Replay(job) => job.explain,
         Job::Show(_) => true,
         _ => false,
@@ -23,6 +24,7 @@ fn source_of<'a>(job: &Job<'a>) -> Option<&'a str> {
     match job {
         Job::Check(job) => Some(job.source),
         Job::Run(job) => Some(job.source),
+        Job::Live(job) => Some(job.source),
         Job::Replay(job) => Some(job.source),
         Job::Show(
             ShowJob {

@@ -1,7 +1,7 @@
 //! The program `plant`: its command line, read by clap, the real files and the standard outputs.
 //!
 //! It owns every job and the order of work. A report is printed after a run that ended well, and none beside a refusal,
-//! unless the standard output fails half way.
+//! unless the standard output fails half way. A live job prints its answers, and its report goes to the standard error.
 #![tactic(auto)]
 
 mod broken_rules;
@@ -10,6 +10,7 @@ mod command;
 mod ending;
 mod explaining;
 mod first_run;
+mod live;
 mod meaning;
 mod number;
 mod open_gate;
@@ -25,9 +26,10 @@ mod source_faults;
 use program::plant;
 use source_run::{Fault, RealFiles, write_fault};
 use std::alloc::{AllocError, Global};
+use std::fs::{File, OpenOptions};
 use std::io::Write;
 use std::process::ExitCode;
-use std::rt::Env;
+use std::rt::{Env, Files};
 use std::{env, io};
 
 /// The exit status if the words can't be read as text.
@@ -48,6 +50,24 @@ fn takes_stack<R: Env>(rt: &R) -> bool {
     let byte = name[0];
     let room = [byte; STACK_BYTES];
     room[byte as usize] == byte
+}
+
+/// The device that takes whatever is written, and is empty to a reader.
+const NULL: &str = "/dev/null";
+
+fn null<R: Files<File = File>>(rt: &R) -> Option<File> {
+    OpenOptions::new()
+        .read(true)
+        .write(true)
+        .open(rt, NULL)
+        .ok()
+}
+
+/// Opens that device once for each standard stream, as long as the files are held. A stream that is closed leaves its number
+/// free, and the next file that is opened would get it: the retain file, into which all that goes to the stream would be
+/// written.
+fn guards<R: Files<File = File>>(rt: &R) -> [Option<File>; 3] {
+    [null(rt), null(rt), null(rt)]
 }
 
 fn words_of(alloc: Global, rt: &(impl Env + AllocGlobal)) -> io::Result<Vec<String>> {
@@ -74,6 +94,7 @@ fn no_words<E: Write>(error: &io::Error, err: &mut E) -> u8 {
 }
 
 fn main(rt: HostRuntime) -> ExitCode {
+    let _guards = guards(&rt);
     let alloc = rt.alloc();
     let mut out = rt.stdout();
     let mut err = rt.stderr();
@@ -86,7 +107,7 @@ fn main(rt: HostRuntime) -> ExitCode {
     };
     let status = match texts_of(alloc, &words) {
         Ok(texts) => {
-            let mut files = RealFiles::new(&rt);
+            let mut files = RealFiles::new(&rt, rt.stdin());
             plant(&rt, alloc, &texts, &mut files, &mut out, &mut err).status()
         }
         Err(_) => no_memory(&mut err),

@@ -2,12 +2,13 @@
 
 ghost use Rattle.std.specs.Prelude.{◌≡◌, IfOk};
 ghost use Rattle.source_run.specs.declared.job.Job.{Job};
-ghost use Rattle.plant_main.specs.Endings.{ProgramEnds, Performs};
+ghost use Rattle.plant_main.specs.Endings.{Does, Performs, ProgramEnds};
 ghost use Rattle.plant_main.specs.Jobs.{EndsWell};
 
 use crate::ending::{Declined, Ending};
 use crate::explaining::explain;
 use crate::first_run::first;
+use crate::live::live;
 use crate::meaning::meaning;
 use crate::plotting::plot;
 use crate::reading::{is_out_of_memory, read_words};
@@ -20,6 +21,7 @@ use std::alloc::Global;
 use std::io::Write;
 use std::sync::Wait;
 use std::thread::Threads;
+use std::time::Clock;
 
 /// Reads and builds the source, and gives its sizes.
 fn check<F: Files>(alloc: Global, files: &mut F, job: &CheckJob<'_>) -> Result<End, Fault>
@@ -56,18 +58,20 @@ fn run<F: Files, R: Threads + Wait + Eprint + Sync>(
 }
 
 /// How the job ends.
-fn done<F: Files, R: Threads + Wait + Eprint + Sync>(
+fn done<F: Files, O: Write, R: Threads + Wait + Eprint + Clock + Sync>(
     rt: &R,
     alloc: Global,
     files: &mut F,
     job: &Job<'_>,
+    out: &mut O,
 ) -> Result<End, Fault>
-    ensures { IfOk result (λ end. EndsWell F.Disk job.now end) }
+    ensures { Does O.contents F.Disk.tells F.Disk.left_since F.Disk.may_leave job.now result out.old out.new }
 {
     match job {
         Job::First => Ok(End::Report(first(rt, alloc)?)),
         Job::Check(job) => check(alloc, files, job),
         Job::Run(job) => run(rt, alloc, files, job),
+        Job::Live(job) => live(rt, alloc, files, job, out),
         Job::Replay(job) => Ok(End::Report(replay(alloc, files, job)?)),
         Job::Show(job) => Ok(End::Report(show(alloc, files, job)?)),
         Job::Plot(job) => plot(alloc, files, job),
@@ -79,8 +83,8 @@ fn done<F: Files, R: Threads + Wait + Eprint + Sync>(
 }
 
 /// Does a job. A fault is one line `fault CODE` or `fault CODE at PLACE` on the standard error, followed by a view for a
-/// person if the job asks for one, and nothing is on the standard output then.
-pub fn perform<F: Files, O: Write, E: Write, R: Threads + Wait + Eprint + Sync>(
+/// person if the job asks for one; and nothing is on the standard output then, but for the answers of a live job.
+pub fn perform<F: Files, O: Write, E: Write, R: Threads + Wait + Eprint + Clock + Sync>(
     rt: &R,
     alloc: Global,
     job: &Job<'_>,
@@ -88,9 +92,10 @@ pub fn perform<F: Files, O: Write, E: Write, R: Threads + Wait + Eprint + Sync>(
     out: &mut O,
     err: &mut E,
 ) -> Ending
-    ensures { Performs O.contents F.Disk job.now result out.old out.new }
+    ensures { Performs O.contents F.Disk.tells F.Disk.left_since F.Disk.may_leave job.now result out.old out.new }
 {
-    let ending = report_end(done(rt, alloc, files, job), out, err);
+    let end = done(rt, alloc, files, job, out);
+    let ending = report_end(end, out, err);
     if let Ending::Fault(fault) = ending {
         explain(alloc, files, job, fault, err);
     }
@@ -98,7 +103,7 @@ pub fn perform<F: Files, O: Write, E: Write, R: Threads + Wait + Eprint + Sync>(
 }
 
 /// Does what the words ask, the program's name first.
-pub fn plant<F: Files, O: Write, E: Write, R: Threads + Wait + Eprint + Sync>(
+pub fn plant<F: Files, O: Write, E: Write, R: Threads + Wait + Eprint + Clock + Sync>(
     rt: &R,
     alloc: Global,
     words: &[&str],
@@ -106,7 +111,7 @@ pub fn plant<F: Files, O: Write, E: Write, R: Threads + Wait + Eprint + Sync>(
     out: &mut O,
     err: &mut E,
 ) -> Ending
-    ensures { ProgramEnds O.contents F.Disk result out.old out.new }
+    ensures { ProgramEnds O.contents F.Disk.tells F.Disk.left_since F.Disk.may_leave result out.old out.new }
 {
     match read_words(alloc, words) {
         Ok(job) => perform(rt, alloc, &job, files, out, err),

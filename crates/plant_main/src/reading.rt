@@ -9,7 +9,7 @@ use crate::number::plain_number;
 use clap::error::ErrorKind;
 use clap::{ArgMatches, Error};
 use source_run::{
-    AskedMachine, CheckJob, Job, Pace, PlotJob, ReplayJob, RunJob, ShowJob, Start, View,
+    AskedMachine, CheckJob, Job, LiveJob, Pace, PlotJob, ReplayJob, RunJob, ShowJob, Start, View,
 };
 use std::alloc::{AllocError, Global};
 
@@ -51,6 +51,17 @@ fn run<'a>(given: &ArgMatches<'a>) -> Option<RunJob<'a>> {
         machine: machine(given.get_str("machine")?)?,
         trace: given.get_str("trace"),
         stats: given.get_flag("stats"),
+        explain: given.get_flag("explain"),
+    })
+}
+
+fn live<'a>(given: &ArgMatches<'a>) -> Option<LiveJob<'a>> {
+    Some(LiveJob {
+        source: given.get_str("source")?,
+        store: given.get_str("store")?,
+        start: start(given.get_str("start")?)?,
+        budget: plain_number(given.get_str("budget")?)?,
+        newest: given.get_flag("newest"),
         explain: given.get_flag("explain"),
     })
 }
@@ -115,6 +126,7 @@ fn chosen<'a>(
         "first" => Some(Job::First),
         "check" => check(given).map(Job::Check),
         "run" => run(given).map(Job::Run),
+        "live" => live(given).map(Job::Live),
         "replay" => replay(given).map(Job::Replay),
         "show" => show(given).map(Job::Show),
         "plot" => plot(given, paths(alloc, given)?).map(Job::Plot),
@@ -131,6 +143,9 @@ const SIGNED: &str = "invalid value for '--budget <N>': it isn't an unsigned 32-
 const SHARED_STORE: &str =
     "invalid value for '--store <F>': it names the source, the plant or the trace";
 
+/// The error for a retain file that is the source of a live run.
+const SHARED_LIVE_STORE: &str = "invalid value for '--store <F>': it names the source";
+
 /// The error for a picture that is a file which the plot reads.
 const SHARED_PICTURE: &str =
     "invalid value for '--out <F>': it names the source, the plant or the trace";
@@ -146,6 +161,7 @@ fn wrong_file(job: &Job<'_>) -> Option<&'static str>
 {
     match job {
         Job::Run(run) if !run.has_own_store() => Some(SHARED_STORE),
+        Job::Live(live) if !live.has_own_store() => Some(SHARED_LIVE_STORE),
         Job::Plot(plot) if !plot.has_own_picture() => Some(SHARED_PICTURE),
         _ => None,
     }

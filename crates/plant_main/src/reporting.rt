@@ -16,9 +16,13 @@ pub(crate) enum End {
     Report(Vec<u8>),
     /// The job isn't begun.
     Declined(Declined),
+    /// What it says is on the standard output, and this is its report for the standard error.
+    Lived(Vec<u8>),
+    /// The standard output takes no more.
+    OutputFailed,
 }
 
-/// Reports how a job ended: its text on the standard output, or one line on the standard error. An ending holds even if its
+/// Reports how a job ended: its text on the standard output, or one line or a report on the standard error. An ending holds even if its
 /// line can't be written.
 pub(crate) fn report_end<O: Write, E: Write>(
     end: Result<End, Fault>,
@@ -36,6 +40,11 @@ pub(crate) fn report_end<O: Write, E: Write>(
             let _ = writeln!(err, "{why}");
             Ending::Declined(why)
         }
+        Ok(End::Lived(report)) => {
+            let _ = err.write_all(&report);
+            Ending::Done
+        }
+        Ok(End::OutputFailed) => Ending::OutputFailed,
         Err(fault) => {
             let _ = write_fault(err, fault);
             Ending::Fault(fault)

@@ -3,3 +3,4 @@ mod ReportLemmas
 mod SettleLemmas
 pub mod FindingLemmas
 mod CodeLemmas
+pub mod LiveLemmas

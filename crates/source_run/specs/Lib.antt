@@ -11,3 +11,4 @@ pub mod Spelling
 pub mod Codes
 pub mod Causes
 pub mod Lines
+pub mod LiveRuns

@@ -73,6 +73,31 @@ impl RunJob<'_> {
     }
 }
 
+/// A run of a source against rows that come on the standard input.
+#[derive(Clone, Copy, Debug, PartialEq, Eq)]
+pub struct LiveJob<'a> {
+    pub source: &'a str,
+    pub store: &'a str,
+    pub start: Start,
+    /// How many ticks an execution may take, as the words say: any number of 32 bits.
+    pub budget: u32,
+    /// Whether of the rows that were read together only the newest is latched.
+    pub newest: bool,
+    /// Whether a fault is explained.
+    pub explain: bool,
+}
+
+impl LiveJob<'_> {
+    ghost use Rattle.source_run.specs.Jobs.{has_own_live_store};
+
+    /// Whether the name of the retain file differs from that of the source.
+    pub fn has_own_store(&self) -> bool
+        ensures { result ≡ has_own_live_store self.now }
+    {
+        self.store != self.source
+    }
+}
+
 /// The run of a trace again.
 #[derive(Clone, Copy, Debug, PartialEq, Eq)]
 pub struct ReplayJob<'a> {
@@ -156,6 +181,7 @@ pub enum Job<'a> {
     First,
     Check(CheckJob<'a>),
     Run(RunJob<'a>),
+    Live(LiveJob<'a>),
     Replay(ReplayJob<'a>),
     Show(ShowJob<'a>),
     Plot(PlotJob<'a>),
@@ -169,6 +195,7 @@ impl Drop for Job<'_> {
             Self::First
             | Self::Check(_)
             | Self::Run(_)
+            | Self::Live(_)
             | Self::Replay(_)
             | Self::Show(_)
             | Self::Plot(_)

@@ -17,6 +17,8 @@ mod job;
 mod layouts;
 mod life;
 mod line;
+mod live_report;
+mod living;
 mod plants;
 mod progress;
 mod real_files;
@@ -35,11 +37,12 @@ pub use fault::Fault;
 pub use files::Files;
 pub use finding::{explanation, title};
 pub use job::{
-    AskedMachine, CheckJob, DEFAULT_BUDGET, DEFAULT_BUDGET_TEXT, Job, Pace, PlotJob, ReplayJob,
-    RunJob, ShowJob, Start, View, default_of_a_budget,
+    AskedMachine, CheckJob, DEFAULT_BUDGET, DEFAULT_BUDGET_TEXT, Job, LiveJob, Pace, PlotJob,
+    ReplayJob, RunJob, ShowJob, Start, View, default_of_a_budget,
 };
 pub use life::report_of;
 pub use line::write_fault;
+pub use living::{Lived, live_plan};
 pub use plants::read_rows;
 pub use real_files::RealFiles;
 pub use report::{Counts, report_with, write_variable};

@@ -30,7 +30,8 @@ use std::alloc::Global;
 use std::sync::{Arc, Wait};
 use std::thread::Threads;
 
-fn mode(start: Start) -> StartMode
+/// The start that the words ask for.
+pub(crate) fn mode(start: Start) -> StartMode
     ensures { result ≡ mode_of start }
 {
     match start {

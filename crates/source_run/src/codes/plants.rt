@@ -63,7 +63,10 @@ static EXPLANATIONS: [Explanation; 6] = [
     Explanation {
         code: "I5",
         title: "the plant can't be read",
-        meaning: &["The file doesn't exist, is a folder or can't be read."],
+        meaning: &[
+            "The file doesn't exist, is a folder or can't be read.",
+            "If the input of plant live fails later, each row that was answered is saved.",
+        ],
         example: Some(Example {
             frame: Frame::Command,
             wrong: &["plant run own.st --plant nowhere.csv --store own.retain --start cold"],

@@ -1,7 +1,7 @@
 use Rattle.std.proofs.Common.{◌∙◌, ap}
 use Rattle.csv.specs.Records.{fields_of, field_at}
 use Rattle.image.proofs.FieldLemmas.{first_and_rest, field_at-first}
-use Rattle.image.proofs.row.row.Goals as goal
+use Rattle.image.proofs.row.row_of.Goals as goal
 
 pub returns-in_default-clause-none : goal.returns-in_default-clause-none
 returns-in_default-clause-none c =

@@ -1,0 +1,4 @@
+pub mod Outputs
+pub mod Cycles
+pub mod AnswerLines
+pub mod Serving

@@ -1,0 +1,68 @@
+//! One row: latched, run until nothing waits, and saved.
+
+ghost use Rattle.std.specs.Prelude.{◌≡◌, MatchOption, MatchResult, IfErr, IfOk};
+ghost use Rattle.core_engine.specs.Steps.{waits_in};
+ghost use Rattle.durable_core.specs.Endless.{EachCoreGoesOn, InEachCore};
+ghost use Rattle.live_drive.specs.Cycles.{EndsRun, NothingWaits, Refuses, Runs, Serves, Withstands};
+
+use disk::Disk;
+use durable_core::{EndlessCore, Refusal};
+use st_meaning::Outcome;
+use st_types::{Activation, Row};
+use std::alloc::Global;
+
+/// The best activation of the first resource where something waits; none if nothing waits on any.
+fn next_waiting<D: Disk>(core: &EndlessCore<D>) -> Option<Activation>
+    ensures { InEachCore core.now (λ core. MatchOption result (NothingWaits core.state) (waits_in core.state)) }
+{
+    for resource in 0..core.plan().resources() {
+        if let Some(activation) = core.best(resource) {
+            return Some(activation);
+        }
+    }
+    None
+}
+
+/// Runs what waits, in the order of resources and of priorities, until nothing waits. It gives how many executions ended with
+/// a fault.
+///
+/// K5 if the store has failed, K6 if an allocation fails, K1 if the log is full.
+fn settle<D: Disk>(core: &mut EndlessCore<D>, alloc: Global) -> Result<u64, Refusal>
+    ensures runs { EachCoreGoesOn (λ a b. Runs a b × Withstands D.tells D.left_since D.may_leave a b) core.old core.new }
+    ensures settled { IfOk result (λ _. InEachCore core.new (λ core. NothingWaits core.state)) }
+    ensures ends { IfErr result (λ refusal. EndsRun refusal core.new) }
+{
+    core.kept();
+    let mut faults: u64 = 0;
+    for _ in 0..u64::MAX {
+        let Some(activation) = next_waiting(core) else {
+            return Ok(faults);
+        };
+        match core.commit_activation(alloc, activation)? {
+            Outcome::Done => {}
+            Outcome::Faulted(_) => faults = faults.saturating_add(1),
+        }
+    }
+    Err(Refusal::Serial(core_engine::Refusal::Full))
+}
+
+/// Latches the row, runs what is due until nothing waits, and saves. It gives how many executions ended with a fault.
+///
+/// K3 if the row doesn't fit the plan, K4 if its moment isn't later than the last one: then nothing changes. Otherwise a refusal
+/// ends the life: K5 if the store has failed before or fails now, K6 if an allocation fails, K1 if the log is full.
+pub(crate) fn cycle<D: Disk>(
+    core: &mut EndlessCore<D>,
+    alloc: Global,
+    row: &Row,
+) -> Result<u64, Refusal>
+    ensures { MatchResult result
+        (λ _. EachCoreGoesOn
+        (λ a b. Serves a row.now b × Withstands D.tells D.left_since D.may_leave a b) core.old core.new)
+        (λ refusal. EachCoreGoesOn
+        (λ a b. Refuses a row.now refusal b × Withstands D.tells D.left_since D.may_leave a b) core.old core.new) }
+{
+    core.latch(row)?;
+    let faults = settle(core, alloc)?;
+    core.flush()?;
+    Ok(faults)
+}

@@ -1,0 +1,4 @@
+pub mod LineLemmas
+pub mod RowLineLemmas
+pub mod LineLaws
+pub mod RowLaws

@@ -1,0 +1,1 @@
+run modbus.st --plant plant.csv --store modbus.retain --start cold

@@ -1,0 +1,1 @@
+run modbus.st --plant next.csv --store modbus.retain --start warm

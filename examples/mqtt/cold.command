@@ -1,0 +1,1 @@
+run mqtt.st --plant plant.csv --store mqtt.retain --start cold

@@ -1,0 +1,1 @@
+run mqtt.st --plant next.csv --store mqtt.retain --start warm
