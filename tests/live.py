@@ -135,6 +135,12 @@ class Life:
         line, _, self.kept = self.kept.partition(b"\n")
         return line + b"\n"
 
+    def row(self):
+        """The next line, which has to come."""
+        line = self.line()
+        check(line, f"no line came: {line}")
+        return line
+
     def expect(self, *lines):
         for wanted in lines:
             line = self.line()
@@ -412,6 +418,163 @@ def newest(scene):
     check(counts == ["4", "1", "2", "1", "2", "1"], errors)
 
 
+def moments_of(out):
+    """The moments of the answers after the header."""
+    return [int(it.partition(b",")[0]) for it in out.splitlines()[1:]]
+
+
+def stamps(scene):
+    """With --stamp lines have no moments, and the clock gives each a later one than the last."""
+    begun = time.time_ns() // 1_000_000
+    out, errors = scene.well(b"b,i,u,w\r\n" + b"1,2,3,4\n" * 200 + b"0,0,9,8\r\n", more=("--stamp",))
+    moments, lines = moments_of(out), out.splitlines()
+    check(lines[0] + b"\n" == ANSWERED and moments == sorted({*moments}) and len(moments) == 201, shown(out))
+    check(begun - 5_000 < moments[0] and moments[-1] < time.time_ns() // 1_000_000 + 5_000, f"moments {moments[0]} to {moments[-1]}")
+    check(lines[200] == b"%d,200,0,1,400,3,4" % moments[199] and lines[201] == b"%d,201,0,0,400,9,8" % moments[200], shown(out))
+    check([value_of(errors, it) for it in ("lines", "refused", "rows", "N")] == ["201", "0", "201", "201"], errors)
+
+    # What is no row has the moment at which it came, if it is a whole line.
+    bad = [b"10,1,2,3,4", b"x,2,3,4", b"", b"1,2,3", b"1,2,3,4,5", b",1,2,3,4", b"1,2,3,65536", b"\r", b"1,2,3,4\r\r"]
+    out, errors = scene.well(b"b,i,u,w\n" + b"".join(it + b"\n" for it in bad) + b"1,2,3,4\n1,2,3,4", more=("--stamp",))
+    wanted = [rb"\d{13},refused I2"] * len(bad) + [rb"\d{13},1,0,1,2,3,4", rb",refused I2"]
+    for line, answer, form in zip([*bad, b"1,2,3,4", b"1,2,3,4 without LF"], out.splitlines()[1:], wanted, strict=True):
+        check(re.fullmatch(form, answer), f"{line} is answered with {answer}")
+    check([it for it, _ in refused_lines(errors)] == [str(2 + k) for k in range(len(bad))] + [str(3 + len(bad))], errors)
+    for header in (HEADER, b"t\n", b"\n", b"i,b,u,w\n", b",b,i,u,w\n"):
+        got = scene.live(header, more=("--stamp",))
+        check(got == (3, b"", "fault I1\n"), f"the header {header} with --stamp: {got}")
+
+    # Moments go on from a kept one that is ahead of the clock, and without a moment K4 can't come.
+    ahead = 4_000_000_000_000_000
+    scene.well(HEADER + b"%d,0,0,0,0\n" % ahead)
+    out, _ = scene.well(b"b,i,u,w\n" + b"0,0,0,0\n" * 3, start="warm", more=("--stamp",))
+    check(moments_of(out) == [ahead + 1, ahead + 2, ahead + 3], shown(out))
+    last = (1 << 62) - 1
+    scene.well(HEADER + b"%d,0,0,0,0\n" % (last - 1))
+    out, _ = scene.well(b"b,i,u,w\n" + b"0,0,0,0\n" * 3, start="warm", more=("--stamp",))
+    wanted = [b"%d,2,0,0,0,0,0" % last, b",refused I2", b",refused I2"]
+    check(out.splitlines()[1:] == wanted, f"after the last moment of all: {shown(out)}")
+
+    # Moments go with the clock, and `missed` lines have theirs.
+    with Life([*scene.words("store", "cold"), "--stamp"]) as life:
+        life.send(b"b,i,u,w\n0,0,0,0\n")
+        life.expect(ANSWERED)
+        first = int(life.row().partition(b",")[0])
+        time.sleep(0.3)
+        life.send(b"0,0,0,0\n")
+        second = int(life.row().partition(b",")[0])
+        check(290 <= second - first < 30_000 and life.end() == 0, f"{first} and then {second}")
+    out, _ = scene.well(b"b,i,u,w\n" + b"1,1,1,1\n" * 3 + b"1,2,3,4\n", more=("--stamp", "--newest"))
+    forms = [rb"\d{13},missed"] * 3 + [rb"\d{13},1,0,1,2,3,4"]
+    for form, line in zip(forms, out.splitlines()[1:], strict=True):
+        check(re.fullmatch(form, line), shown(out))
+    longest = b"5" * (LONGEST - 8)
+    out, _ = scene.well(b"b,i,u,w\n1,2,3,4%s\n1,2,3,%s\n1,2,3,4\n" % (longest, longest + b"55"), more=("--stamp",))
+    check(re.search(rb"\n\d{13},refused I2\n\d{13},refused I2\n\d{13},1,0,1,2,3,4\n$", out), shown(out))
+
+    # A text without inputs has an empty header and empty rows.
+    scene.path("text.st").write_text(COUNT)
+    out, errors = scene.well(b"\n" * 4, more=("--stamp",))
+    check([it.partition(b",")[2] for it in out.splitlines()] == [b"LOW,HIGH", b"1,0", b"2,0", b"3,0"], shown(out))
+
+
+def ticks(scene):
+    """With --every a row comes by the clock with the newest inputs, from the first line to the end of the input."""
+    with Life([*scene.words("store", "cold"), "--every", "20ms"]) as life:
+        life.send(b"b,i,u,w\n")
+        life.expect(ANSWERED)
+        check(life.line(0.2) is None, "a row before the first line")
+        begun = time.monotonic()
+        life.send(b"1,1,7,4\n")
+        answers = [life.row() for _ in range(30)]
+        took = 1000 * (time.monotonic() - begun)
+        moments = [int(it.partition(b",")[0]) for it in answers]
+        check(answers == [b"%d,%d,0,1,%d,7,4\n" % (t, k + 1, k + 1) for k, t in enumerate(moments)], f"{answers}")
+        check(moments == sorted({*moments}), f"moments {moments}")
+        # No row is early; on a slow machine ticks are left out.
+        check(28 * 20 < moments[-1] - moments[0] + 20 and abs(moments[-1] - moments[0] - took) < 500 + took / 2, f"{moments} in {took} ms")
+        life.send(b"1,x,7,4\n")
+        count = 30
+        for _ in range(5):
+            count += 1
+            answer = life.row()
+            check(answer.endswith(b",%d,0,1,%d,7,4\n" % (count, count)), f"row {count} after a bad line: {answer}")
+        life.send(b"".join(b"0,0,%d,5\n" % k for k in range(40)))
+        while b",39,5\n" not in answer:
+            answer = life.row()
+            count += 1
+            check(answer.split(b",")[1] == b"%d" % count and count < 500, f"row {count}: {answer}")
+        life.send(b"1,0,8,5")
+        check(life.end() == 0, life.errors.decode())
+        while answer := life.line():
+            count += 1
+            check(answer.split(b",")[1] == b"%d" % count and answer.endswith(b",39,5\n"), f"row {count}: {answer}")
+    errors = life.errors.decode()
+    lines, refused, missed, rows = (int(value_of(errors, it)) for it in ("lines", "refused", "missed", "rows"))
+    check((lines, refused, rows) == (43, 2, count) and 1 <= missed <= 39, errors)
+    check(refused_lines(errors) == [("3", "I2"), ("44", "I2")] and scene.kept() == count, errors)
+
+    # Of lines that are there at once the last counts in the end; no line makes no row.
+    out, errors = scene.well(b"b,i,u,w\n" + b"1,1,1,1\n" * 9 + b"1,2,3,4\n", more=("--every", "50ms"))
+    counts = int(value_of(errors, "missed")), int(value_of(errors, "rows"))
+    check(out.splitlines()[-1].endswith(b",3,4") and sum(counts) >= 10, f"{out} {errors}")
+    out, errors = scene.well(b"b,i,u,w\n", more=("--every", "3ms"))
+    check(out == ANSWERED and value_of(errors, "rows") == "0", f"{out} {errors}")
+    # The end of the input doesn't wait for a tick, and the last line still counts.
+    begun = time.monotonic()
+    out, errors = scene.well(b"b,i,u,w\n1,30000,0,0\n", more=("--every", "3600s", "--stamp", "--newest"))
+    check(out.endswith(b",1,0,1,30000,0,0\n") and out.count(b"\n") == 2, shown(out))
+    check(time.monotonic() - begun < 20, "the end of the input came late")
+    got = scene.live(HEADER, more=("--every", "5ms"))
+    check(got == (3, b"", "fault I1\n"), f"a header with t: {got}")
+    for text in ("", "0ms", "10", "ms", "s", "-1ms", "+1ms", "1.5s", "1h", "3601s", "3600001ms", "99999999999ms", "10 ms", "1s500ms"):
+        status, out, errors = scene.live(HEADER, more=(f"--every={text}",))
+        check((status, out) == (1, b"") and errors.startswith("error: "), f"--every {text}: {status}, {errors}")
+
+    # A fault names its row.
+    with Life([*scene.words("faults", "cold"), "--every", "2ms"]) as life:
+        life.send(b"b,i,u,w\n1,20000,0,0\n")
+        life.expect(ANSWERED)
+        answers = [life.row() for _ in range(5)]
+        check([it.partition(b",")[2] for it in answers] == [b"1,0,1,20000,0,0\n"] * 5, f"{answers}")
+        check(life.end() == 0 and life.errors.startswith(b"row 2: 1 faults\nrow 3: 1 faults\n"), life.errors[:200].decode())
+
+    # Killed between its ticks, it has kept all that it answered.
+    known = scene.kept()
+    for turn in range(10):
+        with Life([*scene.words("store", "warm"), "--every", "2ms"]) as life:
+            life.send(b"b,i,u,w\n0,0,0,0\n")
+            life.expect(ANSWERED)
+            for _ in range(3 + turn):
+                last = words_of(life.row())
+            life.running.kill()
+            life.running.wait(PATIENCE)
+            while line := tail(life):
+                last = words_of(line)
+        known, before = scene.kept(), known
+        check(last <= known <= last + 1 and last > before, f"{known} is kept, the last answer had {last}")
+    # The thread that waits for a line doesn't hold a life that ends.
+    with Life([*scene.words("store", "warm"), "--every", "2ms"]) as life:
+        life.send(b"b,i,u,w\n0,0,0,0\n")
+        life.expect(ANSWERED)
+        life.running.stdout.close()
+        check(life.running.wait(PATIENCE) == 5, f"status {life.running.returncode} for a closed output")
+    scene.well(HEADER + b"1,0,0,0,0\n", store="small")
+    with Life([*scene.words("small", "warm"), "--every", "2ms"], **limited(131_072)) as life:
+        life.send(b"b,i,u,w\n0,0,0,0\n")
+        check(life.running.wait(PATIENCE) == 5, f"status {life.running.returncode} for a full store")
+        life.listener.join(PATIENCE)
+        check(life.errors == b"fault K5\n", life.errors.decode())
+
+    # A text without inputs needs no line.
+    scene.path("text.st").write_text(COUNT)
+    with Life([*scene.words("count", "cold"), "--every", "2ms"]) as life:
+        life.send(b"\n")
+        life.expect(b"t,LOW,HIGH\n")
+        check([words_of(life.row()) for _ in range(9)] == [*range(1, 10)], "rows without inputs")
+        check(life.end() == 0, life.errors.decode())
+
+
 def torn(scene):
     """A last line without its LF is refused, wherever it was cut, and so is a whole one."""
     last = b"20,1,2,3,42"
@@ -598,6 +761,14 @@ def refused_starts(scene):
     before = scene.path("text.st").read_bytes()
     (scene.path("bad.st")).write_text("PROGRAM P $ END_PROGRAM")
     os.link(scene.path("text.st"), scene.path("same"))
+    scene.path("rows.csv").write_bytes(HEADER)
+    with scene.path("rows.csv").open("r+b") as rows:
+        for stream in ("stdin", "stderr"):
+            # The message goes after the header.
+            rows.seek(0, os.SEEK_END if stream == "stderr" else os.SEEK_SET)
+            pipes = {"stdin": subprocess.DEVNULL, "stdout": subprocess.PIPE, "stderr": subprocess.PIPE, stream: rows}
+            ended = subprocess.run(scene.words("rows.csv", "cold"), timeout=PATIENCE, check=False, **pipes)
+            check(ended.returncode == 1 and scene.path("rows.csv").read_bytes().startswith(HEADER), f"a retain file that is {stream}: {ended}")
     for words, status, error in (
         ([*scene.words("text.st", "cold")], 1, "error: "),
         ([*scene.words("same", "cold")], 1, "error: "),
@@ -675,7 +846,7 @@ def closed_streams(scene):
 
 def words_of(row):
     """The counter that an answer has."""
-    _, low, high = row.split(b",")
+    _, low, high = row.split(b",")[:3]
     return int(low) + 65_536 * int(high)
 
 
@@ -784,7 +955,7 @@ def main():
     plant = str(pathlib.Path(sys.argv[1]).resolve())
     rows = int(sys.argv[2]) if len(sys.argv) > 2 else 100_000
     memory = "/dev/shm" if os.access("/dev/shm", os.W_OK) else None
-    scenes = [examples, bad_lines, random_lines, widest, faults, newest, torn, long_lines, headers, closed_output, one_at_a_time, slow_reader, same_again, two_lives]
+    scenes = [examples, bad_lines, random_lines, widest, faults, newest, stamps, ticks, torn, long_lines, headers, closed_output, one_at_a_time, slow_reader, same_again, two_lives]
     scenes += [refused_starts, another_layout, failing_store, closed_streams, killed, many_rows]
     long_ones = (random_lines, slow_reader, many_rows)
     wrong, notes = [], []

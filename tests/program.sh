@@ -341,7 +341,7 @@ refused "the plant as a retain file" 1 $(run own.st own.csv own.csv warm)
 refused "the trace as a retain file" 1 $(run own.st own.csv own.txt cold) --trace own.txt
 [ ! -e own.txt ] || fail "a refused run made a trace"
 for name in ./own.st link.st hard.csv "$work/own.csv"; do
-    scene "$name as a retain file" 1 "" "error: the retain file is the source, the plant, the trace or the standard output" \
+    scene "$name as a retain file" 1 "" "error: the retain file is the source, the plant, the trace or a standard stream" \
         $(run own.st own.csv "$name" cold)
 done
 cmp -s s.st own.st && cmp -s rows.csv own.csv || fail "a refused run changed its source or its plant"

@@ -63,7 +63,8 @@ def drive(device, plant):
 
 
 def made_safe(device):
-    """Writes the safe state, and says whether the device took it."""
+    """Writes the safe state over a new connection, since a reply may be on its way over the old one, and says whether the device took it."""
+    device.close()
     try:
         checked(device.write_coils(0, SAFE))
     except (OSError, ModbusException) as fault:

@@ -1,11 +1,12 @@
 -- The lines that go out.
-use Rattle.std.specs.Prelude.{◌++◌, ◌∷◌, [], ℕ, List, Option, Some, None, map, slice_get, unwrap_or, codes}
+use Rattle.std.specs.Prelude.{◌++◌, ◌∷◌, [], ℕ, List, true, false, Option, Some, None, Result, Ok, Err, map, slice_get, unwrap_or, codes}
 use Rattle.std.specs.List.{flat_map}
 use Rattle.std.specs.Fmt.{decimal, signed_decimal}
 use Rattle.st_types.specs.Values.{Datum}
 use Rattle.st_meaning.specs.Logs.{last_moment}
 use Rattle.core_engine.specs.Steps.{State, past_in}
 use Rattle.plan.specs.declared.plan.Plan.{Plan}
+use Rattle.trace.specs.Puts.{IsPut}
 use Rattle.st_meaning.specs.declared.plan.PlanVariable.{PlanVariable}
 use Rattle.live_drive.specs.declared.answers.Missed.{Missed}
 use Rattle.live_drive.specs.declared.answers.Missed.TheVariants.{NoRow, NotLater, Newer}
@@ -53,3 +54,8 @@ moment_field (Some moment) = decimal moment
 -- the line for a line without outputs: its moment, if it spells one, and why
 abbrev pub missed_line : Option ℕ → Missed → List ℕ
 missed_line moment missed = moment_field moment ++ 44 ∷ missed_text missed ++ 10 ∷ []
+
+-- a line goes out: all of it; or a beginning, if sending fails
+abbrev pub Sends : {E : Type 0} → Result (Unit {0}) E → Option (List ℕ) → Option (List ℕ) → List ℕ → Type 0
+Sends (Ok u) old new line = IsPut old new true line
+Sends (Err e) old new line = IsPut old new false line

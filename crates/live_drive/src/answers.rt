@@ -1,9 +1,8 @@
 //! The lines that go out.
 
-ghost use Rattle.std.specs.Prelude.{◌≡◌, ◌++◌, [], ◌∷◌, ℕ, List, OnOk, slice_get};
-ghost use Rattle.std.specs.Io.KnownBytes.{Appends};
+ghost use Rattle.std.specs.Prelude.{◌≡◌, ◌++◌, [], ◌∷◌, ℕ, List, IfOk, OnOk, slice_get};
 ghost use Rattle.durable_core.specs.Endless.{InEachCore};
-ghost use Rattle.live_drive.specs.AnswerLines.{header_line, missed_line, missed_text, outputs_now};
+ghost use Rattle.live_drive.specs.AnswerLines.{Sends, header_line, missed_line, missed_text, outputs_now};
 ghost use Rattle.live_drive.specs.AnswerLines.{name_field, name_fields, value_field, value_fields};
 ghost use Rattle.live_drive.specs.Cycles.{HasSettledLife};
 
@@ -12,10 +11,15 @@ use durable_core::EndlessCore;
 use plan::Plan;
 use st_meaning::PlanVariable;
 use st_types::Value;
-use std::alloc::Global;
+use st_types::limits::MAX_NAME_LENGTH;
+use std::alloc::{AllocError, Global};
 use std::io;
 use std::io::Write;
 use std::marker::Model;
+use trace::put;
+
+/// As many bytes as a field has at most, with the comma before it: those of a name, since a number has fewer.
+const MOST_BYTES: usize = MAX_NAME_LENGTH + 1;
 
 /// Why a line has no outputs as its answer.
 #[derive(Clone, Copy, Debug, PartialEq, Eq)]
@@ -100,29 +104,32 @@ fn put_names(line: &mut Vec<u8>, outputs: &[usize], variables: &[PlanVariable]) 
     Ok(())
 }
 
-/// Writes a line and its LF, and hands all of it on.
+/// Writes a line and its LF, and hands all of it on. If that fails, a beginning of it may have gone out.
 fn send<W: Write>(out: &mut W, line: &mut Vec<u8>) -> io::Result<()>
-    ensures { OnOk result (Appends (W.contents out.old) (W.contents out.new) (line.old.items ++ 10 ∷ [])) }
+    ensures { Sends result (W.contents out.old) (W.contents out.new) (line.old.items ++ 10 ∷ []) }
 {
     line.push(b'\n')?;
-    out.write_all(line)?;
+    if !put(out, true, line) {
+        return Err(io::Error::from(io::ErrorKind::WriteZero));
+    }
     out.flush()
 }
 
 impl Answers {
-    /// Makes lines of the values of these variables.
-    pub fn new(alloc: Global, outputs: Vec<usize>) -> Answers
-        ensures { result ≡ outputs.items }
+    /// Makes lines of the values of these variables. It takes the memory for a line here.
+    pub fn new(alloc: Global, outputs: Vec<usize>) -> Result<Answers, AllocError>
+        ensures { IfOk result (λ answers. answers ≡ outputs.items) }
     {
-        Answers {
-            line: Vec::new(alloc),
+        let fields = outputs.len().saturating_add(2);
+        Ok(Answers {
+            line: Vec::with_capacity(alloc, fields.saturating_mul(MOST_BYTES))?,
             outputs,
-        }
+        })
     }
 
     /// Sends the header: `t` and the names of the outputs.
     pub fn send_header<W: Write>(&mut self, out: &mut W, plan: &Plan) -> io::Result<()>
-        ensures sent { OnOk result (Appends (W.contents out.old) (W.contents out.new) (header_line plan.now self.old)) }
+        ensures sent { Sends result (W.contents out.old) (W.contents out.new) (header_line plan.now self.old) }
         ensures outputs { self.new ≡ self.old }
     {
         self.line.clear();
@@ -139,7 +146,7 @@ impl Answers {
         core: &EndlessCore<D>,
     ) -> io::Result<()>
         requires settled { HasSettledLife core.now }
-        ensures sent { (line : List ℕ) × OnOk result (Appends (W.contents out.old) (W.contents out.new) line)
+        ensures sent { (line : List ℕ) × Sends result (W.contents out.old) (W.contents out.new) line
             × InEachCore core.now (λ core. line ≡ outputs_now self.old core.state) }
         ensures outputs { self.new ≡ self.old }
     {
@@ -158,7 +165,7 @@ impl Answers {
         moment: Option<u64>,
         missed: Missed,
     ) -> io::Result<()>
-        ensures sent { OnOk result (Appends (W.contents out.old) (W.contents out.new) (missed_line moment missed)) }
+        ensures sent { Sends result (W.contents out.old) (W.contents out.new) (missed_line moment missed) }
         ensures outputs { self.new ≡ self.old }
     {
         self.line.clear();

@@ -1,9 +1,8 @@
 //! One row: latched, run until nothing waits, and saved.
 
 ghost use Rattle.std.specs.Prelude.{◌≡◌, MatchOption, MatchResult, IfErr, IfOk};
-ghost use Rattle.core_engine.specs.Steps.{waits_in};
 ghost use Rattle.durable_core.specs.Endless.{EachCoreGoesOn, InEachCore};
-ghost use Rattle.live_drive.specs.Cycles.{EndsRun, NothingWaits, Refuses, Runs, Serves, Withstands};
+ghost use Rattle.live_drive.specs.Cycles.{EndsRun, IsNext, NothingWaits, Refuses, Runs, Serves, Withstands};
 
 use disk::Disk;
 use durable_core::{EndlessCore, Refusal};
@@ -13,7 +12,7 @@ use std::alloc::Global;
 
 /// The best activation of the first resource where something waits; none if nothing waits on any.
 fn next_waiting<D: Disk>(core: &EndlessCore<D>) -> Option<Activation>
-    ensures { InEachCore core.now (λ core. MatchOption result (NothingWaits core.state) (waits_in core.state)) }
+    ensures { InEachCore core.now (λ core. MatchOption result (NothingWaits core.state) (IsNext core.state)) }
 {
     for resource in 0..core.plan().resources() {
         if let Some(activation) = core.best(resource) {
@@ -43,7 +42,8 @@ fn settle<D: Disk>(core: &mut EndlessCore<D>, alloc: Global) -> Result<u64, Refu
             Outcome::Faulted(_) => faults = faults.saturating_add(1),
         }
     }
-    Err(Refusal::Serial(core_engine::Refusal::Full))
+    // No row has so many executions.
+    Err(Refusal::Serial(core_engine::Refusal::NoMemory))
 }
 
 /// Latches the row, runs what is due until nothing waits, and saves. It gives how many executions ended with a fault.

@@ -5,8 +5,7 @@ use Rattle.std.proofs.lemmas.List.Elements.{All-from_get_or, All-nil, All-cons, 
 use Rattle.std.specs.Io.KnownBytes.{Consumes}
 use Rattle.std.specs.Io.BufRead.{drop_through, DropsThrough}
 use Rattle.memchr.specs.Find.{IsFirstByte, is_byte}
-use Rattle.std.specs.Prelude.{is_some, IsTrue}
-use Rattle.std.specs.Io.KnownBytes.{prepend_known}
+use Rattle.std.specs.Prelude.{is_some, MatchBool}
 use Rattle.live_rows.specs.Lines.{HasLf, HasNoLf, ReadsLine}
 use Rattle.live_rows.specs.declared.line_reader.TheConstants.{MAX_LINE_BYTES}
 use Rattle.live_rows.specs.declared.line_reader.LineEnd.TheVariants.{Whole, TooLong}
@@ -88,23 +87,24 @@ ReadsLine-too_long (Some x) (Some y) (Some z) d line more long first second p q 
       ],
     )
 
--- bytes that were read ahead and have an LF are bytes that are left
-pub lf_ahead : (ahead : List ℕ) (rest : Option (List ℕ)) (empty : Bool) (end : ℕ)
-    → IsFirstByte (is_byte 10) ahead (Some end) → HasLf (cond empty None (prepend_known ahead rest))
-lf_ahead ahead rest true end found = tt
-lf_ahead ahead None false end found = tt
-lf_ahead ahead (Some rest) false end found =
-    let all : take (length ahead) ahead ≡ ahead = take_all (length ahead) ahead (le_refl _) in
-    let first = found_lf ahead (length ahead) end (le_refl _)
+-- a search through bytes says whether there is an LF
+lf_found : (bytes : List ℕ) (found : Option ℕ) → IsFirstByte (is_byte 10) bytes found
+    → MatchBool (is_some found) (HasLf bytes) (HasNoLf bytes)
+lf_found bytes (Some end) found =
+    let all : take (length bytes) bytes ≡ bytes = take_all (length bytes) bytes (le_refl _) in
+    let first = found_lf bytes (length bytes) end (le_refl _)
     (subst (λ l. IsFirstByte (is_byte 10) l (Some end)) (sym all) found) in (
-      take end ahead,
-      drop (end + 1) ahead ++ rest,
-      ap (λ l. l ++ rest) (sym (take-append-drop (end + 1) ahead) ∙ ap (λ l. l ++ drop (end + 1) ahead) first.2)
-          ∙ ap (λ l. l ++ rest) (append_assoc (take end ahead) (10 ∷ []) (drop (end + 1) ahead))
-          ∙ append_assoc (take end ahead) (10 ∷ drop (end + 1) ahead) rest,
+      take end bytes,
+      drop (end + 1) bytes,
+      sym (take-append-drop (end + 1) bytes) ∙ ap (λ l. l ++ drop (end + 1) bytes) first.2
+          ∙ append_assoc (take end bytes) (10 ∷ []) (drop (end + 1) bytes),
     )
+lf_found bytes None found =
+    let all : take (length bytes) bytes ≡ bytes = take_all (length bytes) bytes (le_refl _) in
+    subst HasNoLf all (HasNoLf-none bytes (length bytes) (le_refl _)
+    (subst (λ l. IsFirstByte (is_byte 10) l None) (sym all) found))
 
-pub lf_there : (ahead : List ℕ) (rest : Option (List ℕ)) (empty : Bool) (found : Option ℕ) (is : Bool)
-    → IsFirstByte (is_byte 10) ahead found → is ≡ is_some found → IsTrue is → HasLf (cond empty None (prepend_known ahead rest))
-lf_there ahead rest empty (Some end) is first same so = lf_ahead ahead rest empty end first
-lf_there ahead rest empty None is first same so = absurd (true≢false (sym (subst IsTrue same so)))
+pub lf_there : (bytes : List ℕ) (found : Option ℕ) (is : Bool) → IsFirstByte (is_byte 10) bytes found → is ≡ is_some found
+    → MatchBool is (HasLf bytes) (HasNoLf bytes)
+lf_there bytes found is first same =
+    subst (λ b. MatchBool b (HasLf bytes) (HasNoLf bytes)) (sym same) (lf_found bytes found first)

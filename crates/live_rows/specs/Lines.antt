@@ -7,9 +7,11 @@ use Rattle.live_rows.specs.declared.line_reader.LineEnd.TheVariants.{Whole, TooL
 use Rattle.live_rows.specs.declared.line_reader.Part.{Part}
 use Rattle.live_rows.specs.declared.line_reader.Part.TheVariants.{Begun, Ended, NoMore}
 
--- a reader by lines as callers see it: the bytes that are left, if they are known, and the line that was read last
+-- a reader by lines as callers see it: the bytes that are left, if they are known; those of them that were read already;
+-- and the line that was read last
 pub record LinesView : Type 0 where
   pub left : Option (List ℕ)
+  pub ahead : List ℕ
   pub line : List ℕ
 
 -- without a line feed
@@ -33,10 +35,9 @@ ReadsLine (Some bytes) line None end = ⊥
 ReadsLine (Some bytes) line (Some rest) None = (bytes ≡ []) × (rest ≡ [])
 ReadsLine (Some bytes) line (Some rest) (Some end) = BeginsWith end line bytes rest
 
--- a line feed is still to come, if the bytes are known
-abbrev pub HasLf : Option (List ℕ) → Type 0
-HasLf None = ⊤
-HasLf (Some bytes) = (line : List ℕ) × (rest : List ℕ) × (bytes ≡ line ++ 10 ∷ rest)
+-- a line feed is among the bytes
+abbrev pub HasLf : List ℕ → Type 0
+HasLf bytes = (line : List ℕ) × (rest : List ℕ) × (bytes ≡ line ++ 10 ∷ rest)
 
 -- what a part of a line takes from the bytes: itself, and its line feed if it ends; nothing at their end
 abbrev pub TakesPart : Part → List ℕ → Option (List ℕ) → Option (List ℕ) → Type 0

@@ -1,8 +1,11 @@
 -- Lines that spell rows.
-use Rattle.std.specs.Prelude.{◌++◌, ℕ, List, [], ◌∷◌, if◌then◌else◌, ◌==◌}
+use Rattle.std.specs.Prelude.{◌++◌, ℕ, List, [], ◌∷◌, Option, Some, None, if◌then◌else◌, ◌==◌, codes}
+use Rattle.std.specs.Fmt.{decimal}
 use Rattle.std.specs.Io.BufRead.{strip_last}
 use Rattle.st_types.specs.Rows.{Latch}
 use Rattle.image.specs.Plants.{Fields, spelled}
+use Rattle.live_rows.specs.declared.timed_line.Moments.{Moments}
+use Rattle.live_rows.specs.declared.timed_line.Moments.TheVariants.{Own, Clock}
 
 -- a line without a carriage return at its end
 abbrev pub without_cr : List ℕ → List ℕ
@@ -39,3 +42,21 @@ joined (field ∷ fields) = field ++ 44 ∷ joined fields
 -- the line that spells a row: its moment and its values in decimal, with commas between them
 abbrev pub row_line : Latch → List ℕ
 row_line row = joined (spelled row)
+
+-- a line after a comma, or alone if it is empty but for a carriage return
+abbrev pub comma_before : List ℕ → List ℕ → List ℕ
+comma_before [] line = line
+comma_before (byte ∷ bytes) line = 44 ∷ line
+
+abbrev pub after_comma : List ℕ → List ℕ
+after_comma line = comma_before (without_cr line) line
+
+-- a line after the moment that the clock gave, if it did; otherwise the line has its own
+abbrev pub timed : Option ℕ → List ℕ → List ℕ
+timed None line = line
+timed (Some moment) line = decimal moment ++ after_comma line
+
+-- the header of a plant: the line itself, or after `t` if the clock gives moments
+abbrev pub headed : Moments → List ℕ → List ℕ
+headed Own line = line
+headed Clock line = codes "t" ++ after_comma line

@@ -1,6 +1,6 @@
 //! Laws of lines and of the rows that they spell. The functions do nothing: their contracts are the laws.
 
-ghost use Rattle.std.specs.Prelude.{◌≡◌, ◌≢◌, ◌<◌, ◌^◌, ◌++◌, ◌∷◌, [], ℕ, List, All, codes, negsuc};
+ghost use Rattle.std.specs.Prelude.{◌≡◌, ◌≢◌, ◌<◌, ◌^◌, ◌++◌, ◌∷◌, [], ℕ, List, Some, None, All, codes, negsuc};
 ghost use Rattle.st_types.specs.Kinds.{names_in};
 ghost use Rattle.st_types.specs.Rows.{Latch};
 ghost use Rattle.st_types.specs.declared.kind.Kind.TheVariants.{Int};
@@ -9,7 +9,8 @@ ghost use Rattle.image.specs.Plants.{IsRowOf};
 ghost use Rattle.live_rows.specs.declared.line_reader.LineEnd.{LineEnd};
 ghost use Rattle.live_rows.specs.declared.line_reader.LineEnd.TheVariants.{Whole, TooLong, Unfinished};
 ghost use Rattle.live_rows.specs.Lines.{BeginsWith};
-ghost use Rattle.live_rows.specs.RowLines.{line_fields, row_line};
+ghost use Rattle.live_rows.specs.RowLines.{headed, line_fields, row_line, timed};
+ghost use Rattle.live_rows.specs.declared.timed_line.Moments.TheVariants.{Own, Clock};
 
 /// Bytes begin with a line unless there are none, and with one line only: its end, what is left after it, and the line itself,
 /// unless it is left out, are settled by the bytes.
@@ -30,6 +31,16 @@ pub fn lines_end_so()
 pub fn a_line_spells_a_row()
     ensures fields { line_fields (codes "10,-4" ++ 13 ∷ []) ≡ codes "10" ∷ codes "-4" ∷ [] }
     ensures row { row_line (record { moment = 10; image = record { kind = Int; number = negsuc 3 } ∷ [] }) ≡ codes "10,-4" }
+{}
+
+/// With 12 from the clock the line `413,0` is `12,413,0`, and an empty line, of a plant without inputs, is `12`. The
+/// header `level,stop` is `t,level,stop` then, and stays as it is if lines have their own moments.
+pub fn moments_stand_before_lines()
+    ensures timed { timed (Some 12) (codes "413,0") ≡ codes "12,413,0" }
+    ensures empty { timed (Some 12) (13 ∷ []) ≡ codes "12" ++ 13 ∷ [] }
+    ensures own { timed None (codes "12,413,0") ≡ codes "12,413,0" }
+    ensures header { headed Clock (codes "level,stop") ≡ codes "t,level,stop" }
+    ensures own_header { headed Own (codes "t,level") ≡ codes "t,level" }
 {}
 
 /// A line spells one row only of a plan whose types have fewer than 65,536 names each, as all have.

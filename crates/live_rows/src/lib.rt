@@ -7,9 +7,12 @@
 mod laws;
 mod line_reader;
 mod row_reader;
+mod timed_line;
 
 pub use laws::{
     a_line_spells_a_row, a_line_spells_one_row, bytes_begin_with_one_line, lines_end_so,
+    moments_stand_before_lines,
 };
 pub use line_reader::{LineEnd, LineReader, MAX_LINE_BYTES};
 pub use row_reader::{RowReader, moment_of};
+pub use timed_line::{Moments, TimedLine};

@@ -1,6 +1,6 @@
 //! Lines of an input that goes on, in bounded memory.
 
-ghost use Rattle.std.specs.Prelude.{◌≡◌, ◌+◌, ◌<◌, ◌≤◌, ◌++◌, ℕ, List, length, IfOk, IsTrue};
+ghost use Rattle.std.specs.Prelude.{◌≡◌, ◌+◌, ◌<◌, ◌≤◌, ◌++◌, ℕ, List, length, IfOk, MatchBool};
 ghost use Rattle.live_rows.specs.Lines.{HasLf, HasNoLf, ReadsLine, TakesPart};
 
 use memchr::memchr;
@@ -47,13 +47,14 @@ pub struct LineReader<R: Read + Drop> {
 
 impl<R: Read + Drop> Model for LineReader<R> {
     ghost use Rattle.std.specs.Prelude.{vec_items};
-    ghost use Rattle.std.specs.Io.Buffered.{reader_remaining};
+    ghost use Rattle.std.specs.Io.Buffered.{reader_buffer, reader_remaining};
     ghost use Rattle.live_rows.specs.Lines.{LinesView};
 
     ghost Value = { LinesView };
 
     ghost view = { λ x. record {
       left = reader_remaining R.remaining x.reader;
+      ahead = reader_buffer x.reader;
       line = vec_items x.line;
     } };
 }
@@ -110,9 +111,9 @@ impl<R: Read + Drop> LineReader<R> {
         &self.line
     }
 
-    /// Whether bytes with a line feed were read already, so that the next line comes without a wait.
+    /// Whether a line feed is among the bytes that were read already, so that the next line comes without a wait.
     pub fn has_line(&self) -> bool
-        ensures { IsTrue result → HasLf self.now.left }
+        ensures { MatchBool result (HasLf self.now.ahead) (HasNoLf self.now.ahead) }
     {
         memchr(b'\n', self.reader.buffer()).is_some()
     }

@@ -23,7 +23,7 @@ pub struct RowReader {
 }
 
 /// A line without a carriage return at its end.
-fn without_cr(line: &[u8]) -> &[u8]
+pub(crate) fn without_cr(line: &[u8]) -> &[u8]
     ensures { result.now ≡ without_cr line.now }
 {
     match line {

@@ -5,7 +5,6 @@ use Rattle.source_run.specs.declared.job.Job.{Job}
 use Rattle.source_run.specs.declared.job.Job.TheVariants as jobs
 use Rattle.source_run.specs.declared.job.LiveJob.{LiveJob}
 use Rattle.source_run.specs.declared.fault.Fault as faults
-use Rattle.live_drive.specs.declared.serving.End.TheVariants.{Input}
 use Rattle.plant_main.specs.declared.ending.Ending.{Ending}
 use Rattle.plant_main.specs.declared.ending.Ending.TheVariants.{Done, Helped, Misworded, Declined, Fault, OutputFailed}
 use Rattle.plant_main.specs.declared.ending.Declined.TheVariants as reasons
@@ -13,7 +12,8 @@ use Rattle.plant_main.specs.declared.reporting.End.{End}
 use Rattle.plant_main.specs.declared.reporting.End.TheVariants as ends
 use Rattle.plant_main.specs.Endings.{Does, DoesOnce, IsPrinted, Performs, PerformsLive, PerformsOnce}
 use Rattle.plant_main.specs.Jobs.{Declines}
-use Rattle.plant_main.specs.LiveJobs.{IsLive, LivesSo}
+use Rattle.source_run.specs.declared.living.Lived.TheVariants as lived
+use Rattle.plant_main.specs.LiveJobs.{LivesSo}
 
 module _ {O : Type 0} (contents : O → Option (List ℕ)) where
   -- a job that isn't live
@@ -46,20 +46,27 @@ module _ {O : Type 0} (contents : O → Option (List ℕ)) where
   once D job (Err fault) (Declined why) old mid new does printed = absurd printed
   once D job (Err fault) OutputFailed old mid new does printed = absurd printed
 
-  module _ {D : Type 0} (tells : Type 0) (left_since : D → D → List ℕ → Type 0) (may_leave : D → List ℕ → Type 0) where
+  module _ {D : Type 0} (tells : Type 0) (left_since : D → D → List ℕ → Type 0) (may_leave : D → List ℕ → Type 0)
+      (bytes : Option (List ℕ)) where
     -- a live job
     lives : (job : LiveJob) (end : Result End faults.Fault) (ending : Ending) (old mid new : O)
-        → LivesSo tells left_since may_leave job end (contents old) (contents mid)
+        → LivesSo tells left_since may_leave job bytes end (contents old) (contents mid)
         → IsPrinted contents end ending mid new
-        → PerformsLive contents tells left_since may_leave job ending old new
-    lives job (Ok (ends.Lived text)) Done old mid new does printed =
-        subst (λ (o : O). IsLive tells left_since may_leave job Input (contents old) (contents o)) (sym printed) does
+        → PerformsLive contents tells left_since may_leave bytes job ending old new
+    lives job (Ok (ends.Lived text)) Done old mid new does printed = (
+      lived.Report text,
+      tt,
+      subst (λ (o : O). LivesSo tells left_since may_leave job bytes (Ok (ends.Lived text)) (contents old) (contents o))
+          (sym printed) does,
+    )
     lives job (Ok (ends.Lived text)) Helped old mid new does printed = absurd printed
     lives job (Ok (ends.Lived text)) Misworded old mid new does printed = absurd printed
     lives job (Ok (ends.Lived text)) (Declined why) old mid new does printed = absurd printed
     lives job (Ok (ends.Lived text)) (Fault fault) old mid new does printed = absurd printed
-    lives job (Ok (ends.Lived text)) OutputFailed old mid new does printed = tt
-    lives job (Ok ends.OutputFailed) OutputFailed old mid new does printed = tt
+    lives job (Ok (ends.Lived text)) OutputFailed old mid new does printed = absurd printed
+    lives job (Ok ends.OutputFailed) OutputFailed old mid new does printed =
+        subst (λ (o : O). LivesSo tells left_since may_leave job bytes (Ok ends.OutputFailed) (contents old) (contents o))
+        (sym printed) does
     lives job (Ok ends.OutputFailed) Done old mid new does printed = absurd printed
     lives job (Ok ends.OutputFailed) Helped old mid new does printed = absurd printed
     lives job (Ok ends.OutputFailed) Misworded old mid new does printed = absurd printed
@@ -79,24 +86,24 @@ module _ {O : Type 0} (contents : O → Option (List ℕ)) where
     lives job (Ok (ends.Declined reasons.SharedStore)) Helped old mid new does printed = absurd printed
     lives job (Ok (ends.Declined reasons.SharedStore)) Misworded old mid new does printed = absurd printed
     lives job (Ok (ends.Declined reasons.SharedStore)) (Fault fault) old mid new does printed = absurd printed
-    lives job (Ok (ends.Declined reasons.SharedStore)) OutputFailed old mid new does printed = tt
+    lives job (Ok (ends.Declined reasons.SharedStore)) OutputFailed old mid new does printed = absurd printed
     lives job (Ok (ends.Declined reasons.SharedPicture)) ending old mid new does printed = absurd does
     lives job (Ok (ends.Declined reasons.NoPicture)) ending old mid new does printed = absurd does
     lives job (Ok (ends.Declined reasons.NoVariable)) ending old mid new does printed = absurd does
     lives job (Ok (ends.Declined reasons.NoCode)) ending old mid new does printed = absurd does
     lives job (Ok (ends.Report text)) ending old mid new does printed = absurd does
     lives job (Err fault) (Fault told) old mid new does printed =
-        subst (λ (o : O). LivesSo tells left_since may_leave job (Err told) (contents old) (contents o)) (sym printed.1)
-        (subst (λ f. LivesSo tells left_since may_leave job (Err f) (contents old) (contents mid)) (sym printed.0) does)
+        subst (λ (o : O). LivesSo tells left_since may_leave job bytes (Err told) (contents old) (contents o)) (sym printed.1)
+        (subst (λ f. LivesSo tells left_since may_leave job bytes (Err f) (contents old) (contents mid)) (sym printed.0) does)
     lives job (Err fault) Done old mid new does printed = absurd printed
     lives job (Err fault) Helped old mid new does printed = absurd printed
     lives job (Err fault) Misworded old mid new does printed = absurd printed
     lives job (Err fault) (Declined why) old mid new does printed = absurd printed
-    lives job (Err fault) OutputFailed old mid new does printed = tt
+    lives job (Err fault) OutputFailed old mid new does printed = absurd printed
 
     pub performs : (job : Job) (end : Result End faults.Fault) (ending : Ending) (old mid new : O)
-        → Does contents tells left_since may_leave job end old mid → IsPrinted contents end ending mid new
-        → Performs contents tells left_since may_leave job ending old new
+        → Does contents tells left_since may_leave bytes job end old mid → IsPrinted contents end ending mid new
+        → Performs contents tells left_since may_leave bytes job ending old new
     performs (jobs.Live job) end ending old mid new does printed = lives job end ending old mid new does printed
     performs jobs.First end ending old mid new does printed = once D jobs.First end ending old mid new does printed
     performs (jobs.Check job) end ending old mid new does printed =

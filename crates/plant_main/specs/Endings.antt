@@ -8,12 +8,12 @@ use Rattle.plant_main.specs.declared.ending.Ending.{Ending}
 use Rattle.plant_main.specs.declared.ending.Ending.TheVariants.{Done, Helped, Misworded, Declined, Fault, OutputFailed}
 use Rattle.plant_main.specs.declared.reporting.End.{End}
 use Rattle.plant_main.specs.declared.reporting.End.TheVariants as ends
-use Rattle.live_drive.specs.declared.serving.End.TheVariants.{Input}
 use Rattle.source_run.specs.declared.job.Job.TheVariants as jobs
 use Rattle.source_run.specs.declared.job.LiveJob.{LiveJob}
 use Rattle.plant_main.specs.declared.ending.Declined.TheVariants.{SharedStore}
 use Rattle.plant_main.specs.Jobs.{Declines, EndsWell, Reports}
-use Rattle.plant_main.specs.LiveJobs.{IsLive, LivesSo}
+use Rattle.source_run.specs.declared.living.Lived.{Lived}
+use Rattle.plant_main.specs.LiveJobs.{IsLive, IsReported, LivesSo}
 
 -- an ending of words that ask for no job
 abbrev pub IsAboutWords : Ending → Type 0
@@ -48,20 +48,24 @@ module _ {O : Type 0} (contents : O → Option (List ℕ)) where
   PerformsOnce D job OutputFailed old new = Unit {0}
   PerformsOnce D job other old new = ⊥
 
-  module _ {D : Type 0} (tells : Type 0) (left_since : D → D → List ℕ → Type 0) (may_leave : D → List ℕ → Type 0) where
-    -- how a live job ends: what it has sent are the answers to its input, or those until the fault
+  module _ {D : Type 0} (tells : Type 0) (left_since : D → D → List ℕ → Type 0) (may_leave : D → List ℕ → Type 0)
+      (bytes : Option (List ℕ)) where
+    -- How a live job over a standard input of these bytes ends: what it has sent are the answers to its input, or those
+    -- until the output failed or a fault came.
     abbrev pub PerformsLive : LiveJob → Ending → O → O → Type 0
-    PerformsLive job Done old new = IsLive tells left_since may_leave job Input (contents old) (contents new)
+    PerformsLive job Done old new = (how : Lived) × IsReported how
+        × IsLive tells left_since may_leave job bytes (Ok how) (contents old) (contents new)
     PerformsLive job (Declined SharedStore) old new = contents new ≡ contents old
     PerformsLive job (Fault fault) old new =
-        LivesSo tells left_since may_leave job (Err fault) (contents old) (contents new)
-    PerformsLive job OutputFailed old new = Unit {0}
+        LivesSo tells left_since may_leave job bytes (Err fault) (contents old) (contents new)
+    PerformsLive job OutputFailed old new =
+        LivesSo tells left_since may_leave job bytes (Ok ends.OutputFailed) (contents old) (contents new)
     PerformsLive job other old new = ⊥
 
     -- what a job has done when it ends so, before its end is reported
     abbrev pub Does : Job → Result End faults.Fault → O → O → Type 0
     Does (jobs.Live job) result old new =
-        LivesSo tells left_since may_leave job result (contents old) (contents new)
+        LivesSo tells left_since may_leave job bytes result (contents old) (contents new)
     Does job result old new = DoesOnce D job result old new
 
     -- how a job ends

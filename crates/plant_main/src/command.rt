@@ -106,8 +106,16 @@ fn live<'a>(alloc: Global) -> Result<Command<'a>, AllocError> {
         budget(alloc),
         flag(
             alloc,
+            "stamp",
+            "Take rows without `t`, and give each the moment at which it comes"
+        ),
+        flag(
+            alloc,
             "newest",
             "Latch only the newest of the rows that wait, and answer the others with `missed`"
+        ),
+        Arg::new(alloc, "every").long("every").value_name("T").help(
+            "Make a row each T, such as 10ms or 2s, with the newest inputs; lines have no `t`"
         ),
         explain_flag(alloc),
     ]?;

@@ -14,8 +14,8 @@ const OUTPUT_FAILED: u8 = 5;
 /// Why a job isn't begun.
 #[derive(Clone, Copy, Debug, PartialEq, Eq, Error)]
 pub enum Declined {
-    /// The retain file is, by another name, the source, the plant, the trace or the standard output.
-    #[error("error: the retain file is the source, the plant, the trace or the standard output")]
+    /// The retain file is, by another name, the source, the plant, the trace or a standard stream.
+    #[error("error: the retain file is the source, the plant, the trace or a standard stream")]
     SharedStore,
     /// The file for the picture is, by another name, the source, the plant or the trace.
     #[error("error: the picture is the source, the plant or the trace")]

@@ -6,29 +6,50 @@ use crate::ending::Declined;
 use crate::reporting::End;
 use source_run::{Fault, Files, LiveJob, Lived, live_plan, plan_of};
 use std::alloc::Global;
-use std::io::Write;
+use std::io::{Read, Write};
+use std::sync::Wait;
+use std::thread::Threads;
 use std::time::Clock;
 
-/// The standard output as a file.
-const STANDARD_OUTPUT: &str = "/dev/stdout";
+/// The standard streams as files.
+const STREAMS: [&str; 3] = ["/dev/stdin", "/dev/stdout", "/dev/stderr"];
 
-/// Reads and builds the source, reads the header, opens the store and starts, then serves each line until the input ends. The
-/// answers go to the standard output.
-pub(crate) fn live<F: Files, O: Write, R: Eprint + Clock>(
+/// Whether the retain file is the source or a standard stream, as far as the system knows.
+fn shares_store<F: Files>(files: &mut F, job: &LiveJob<'_>) -> bool {
+    if files.is_one_file(job.store, job.source) {
+        return true;
+    }
+    for stream in STREAMS {
+        if files.is_one_file(job.store, stream) {
+            return true;
+        }
+    }
+    false
+}
+
+/// Reads and builds the source, reads the header, opens the store and starts, then serves each row until the input ends. The
+/// answers go to the output.
+pub(crate) fn live<
+    F: Files,
+    I: Read + Drop + Send + 'static,
+    O: Write,
+    R: Threads + Wait + Eprint + Clock + Copy + Send + 'static,
+>(
     rt: &R,
     alloc: Global,
     files: &mut F,
     job: &LiveJob<'_>,
+    input: I,
     out: &mut O,
 ) -> Result<End, Fault>
-    ensures { LivesSo F.Disk.tells F.Disk.left_since F.Disk.may_leave job.now result (O.contents out.old)
-        (O.contents out.new) }
+    ensures { LivesSo F.Disk.tells F.Disk.left_since F.Disk.may_leave job.now (I.remaining input) result
+        (O.contents out.old) (O.contents out.new) }
 {
-    if files.is_one_file(job.store, job.source) || files.is_one_file(job.store, STANDARD_OUTPUT) {
+    if shares_store(files, job) {
         return Ok(End::Declined(Declined::SharedStore));
     }
     let plan = plan_of(alloc, files, job.source, job.budget)?;
-    match live_plan(rt, alloc, files, plan, job, out) {
+    match live_plan(rt, alloc, files, plan, job, input, out) {
         Ok(Lived::Report(report)) => Ok(End::Lived(report)),
         Ok(Lived::OutputFailed) => Ok(End::OutputFailed),
         Err(fault) => Err(fault),

@@ -14,6 +14,7 @@ mod live;
 mod meaning;
 mod number;
 mod open_gate;
+mod period;
 mod plotting;
 mod program;
 mod reading;
@@ -107,8 +108,17 @@ fn main(rt: HostRuntime) -> ExitCode {
     };
     let status = match texts_of(alloc, &words) {
         Ok(texts) => {
-            let mut files = RealFiles::new(&rt, rt.stdin());
-            plant(&rt, alloc, &texts, &mut files, &mut out, &mut err).status()
+            let mut files = RealFiles::new(&rt);
+            plant(
+                &rt,
+                alloc,
+                &texts,
+                &mut files,
+                rt.stdin(),
+                &mut out,
+                &mut err,
+            )
+            .status()
         }
         Err(_) => no_memory(&mut err),
     };

@@ -18,7 +18,7 @@ use crate::showing::show;
 use crate::sizes::sizes_of;
 use source_run::{CheckJob, DEFAULT_BUDGET, Fault, Files, Job, RunJob, plan_of, run_plan};
 use std::alloc::Global;
-use std::io::Write;
+use std::io::{Read, Write};
 use std::sync::Wait;
 use std::thread::Threads;
 use std::time::Clock;
@@ -58,20 +58,19 @@ fn run<F: Files, R: Threads + Wait + Eprint + Sync>(
 }
 
 /// How the job ends.
-fn done<F: Files, O: Write, R: Threads + Wait + Eprint + Clock + Sync>(
-    rt: &R,
-    alloc: Global,
-    files: &mut F,
-    job: &Job<'_>,
-    out: &mut O,
-) -> Result<End, Fault>
-    ensures { Does O.contents F.Disk.tells F.Disk.left_since F.Disk.may_leave job.now result out.old out.new }
+fn done<
+    F: Files,
+    I: Read + Drop + Send + 'static,
+    O: Write,
+    R: Threads + Wait + Eprint + Clock + Copy + Send + Sync + 'static,
+>(rt: &R, alloc: Global, files: &mut F, job: &Job<'_>, input: I, out: &mut O) -> Result<End, Fault>
+    ensures { Does O.contents F.Disk.tells F.Disk.left_since F.Disk.may_leave (I.remaining input) job.now result out.old out.new }
 {
     match job {
         Job::First => Ok(End::Report(first(rt, alloc)?)),
         Job::Check(job) => check(alloc, files, job),
         Job::Run(job) => run(rt, alloc, files, job),
-        Job::Live(job) => live(rt, alloc, files, job, out),
+        Job::Live(job) => live(rt, alloc, files, job, input, out),
         Job::Replay(job) => Ok(End::Report(replay(alloc, files, job)?)),
         Job::Show(job) => Ok(End::Report(show(alloc, files, job)?)),
         Job::Plot(job) => plot(alloc, files, job),
@@ -84,17 +83,16 @@ fn done<F: Files, O: Write, R: Threads + Wait + Eprint + Clock + Sync>(
 
 /// Does a job. A fault is one line `fault CODE` or `fault CODE at PLACE` on the standard error, followed by a view for a
 /// person if the job asks for one; and nothing is on the standard output then, but for the answers of a live job.
-pub fn perform<F: Files, O: Write, E: Write, R: Threads + Wait + Eprint + Clock + Sync>(
-    rt: &R,
-    alloc: Global,
-    job: &Job<'_>,
-    files: &mut F,
-    out: &mut O,
-    err: &mut E,
-) -> Ending
-    ensures { Performs O.contents F.Disk.tells F.Disk.left_since F.Disk.may_leave job.now result out.old out.new }
+pub fn perform<
+    F: Files,
+    I: Read + Drop + Send + 'static,
+    O: Write,
+    E: Write,
+    R: Threads + Wait + Eprint + Clock + Copy + Send + Sync + 'static,
+>(rt: &R, alloc: Global, job: &Job<'_>, files: &mut F, input: I, out: &mut O, err: &mut E) -> Ending
+    ensures { Performs O.contents F.Disk.tells F.Disk.left_since F.Disk.may_leave (I.remaining input) job.now result out.old out.new }
 {
-    let end = done(rt, alloc, files, job, out);
+    let end = done(rt, alloc, files, job, input, out);
     let ending = report_end(end, out, err);
     if let Ending::Fault(fault) = ending {
         explain(alloc, files, job, fault, err);
@@ -103,18 +101,25 @@ pub fn perform<F: Files, O: Write, E: Write, R: Threads + Wait + Eprint + Clock 
 }
 
 /// Does what the words ask, the program's name first.
-pub fn plant<F: Files, O: Write, E: Write, R: Threads + Wait + Eprint + Clock + Sync>(
+pub fn plant<
+    F: Files,
+    I: Read + Drop + Send + 'static,
+    O: Write,
+    E: Write,
+    R: Threads + Wait + Eprint + Clock + Copy + Send + Sync + 'static,
+>(
     rt: &R,
     alloc: Global,
     words: &[&str],
     files: &mut F,
+    input: I,
     out: &mut O,
     err: &mut E,
 ) -> Ending
-    ensures { ProgramEnds O.contents F.Disk.tells F.Disk.left_since F.Disk.may_leave result out.old out.new }
+    ensures { ProgramEnds O.contents F.Disk.tells F.Disk.left_since F.Disk.may_leave (I.remaining input) result out.old out.new }
 {
     match read_words(alloc, words) {
-        Ok(job) => perform(rt, alloc, &job, files, out, err),
+        Ok(job) => perform(rt, alloc, &job, files, input, out, err),
         Err(refused) if is_out_of_memory(&refused) => report_end(Err(Fault::NO_MEMORY), out, err),
         Err(refused) => report_words(&refused, out, err),
     }

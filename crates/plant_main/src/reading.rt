@@ -6,6 +6,7 @@ ghost use Rattle.source_run.specs.Jobs.{IsSafe};
 
 use crate::command::command;
 use crate::number::plain_number;
+use crate::period::period;
 use clap::error::ErrorKind;
 use clap::{ArgMatches, Error};
 use source_run::{
@@ -15,6 +16,9 @@ use std::alloc::{AllocError, Global};
 
 /// Why no job was read. It shows as clap's text.
 pub use clap::Error as WordsError;
+
+/// A period that isn't one.
+struct WrongPeriod;
 
 fn start(text: &str) -> Option<Start> {
     match text {
@@ -55,13 +59,26 @@ fn run<'a>(given: &ArgMatches<'a>) -> Option<RunJob<'a>> {
     })
 }
 
-fn live<'a>(given: &ArgMatches<'a>) -> Option<LiveJob<'a>> {
+/// Milliseconds from row to row, if they are given.
+fn every(given: &ArgMatches<'_>) -> Result<Option<u64>, WrongPeriod> {
+    match given.get_str("every") {
+        None => Ok(None),
+        Some(text) => match period(text) {
+            Some(millis) => Ok(Some(millis)),
+            None => Err(WrongPeriod),
+        },
+    }
+}
+
+fn live<'a>(given: &ArgMatches<'a>, every: Option<u64>) -> Option<LiveJob<'a>> {
     Some(LiveJob {
         source: given.get_str("source")?,
         store: given.get_str("store")?,
         start: start(given.get_str("start")?)?,
         budget: plain_number(given.get_str("budget")?)?,
+        stamp: given.get_flag("stamp"),
         newest: given.get_flag("newest"),
+        every,
         explain: given.get_flag("explain"),
     })
 }
@@ -117,16 +134,15 @@ fn paths<'a>(alloc: Global, given: &ArgMatches<'a>) -> Result<Vec<&'a str>, Allo
     }
 }
 
-fn chosen<'a>(
-    alloc: Global,
-    name: &str,
-    given: &ArgMatches<'a>,
-) -> Result<Option<Job<'a>>, AllocError> {
+fn chosen<'a>(alloc: Global, name: &str, given: &ArgMatches<'a>) -> Result<Option<Job<'a>>, Error> {
     let job = match name {
         "first" => Some(Job::First),
         "check" => check(given).map(Job::Check),
         "run" => run(given).map(Job::Run),
-        "live" => live(given).map(Job::Live),
+        "live" => match every(given) {
+            Ok(every) => live(given, every).map(Job::Live),
+            Err(WrongPeriod) => return Err(refusal(alloc, NO_PERIOD)?),
+        },
         "replay" => replay(given).map(Job::Replay),
         "show" => show(given).map(Job::Show),
         "plot" => plot(given, paths(alloc, given)?).map(Job::Plot),
@@ -138,6 +154,10 @@ fn chosen<'a>(
 
 /// The error for a budget with a sign, which clap takes.
 const SIGNED: &str = "invalid value for '--budget <N>': it isn't an unsigned 32-bit integer";
+
+/// The error for a period that isn't one.
+const NO_PERIOD: &str =
+    "invalid value for '--every <T>': it isn't a time such as 10ms or 2s, up to 3600s";
 
 /// The error for a retain file that is another file of the run.
 const SHARED_STORE: &str =

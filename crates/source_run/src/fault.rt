@@ -52,12 +52,20 @@ impl From<BuildError> for Fault {
 }
 
 impl From<AllocError> for Fault {
+    ghost use Rattle.source_run.specs.LiveRuns.{out_of_memory};
+
+    ghost from_gives = { λ _ fault. fault ≡ out_of_memory };
+
     fn from(_: AllocError) -> Fault {
         Fault::NO_MEMORY
     }
 }
 
 impl<T: Drop> From<AllocFailed<T>> for Fault {
+    ghost use Rattle.source_run.specs.LiveRuns.{out_of_memory};
+
+    ghost from_gives = { λ _ fault. fault ≡ out_of_memory };
+
     fn from(_: AllocFailed<T>) -> Fault {
         Fault::NO_MEMORY
     }

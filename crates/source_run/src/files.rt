@@ -10,9 +10,6 @@ pub trait Files {
 
     type Writer: Write + Drop;
 
-    /// The standard input.
-    type Input: Read + Drop;
-
     type Disk: Disk + Drop + Send;
 
     /// Whether two names lead to the same file, if both are there and the system says so.
@@ -23,9 +20,6 @@ pub trait Files {
 
     /// An existing file, to be read.
     fn read(&mut self, name: &str) -> io::Result<Self::Reader>;
-
-    /// The standard input, to be read as it comes.
-    fn input(&mut self) -> Self::Input;
 
     /// A new file, or an old one made empty, to be written; none if it can't be.
     fn create(&mut self, name: &str) -> Option<Self::Writer>;

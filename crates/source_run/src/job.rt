@@ -81,8 +81,12 @@ pub struct LiveJob<'a> {
     pub start: Start,
     /// How many ticks an execution may take, as the words say: any number of 32 bits.
     pub budget: u32,
+    /// Whether rows come without moments, and the clock gives them.
+    pub stamp: bool,
     /// Whether of the rows that were read together only the newest is latched.
     pub newest: bool,
+    /// Milliseconds from row to row, if the clock makes rows with the newest inputs.
+    pub every: Option<u64>,
     /// Whether a fault is explained.
     pub explain: bool,
 }

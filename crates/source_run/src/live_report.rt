@@ -3,44 +3,49 @@
 use crate::report::{Counts, report_with};
 use disk::Disk;
 use durable_core::EndlessCore;
-use live_drive::{Answered, Latencies, Missed, Observer};
+use live_drive::{Answered, Latencies, LineCounts, Missed, Observer};
 use std::alloc::{AllocError, Global};
 use std::io::Write;
 use std::time::{Clock, Instant};
 
-/// How lines fared so far. A refused line is reported as it comes, and so is one whose executions had faults.
+/// How lines or ticks fared so far. A refused line is reported as it comes, and so is one whose executions had faults.
 #[derive(Drop)]
-pub(crate) struct Progress<'a, R: Eprint + Clock> {
+pub(crate) struct Attendance<'a, R: Eprint + Clock> {
     rt: &'a R,
-    /// When the line that is served was read.
+    /// Whether the clock makes rows, so that there is no line for each.
+    by_clock: bool,
+    /// When the line or the tick came that is served.
     begun: Option<Instant>,
     latencies: Latencies,
-    /// How many lines came after the header.
-    lines: u64,
-    /// How many of them were refused.
-    refused: u64,
-    /// How many were missed, since a newer one was there already.
-    missed: u64,
+    counts: LineCounts,
     /// How many executions ended with a fault.
     faults: u64,
 }
 
-impl<'a, R: Eprint + Clock> Progress<'a, R> {
-    pub(crate) fn new(rt: &'a R) -> Progress<'a, R> {
-        Progress {
+impl<'a, R: Eprint + Clock> Attendance<'a, R> {
+    pub(crate) fn new(rt: &'a R, by_clock: bool) -> Attendance<'a, R> {
+        Attendance {
             rt,
+            by_clock,
             begun: None,
             latencies: Latencies::new(),
-            lines: 0,
-            refused: 0,
-            missed: 0,
+            counts: LineCounts {
+                lines: 0,
+                refused: 0,
+                missed: 0,
+            },
             faults: 0,
         }
     }
 
-    /// The number of the line that is served. The header is line 1.
-    fn number(&self) -> u64 {
-        self.lines.saturating_add(1)
+    /// Reports a number of faults on the standard error, with the line, where the header is line 1, or the row.
+    fn report_faults(&self, faults: u64) {
+        let lines = self.counts.lines;
+        let _ = if self.by_clock {
+            eprintln!(self.rt; "row {lines}: {faults} faults")
+        } else {
+            eprintln!(self.rt; "line {}: {faults} faults", lines.saturating_add(1))
+        };
     }
 
     /// Counts the time since the line was read, if there is a clock.
@@ -54,9 +59,9 @@ impl<'a, R: Eprint + Clock> Progress<'a, R> {
     }
 }
 
-impl<R: Eprint + Clock> Observer for Progress<'_, R> {
+impl<R: Eprint + Clock> Observer for Attendance<'_, R> {
     fn begun(&mut self) {
-        self.lines = self.lines.saturating_add(1);
+        self.counts.lines = self.counts.lines.saturating_add(1);
         self.begun = Instant::now(self.rt).ok();
     }
 
@@ -66,13 +71,16 @@ impl<R: Eprint + Clock> Observer for Progress<'_, R> {
                 self.faults = self.faults.saturating_add(faults);
                 self.count_latency();
                 if faults > 0 {
-                    let _ = eprintln!(self.rt; "line {}: {faults} faults", self.number());
+                    self.report_faults(faults);
                 }
             }
-            Answered::Missed(Missed::Newer) => self.missed = self.missed.saturating_add(1),
+            Answered::Missed(Missed::Newer) => {
+                self.counts.missed = self.counts.missed.saturating_add(1);
+            }
             Answered::Missed(missed) => {
-                self.refused = self.refused.saturating_add(1);
-                let _ = eprintln!(self.rt; "line {}: {}", self.number(), missed.text());
+                self.counts.refused = self.counts.refused.saturating_add(1);
+                let number = self.counts.lines.saturating_add(1);
+                let _ = eprintln!(self.rt; "line {number}: {}", missed.text());
             }
         }
     }
@@ -88,17 +96,19 @@ fn overruns<D: Disk>(core: &EndlessCore<D>) -> u64 {
 }
 
 /// The report of a life: how many lines came and were refused, how long served lines took, then the counts and the variables
-/// as a run reports them. The only error is out of memory.
+/// as a run reports them. The feed has the counts of lines if it doesn't give them one by one. The only error is out of
+/// memory.
 pub(crate) fn live_report<D: Disk, R: Eprint + Clock>(
     alloc: Global,
     core: &EndlessCore<D>,
-    progress: &Progress<'_, R>,
+    attendance: &Attendance<'_, R>,
+    came: Option<LineCounts>,
 ) -> Result<Vec<u8>, AllocError> {
     let rows = core.rows();
     let counts = Counts {
         rows,
         done: core.entries().saturating_sub(rows),
-        faults: progress.faults,
+        faults: attendance.faults,
         overruns: overruns(core),
         acked: Some(core.acked()),
     };
@@ -111,13 +121,14 @@ pub(crate) fn live_report<D: Disk, R: Eprint + Clock>(
         core.values(),
     )?;
     let mut text = Vec::new(alloc);
-    let latencies = &progress.latencies;
+    let latencies = &attendance.latencies;
+    let came = came.unwrap_or(attendance.counts);
     match write!(
         text,
         "lines {}\nrefused {}\nmissed {}\np50 {} us\np99 {} us\nmax {} us\n",
-        progress.lines,
-        progress.refused,
-        progress.missed,
+        came.lines,
+        came.refused,
+        came.missed,
         latencies.percentile(50),
         latencies.percentile(99),
         latencies.longest()

@@ -1,37 +1,38 @@
 //! The run of a plan against rows that come on the standard input.
 
-ghost use Rattle.std.specs.Prelude.{◌≡◌, ◌⊎◌, ℕ, List, [], Some, IfOk, MatchResult};
-ghost use Rattle.std.specs.Io.KnownBytes.{Appends};
+ghost use Rattle.std.specs.Prelude.{◌≡◌, ◌≢◌, ◌↔◌, ℕ, List, [], Some, true, IfErr, IfOk, IsErrOf, IsTrue};
 ghost use Rattle.image.specs.Plants.{IsHeader};
 ghost use Rattle.durable_core.specs.Endless.{IsCoreOf, first_core};
 ghost use Rattle.durable_core.specs.Started.{IsStarted};
-ghost use Rattle.live_rows.specs.Lines.{ReadsLine};
-ghost use Rattle.live_rows.specs.RowLines.{line_fields};
-ghost use Rattle.live_drive.specs.AnswerLines.{header_line};
-ghost use Rattle.live_drive.specs.Serving.{HasServed};
-ghost use Rattle.live_drive.specs.declared.serving.End.{End};
-ghost use Rattle.source_run.specs.LiveRuns.{EndsLived, HasLived, backlog_of, endless_room};
+ghost use Rattle.live_rows.specs.RowLines.{headed, line_fields};
+ghost use Rattle.source_run.specs.LiveRuns.{EndsLived, HasHeader, HasLived, HasNoHeader, IsEarly, LivesBy};
+ghost use Rattle.source_run.specs.LiveRuns.{backlog_of, endless_room, is_before_lives, moments_of};
 ghost use Rattle.source_run.specs.Progress.{BeginsAs, mode_of};
 
 use crate::fault::Fault;
 use crate::files::Files;
 use crate::job::{LiveJob, Start};
 use crate::layouts::{changes_by, report_changes};
-use crate::live_report::{Progress, live_report};
+use crate::live_report::{Attendance, live_report};
 use crate::running::mode;
 use disk::Disk;
 use durable_core::{EndlessCore, StartFault};
 use image::PlantError;
-use live_drive::{Answers, Backlog, End, outputs_of, serve};
-use live_rows::{LineEnd, LineReader, RowReader};
+use live_drive::{
+    Answers, Backlog, End, Feed, FeedEnd, LineFeed, Newest, Stamps, TickFeed, outputs_of,
+    read_newest, serve,
+};
+use live_rows::{LineEnd, LineReader, Moments, RowReader, TimedLine, bytes_begin_with_one_line};
 use plan::Plan;
 use retain_store::StoreFault;
 use run_lock::RunFault;
-use std::alloc::Global;
-use std::io;
+use st_types::Row;
+use std::alloc::{AllocError, Global};
 use std::io::{Read, Write};
-use std::sync::Arc;
+use std::sync::{Arc, Mutex, Wait};
+use std::thread::Threads;
 use std::time::Clock;
+use std::{io, thread};
 
 /// How a life ended whose rows came as lines.
 #[derive(Drop)]
@@ -43,21 +44,46 @@ pub enum Lived {
 }
 
 /// Why the input can't be read: I6 out of memory, else I5.
-fn unread(error: &io::Error) -> Fault {
+fn unread(error: &io::Error) -> Fault
+    ensures early { IsEarly result }
+    ensures unbegun { (cause : StartFault) → result ≡ Fault.Start cause → ⊥ }
+{
     if error.kind() == io::ErrorKind::OutOfMemory {
         return Fault::Plant(PlantError::NoMemory);
     }
     Fault::Plant(PlantError::Reading)
 }
 
-/// The lines of the standard input after its header; I1 if its first line is not the header of a plant.
-fn lines_after_header<R: Read + Drop>(
+/// Whether a line that ended so is the header of a plant, after `t` if the clock gives moments.
+fn is_header(
     alloc: Global,
-    input: R,
     plan: &Plan,
-) -> Result<LineReader<R>, Fault>
-    ensures { IfOk result (λ lines. (header : List ℕ) × ReadsLine (R.remaining input) header lines.left (Some LineEnd.Whole)
-        × IsHeader plan.now.inputs.items (line_fields header)) }
+    moments: Moments,
+    end: Option<LineEnd>,
+    line: &[u8],
+) -> Result<bool, AllocError>
+    ensures { IfOk result (λ is. IsTrue is
+        ↔ ((end ≡ Some LineEnd.Whole) × IsHeader plan.now.inputs.items (line_fields (headed moments line.now)))) }
+{
+    if end != Some(LineEnd::Whole) {
+        return Ok(false);
+    }
+    let mut timed = TimedLine::new(alloc)?;
+    let header = timed.headed(moments, line)?;
+    RowReader::new(alloc).is_header(plan.inputs(), header)
+}
+
+/// The lines of an input after its header; I1 if its first line is not the header of a plant.
+fn lines_after_header<I: Read + Drop>(
+    alloc: Global,
+    input: I,
+    plan: &Plan,
+    job: &LiveJob<'_>,
+) -> Result<LineReader<I>, Fault>
+    ensures read { IfOk result (λ lines. HasHeader plan.now job.now (I.remaining input) lines.left) }
+    ensures none { IsErrOf result (Fault.Plant PlantError.Header) → HasNoHeader plan.now job.now (I.remaining input) }
+    ensures early { IfErr result (λ fault. is_before_lives fault ≡ true) }
+    ensures unbegun { IfErr result (λ fault. (cause : StartFault) → fault ≡ Fault.Start cause → ⊥) }
 {
     let mut lines = match LineReader::new(alloc, input) {
         Ok(lines) => lines,
@@ -67,11 +93,8 @@ fn lines_after_header<R: Read + Drop>(
         Ok(end) => end,
         Err(error) => return Err(unread(&error)),
     };
-    if end != Some(LineEnd::Whole) {
-        return Err(Fault::Plant(PlantError::Header));
-    }
-    let is_header = RowReader::new(alloc).is_header(plan.inputs(), lines.line())?;
-    if !is_header {
+    bytes_begin_with_one_line();
+    if !is_header(alloc, plan, moments(job), end, lines.line())? {
         return Err(Fault::Plant(PlantError::Header));
     }
     Ok(lines)
@@ -113,6 +136,7 @@ fn start<F: Files, R: Eprint>(
     ensures life { IfOk result (λ core. IsCoreOf core.engine.values [] core) }
     ensures started { IfOk result (λ core. IsStarted (first_core core) plan.value (mode_of job.now.start) endless_room) }
     ensures begins { IfOk result (λ core. BeginsAs job.now.start (first_core core).state) }
+    ensures early { IfErr result IsEarly }
 {
     let Some(disk) = files.store(job.store) else {
         return Err(Fault::Start(StartFault::Store(StoreFault::Device)));
@@ -137,64 +161,135 @@ fn backlog(job: &LiveJob<'_>) -> Backlog
     }
 }
 
-/// Sends the header, then serves the lines, and gives the report.
-fn served<D: Disk, I: Read + Drop, W: Write, R: Eprint + Clock>(
+/// Where rows have their moments from, as it is asked for.
+fn moments(job: &LiveJob<'_>) -> Moments
+    ensures { result ≡ moments_of job.now }
+{
+    match job.every {
+        Some(_) => Moments::Clock,
+        None if job.stamp => Moments::Clock,
+        None => Moments::Own,
+    }
+}
+
+/// Sends the header, then serves what comes of a feed, and gives the report.
+fn served<D: Disk, F: Feed, W: Write, R: Eprint + Clock>(
     rt: &R,
     alloc: Global,
     core: &mut EndlessCore<D>,
-    lines: &mut LineReader<I>,
+    feed: &mut F,
     answers: &mut Answers,
     out: &mut W,
-    backlog: Backlog,
 ) -> Result<Lived, Fault>
-    ensures { HasLived D.tells D.left_since D.may_leave backlog result core.old lines.old.left answers.old
-        (W.contents out.old) core.new lines.new.left (W.contents out.new) }
+    ensures { HasLived D.tells D.left_since D.may_leave F.came F.gives F.ended result core.old feed.old
+        answers.old (W.contents out.old) core.new feed.new (W.contents out.new) }
 {
     match answers.send_header(out, core.plan()) {
         Ok(()) => {}
         Err(_) => return Ok(Lived::OutputFailed),
     }
-    let mut progress = Progress::new(rt);
-    match serve(core, alloc, lines, answers, out, backlog, &mut progress) {
-        End::Input => match live_report(alloc, core, &progress) {
+    let mut attendance = Attendance::new(rt, feed.counts().is_some());
+    match serve(core, alloc, feed, answers, out, &mut attendance) {
+        End::Feed(FeedEnd::Ended) => match live_report(alloc, core, &attendance, feed.counts()) {
             Ok(report) => Ok(Lived::Report(report)),
             Err(_) => Err(Fault::NO_MEMORY),
         },
-        End::Reading => Err(Fault::Plant(PlantError::Reading)),
+        End::Feed(FeedEnd::Unreadable) => Err(Fault::Plant(PlantError::Reading)),
         End::Life(refusal) => Err(Fault::Run(RunFault::Refused(refusal))),
-        End::NoMemory => Err(Fault::NO_MEMORY),
+        End::Feed(FeedEnd::NoMemory) | End::NoMemory => Err(Fault::NO_MEMORY),
         End::Output => Ok(Lived::OutputFailed),
     }
 }
 
-/// Reads the header, opens the store and starts, then serves each line as it comes, until the input ends, and gives the
-/// report; the first fault ends the job. A refused line is reported on the standard error, and does not end it.
-pub fn live_plan<F: Files, O: Write, R: Eprint + Clock>(
+/// Starts, then serves what comes of a feed until it ends, and gives the report.
+fn live_feed<F: Files, E: Feed, O: Write, R: Eprint + Clock>(
+    rt: &R,
+    alloc: Global,
+    files: &mut F,
+    plan: Arc<Plan>,
+    job: &LiveJob<'_>,
+    feed: &mut E,
+    answers: &mut Answers,
+    out: &mut O,
+) -> Result<Lived, Fault>
+    ensures { LivesBy F.Disk.tells F.Disk.left_since F.Disk.may_leave E.came E.gives E.ended plan.value job.now result
+        feed.old answers.old (O.contents out.old) (O.contents out.new) }
+{
+    let mut core = start(rt, alloc, files, plan, job)?;
+    let lived = served(rt, alloc, &mut core, feed, answers, out);
+    files.back(core.stop());
+    lived
+}
+
+/// The row that counts before a line comes: that of a plan without inputs, which needs none.
+fn first_row(alloc: Global, plan: &Plan) -> Option<Row> {
+    if plan.inputs().is_empty() {
+        Some(Row::new(0, Vec::new(alloc)))
+    } else {
+        None
+    }
+}
+
+/// Starts the thread that reads the lines of an input, of which the newest counts. It isn't joined: it may wait for a line
+/// when the life has ended.
+fn start_reader<
+    I: Read + Drop + Send + 'static,
+    R: Threads + Wait + Eprint + Copy + Send + 'static,
+>(
+    rt: &R,
+    alloc: Global,
+    lines: LineReader<I>,
+    plan: &Arc<Plan>,
+) -> Result<Arc<Mutex<Newest>, Global>, Fault>
+    ensures { IfErr result IsEarly }
+{
+    let newest = Arc::new(alloc, Mutex::new(Newest::new()))?;
+    let theirs = Arc::try_clone(&newest)?;
+    let plan = Arc::try_clone(plan)?;
+    let rt = *rt;
+    match thread::spawn(&rt, move || {
+        read_newest(&rt, alloc, lines, &plan, &theirs)
+    }) {
+        Ok(_) => Ok(newest),
+        Err(_) => Err(Fault::Run(RunFault::NotStarted)),
+    }
+}
+
+/// Reads the header, opens the store and starts, then serves each row as it comes, as a line of the input or by the clock,
+/// until the input ends, and gives the report; the first fault ends the job. A refused line is reported on the standard error,
+/// and does not end it.
+pub fn live_plan<
+    F: Files,
+    I: Read + Drop + Send + 'static,
+    O: Write,
+    R: Threads + Wait + Eprint + Clock + Copy + Send + 'static,
+>(
     rt: &R,
     alloc: Global,
     files: &mut F,
     plan: Plan,
     job: &LiveJob<'_>,
+    input: I,
     out: &mut O,
 ) -> Result<Lived, Fault>
-    ensures { EndsLived F.Disk.tells F.Disk.left_since F.Disk.may_leave plan job.now result (O.contents out.old) (O.contents out.new) }
+    ensures { EndsLived F.Disk.tells F.Disk.left_since F.Disk.may_leave plan job.now (I.remaining input) result
+        (O.contents out.old) (O.contents out.new) }
 {
-    let mut lines = lines_after_header(alloc, files.input(), &plan)?;
-    let outputs = outputs_of(alloc, &plan)?;
+    let lines = lines_after_header(alloc, input, &plan, job)?;
+    let mut answers = Answers::new(alloc, outputs_of(alloc, &plan)?)?;
     let Ok(plan) = Arc::new(alloc, plan) else {
         return Err(Fault::Start(StartFault::NoMemory));
     };
-    let mut core = start(rt, alloc, files, plan, job)?;
-    let mut answers = Answers::new(alloc, outputs);
-    let lived = served(
-        rt,
-        alloc,
-        &mut core,
-        &mut lines,
-        &mut answers,
-        out,
-        backlog(job),
-    );
-    files.back(core.stop());
-    lived
+    match job.every {
+        None => {
+            let stamps = Stamps::new(rt, moments(job));
+            let mut feed = LineFeed::new(alloc, lines, backlog(job), stamps)?;
+            live_feed(rt, alloc, files, plan, job, &mut feed, &mut answers, out)
+        }
+        Some(period) => {
+            let newest = start_reader(rt, alloc, lines, &plan)?;
+            let mut feed = TickFeed::new(rt, newest, period, first_row(alloc, &plan));
+            live_feed(rt, alloc, files, plan, job, &mut feed, &mut answers, out)
+        }
+    }
 }

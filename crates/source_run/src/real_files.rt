@@ -4,7 +4,6 @@ use crate::files::Files;
 use disk::FileDisk;
 use std::fs::{File, Metadata, OpenOptions};
 use std::io;
-use std::io::Stdin;
 use std::os::unix::fs::MetadataExt;
 
 /// Whether both are the same file of the same device.
@@ -29,18 +28,17 @@ fn is_terminal(file: &Metadata) -> bool {
 /// The files of the system. A retain file is locked as long as its disk is there.
 pub struct RealFiles<'a, R: std::rt::Files<File = File>> {
     rt: &'a R,
-    input: Stdin,
 }
 
 impl<'a, R: std::rt::Files<File = File>> RealFiles<'a, R> {
-    pub fn new(rt: &'a R, input: Stdin) -> RealFiles<'a, R> {
-        RealFiles { rt, input }
+    pub fn new(rt: &'a R) -> RealFiles<'a, R> {
+        RealFiles { rt }
     }
 }
 
 impl<R: std::rt::Files<File = File>> Drop for RealFiles<'_, R> {
     fn drop(self) {
-        let Self { rt: _, input: _ } = self;
+        let Self { rt: _ } = self;
     }
 }
 
@@ -48,8 +46,6 @@ impl<R: std::rt::Files<File = File>> Files for RealFiles<'_, R> {
     type Reader = File;
 
     type Writer = File;
-
-    type Input = Stdin;
 
     type Disk = FileDisk<File>;
 
@@ -69,10 +65,6 @@ impl<R: std::rt::Files<File = File>> Files for RealFiles<'_, R> {
 
     fn read(&mut self, name: &str) -> io::Result<File> {
         File::open(self.rt, name)
-    }
-
-    fn input(&mut self) -> Stdin {
-        self.input
     }
 
     fn create(&mut self, name: &str) -> Option<File> {

@@ -24,6 +24,7 @@ pub use head::begin;
 pub use keeping::kept_values;
 pub use lines::outcome_word;
 pub use parts::{after_count, after_words, first_number};
+pub use putting::put;
 pub use trace_error::ReplayError;
 pub use watcher::Watcher;
 pub use writing::{put_kept, write_trace};

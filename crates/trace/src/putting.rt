@@ -7,7 +7,7 @@ ghost use Rattle.trace.specs.Puts.{Puts};
 use std::io::{ErrorKind, Write};
 
 /// Writes these bytes, unless a part before them was not written whole. It answers whether all was.
-pub(crate) fn put<W: Write>(out: &mut W, works: bool, bytes: &[u8]) -> bool
+pub fn put<W: Write>(out: &mut W, works: bool, bytes: &[u8]) -> bool
     ensures { Puts (W.contents out.old) works (W.contents out.new) result bytes.now }
 {
     if !works {

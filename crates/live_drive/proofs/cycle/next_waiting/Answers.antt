@@ -14,5 +14,13 @@ loop-resource-preserved g c = λ start log is resource less. elim (cases_lt reso
       rw at none
 ]
 
+pub returns-in-Some : goal.returns-in-Some
+returns-in-Some g c = λ start log is. record {
+  resource = c.loop-resource.resource;
+  there = search rules;
+  best = c.in-Some.ensures start log is;
+  none_before = c.loop-resource.invariant start log is;
+}
+
 pub returns : goal.returns
 returns g c = λ start log is resource less. c.loop-resource.invariant start log is resource (search rules)

@@ -1,13 +1,15 @@
 use Rattle.std.proofs.Common.{◌≡◌, ◌∷◌, ◌++◌, [], rules, ap}
 use Rattle.std.specs.Fmt.{decimal}
 use Rattle.live_drive.specs.AnswerLines.{outputs_line, value_fields}
-use Rattle.live_drive.proofs.AnswerLemmas.{shown}
+use Rattle.live_drive.proofs.AnswerLemmas.{line_unsent, shown}
 use Rattle.live_drive.proofs.answers.Answers.send_outputs.Goals as goal
 
 pub returns-in_err-write-clause-sent : goal.returns-in_err-write-clause-sent
 returns-in_err-write-clause-sent g c = (
   outputs_line c.unwrap_or-moment.result c.values-values.result.now c.args.self.now,
-  search rules,
+  line_unsent (g.W.Write.contents c.args.out.now)
+      (outputs_line c.unwrap_or-moment.result c.values-values.result.now c.args.self.now)
+      c.from_residual.result c.from_residual.ensures.0,
   shown c.args.core.now c.args.self.now c.unwrap_or-moment.result c.last_moment.result c.values-values.result.now
       c.unwrap_or-moment.ensures c.last_moment.ensures c.values-values.ensures,
 )
@@ -15,7 +17,9 @@ returns-in_err-write-clause-sent g c = (
 pub returns-in_err-put_values-clause-sent : goal.returns-in_err-put_values-clause-sent
 returns-in_err-put_values-clause-sent g c = (
   outputs_line c.unwrap_or-moment.result c.values-values.result.now c.args.self.now,
-  search rules,
+  line_unsent (g.W.Write.contents c.args.out.now)
+      (outputs_line c.unwrap_or-moment.result c.values-values.result.now c.args.self.now)
+      c.from_residual-in_err-put_values.result c.from_residual-in_err-put_values.ensures.0,
   shown c.args.core.now c.args.self.now c.unwrap_or-moment.result c.last_moment.result c.values-values.result.now
       c.unwrap_or-moment.ensures c.last_moment.ensures c.values-values.ensures,
 )
