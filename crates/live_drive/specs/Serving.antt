@@ -64,8 +64,8 @@ module _ (places : List ℕ) {D : Type 0} (tells : Type 0) (left_since : D → D
       × (tells → (file : List ℕ) → may_leave b.store.disk file → survives b (recovered file))
       × (answer ≡ outputs_now places b.state)) old new
 
-  -- How it is answered: a row by its outputs, or as one that isn't later; what is no row, or an old one, by why it has none,
-  -- and then the life stays as it was.
+  -- How it is answered: a row by its outputs, or as one that isn't later; a line that spells no row, and an old row, by the
+  -- reason, and then the life stays as it was.
   abbrev pub IsAnswered : EndlessView D → Incoming → List ℕ → EndlessView D → Type 0
   IsAnswered old (came.Row row) answer new = AnswersRow old row answer new ⊎ AnswersLate old row answer new
   IsAnswered old (came.NoRow moment) answer new = (new ≡ old) × (answer ≡ missed_line moment missed.NoRow)

@@ -2,6 +2,7 @@
 use Rattle.std.specs.Prelude.{◌≡◌, ◌≢◌, ◌⊎◌, ◌^◌, ◌-◌, ℕ, Bool, true, false, List, [], Option, Some, None, Result, Ok, Err, if◌then◌else◌}
 use Rattle.std.specs.Io.KnownBytes.{Appends}
 use Rattle.image.specs.Plants.{IsHeader}
+use Rattle.image.specs.declared.plant_error.PlantError.{PlantError}
 use Rattle.image.specs.declared.plant_error.PlantError.TheVariants as plants
 use Rattle.plan.specs.declared.plan.Plan.{Plan}
 use Rattle.core_engine.specs.declared.refusal.Refusal.TheVariants as serial
@@ -106,9 +107,16 @@ is_before_runs (runs.Refused refusal) = is_of_memory refusal
 is_before_runs runs.NotStarted = true
 is_before_runs runs.NotSettled = false
 
+-- a fault of an input before its first row: its header, a read or memory
+abbrev pub is_before_rows : PlantError → Bool
+is_before_rows plants.Header = true
+is_before_rows plants.Reading = true
+is_before_rows plants.NoMemory = true
+is_before_rows other = false
+
 -- a fault that may come before a life has begun: of its input, its start, memory, or a thread
 abbrev pub is_before_lives : Fault → Bool
-is_before_lives (Plant fault) = true
+is_before_lives (Plant fault) = is_before_rows fault
 is_before_lives (Start fault) = true
 is_before_lives (Run fault) = is_before_runs fault
 is_before_lives other = false

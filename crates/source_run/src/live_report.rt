@@ -10,7 +10,7 @@ use std::time::{Clock, Instant};
 
 /// How lines or ticks fared so far. A refused line is reported as it comes, and so is one whose executions had faults.
 #[derive(Drop)]
-pub(crate) struct Attendance<'a, R: Eprint + Clock> {
+pub(crate) struct Tally<'a, R: Eprint + Clock> {
     rt: &'a R,
     /// Whether the clock makes rows, so that there is no line for each.
     by_clock: bool,
@@ -22,9 +22,9 @@ pub(crate) struct Attendance<'a, R: Eprint + Clock> {
     faults: u64,
 }
 
-impl<'a, R: Eprint + Clock> Attendance<'a, R> {
-    pub(crate) fn new(rt: &'a R, by_clock: bool) -> Attendance<'a, R> {
-        Attendance {
+impl<'a, R: Eprint + Clock> Tally<'a, R> {
+    pub(crate) fn new(rt: &'a R, by_clock: bool) -> Tally<'a, R> {
+        Tally {
             rt,
             by_clock,
             begun: None,
@@ -59,7 +59,7 @@ impl<'a, R: Eprint + Clock> Attendance<'a, R> {
     }
 }
 
-impl<R: Eprint + Clock> Observer for Attendance<'_, R> {
+impl<R: Eprint + Clock> Observer for Tally<'_, R> {
     fn begun(&mut self) {
         self.counts.lines = self.counts.lines.saturating_add(1);
         self.begun = Instant::now(self.rt).ok();
@@ -101,14 +101,14 @@ fn overruns<D: Disk>(core: &EndlessCore<D>) -> u64 {
 pub(crate) fn live_report<D: Disk, R: Eprint + Clock>(
     alloc: Global,
     core: &EndlessCore<D>,
-    attendance: &Attendance<'_, R>,
+    tally: &Tally<'_, R>,
     came: Option<LineCounts>,
 ) -> Result<Vec<u8>, AllocError> {
     let rows = core.rows();
     let counts = Counts {
         rows,
         done: core.entries().saturating_sub(rows),
-        faults: attendance.faults,
+        faults: tally.faults,
         overruns: overruns(core),
         acked: Some(core.acked()),
     };
@@ -121,8 +121,8 @@ pub(crate) fn live_report<D: Disk, R: Eprint + Clock>(
         core.values(),
     )?;
     let mut text = Vec::new(alloc);
-    let latencies = &attendance.latencies;
-    let came = came.unwrap_or(attendance.counts);
+    let latencies = &tally.latencies;
+    let came = came.unwrap_or(tally.counts);
     match write!(
         text,
         "lines {}\nrefused {}\nmissed {}\np50 {} us\np99 {} us\nmax {} us\n",

@@ -13,7 +13,7 @@ use crate::fault::Fault;
 use crate::files::Files;
 use crate::job::{LiveJob, Start};
 use crate::layouts::{changes_by, report_changes};
-use crate::live_report::{Attendance, live_report};
+use crate::live_report::{Tally, live_report};
 use crate::running::mode;
 use disk::Disk;
 use durable_core::{EndlessCore, StartFault};
@@ -188,9 +188,9 @@ fn served<D: Disk, F: Feed, W: Write, R: Eprint + Clock>(
         Ok(()) => {}
         Err(_) => return Ok(Lived::OutputFailed),
     }
-    let mut attendance = Attendance::new(rt, feed.counts().is_some());
-    match serve(core, alloc, feed, answers, out, &mut attendance) {
-        End::Feed(FeedEnd::Ended) => match live_report(alloc, core, &attendance, feed.counts()) {
+    let mut tally = Tally::new(rt, feed.counts().is_some());
+    match serve(core, alloc, feed, answers, out, &mut tally) {
+        End::Feed(FeedEnd::Ended) => match live_report(alloc, core, &tally, feed.counts()) {
             Ok(report) => Ok(Lived::Report(report)),
             Err(_) => Err(Fault::NO_MEMORY),
         },
