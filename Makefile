@@ -1,6 +1,6 @@
 # The commands of this repository; README.md explains them.
 
-.PHONY: run build try examples test sweep strength
+.PHONY: run build try rows examples test sweep strength
 
 # The prover's allocator (mimalloc) reuses freed memory instead of returning it; that saves about a hundredth of the time of a proof.
 export MIMALLOC_PURGE_DELAY := -1
@@ -16,6 +16,10 @@ build:
 # For changes: runs the scripts of the gate over out/plant-unproved. Nothing is proved.
 try:
 	@tools/try.sh
+
+# For changes: compiles the programs of tests, and asks their rows and calls. Nothing is proved.
+rows:
+	@tests/programs.sh
 
 # Runs each example on the built program: prints its description and its report, and checks the report.
 examples:

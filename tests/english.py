@@ -44,7 +44,7 @@ def lines_of(path):
 
 def main():
     documents = [ROOT / "README.md", ROOT / "CONTRIBUTING.md", *sorted(ROOT.glob("docs/*.md"))]
-    readmes = sorted(ROOT.glob("crates/*/README.md"))
+    readmes = sorted([*ROOT.glob("crates/*/README.md"), *ROOT.glob("tests/*/README.md")])
     odd = []
     others = [*sorted(ROOT.glob("*/README.md")), *sorted(ROOT.glob("crates/*/src/command.rt"))]
     for path in [*documents, *readmes, *others]:

@@ -1,6 +1,6 @@
 #!/usr/bin/env bash
 # The gate. It checks that all edits apply, that drops do nothing but release memory, and that the documents are in plain English. Then it
-# runs every proof from scratch, the edits that the prover must refuse, the tests, and the built program over real files. Its last line is
+# runs every proof from scratch, the edits that the prover must refuse, the programs of tests, and the built program over real files. Its last line is
 # 'N passed, M failed', and it exits with 0 only if everything passed.
 set -euo pipefail
 cd "$(dirname "$0")/.."
@@ -29,6 +29,7 @@ tools/rt.py ci | {
     done
     case $last in
         *" passed, 0 failed")
+            tests/programs.sh || { echo "a program of tests failed" >&2; exit 1; }
             tests/scripts.sh "$plant" || { echo "the built program failed" >&2; exit 1; }
             mkdir -p out
             cp "$plant" out/plant

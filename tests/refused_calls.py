@@ -5,7 +5,7 @@ The program runs over an allocator that refuses requests on demand (refuse.c), a
 each fault, and then its answer with memory. These lines have to match refused_calls.txt. A line says WRONG, AGAIN-WRONG or OTHERWISE if the
 call gave a wrong answer with memory, or requested memory when it should request none.
 
-usage: tests/refused_calls.py PROGRAM     PROGRAM is the built program of calls, or the `plant` of the gate, which builds the other too
+usage: tests/refused_calls.py PROGRAM     PROGRAM is the built program of calls, tests/refused_calls; tests/programs.sh builds it and calls this
 """
 import os
 import pathlib
@@ -24,16 +24,6 @@ STACK = 8 << 20
 
 def fail(text):
     sys.exit(f"refused_calls.py: {text}")
-
-
-def program():
-    """The program of calls; None if `plant` isn't from the gate, since only the gate builds that program."""
-    given = pathlib.Path(sys.argv[1]).resolve()
-    if not given.name.startswith("plant"):
-        return given
-    if given.name != "plant_main":
-        return None
-    return given.parents[2] / "refused_calls/out/refused_calls"
 
 
 def small_stacks():
@@ -84,10 +74,7 @@ def requests_of(lines):
 
 
 def main():
-    calls = program()
-    if calls is None:
-        print("refused_calls.py: only the gate builds the program of calls; nothing was tried")
-        return
+    calls = pathlib.Path(sys.argv[1]).resolve()
     if not calls.exists():
         fail(f"there is no {calls}")
     if lines_of([calls]) != ["no allocator refuses"]:

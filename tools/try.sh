@@ -1,7 +1,7 @@
 #!/usr/bin/env bash
 # Compiles the current sources, and runs the scripts of the gate over the program. It proves nothing, and its last line says so.
 #
-# It leaves out the table of tests, whose program, compiled in this way, would take minutes longer for its rows.
+# It leaves out the programs of tests, which take minutes: 'make rows' runs those.
 #
 # usage: tools/try.sh
 set -euo pipefail

@@ -1,0 +1,42 @@
+#!/usr/bin/env bash
+# Compiles the programs of tests and runs them: the rows of tests/test_tables, and the calls of tests/refused_calls. Both use the crates alone,
+# below the built program. Nothing of them is proved: what a row shows is a test, whatever is proved of the program that asks.
+#
+# usage: tests/programs.sh     exits with 1 if a row is answered otherwise, a call has another answer, or a program can't be compiled
+set -euo pipefail
+cd "$(dirname "$0")/.."
+# shellcheck source=tools/crates.sh
+. tools/crates.sh
+
+# compile NAME: compiles a program to out/tests/NAME, unless that is newer than all sources
+compile() {
+    if ! is_new "out/tests/$1" src || [ -n "$(find tests/programs.txt "tests/$1/src" -newer "out/tests/$1" -print -quit)" ]; then
+        tools/unproved.py "$1" "out/tests/$1" -O2
+    fi
+}
+
+# tables: asks all rows, and compares files, scenes and the count with tests/test_tables/expected.txt
+tables() {
+    local found
+    compile test_tables
+    found=$(mktemp)
+    (cd tests/test_tables/data && ../../../out/tests/test_tables < ../files.txt) > "$found"
+    diff tests/test_tables/expected.txt "$found" && echo "test_tables: $(tail -n 1 "$found")"
+    rm "$found"
+}
+
+calls() {
+    compile refused_calls
+    tests/refused_calls.py out/tests/refused_calls
+}
+
+mkdir -p out/tests
+outputs=$(mktemp -d)
+trap 'rm -rf "$outputs"' EXIT
+failed=0
+(tables) > "$outputs/tables" 2>&1 &
+running=$!
+(calls) > "$outputs/calls" 2>&1 || failed=1
+wait "$running" || failed=1
+cat "$outputs/tables" "$outputs/calls"
+exit $failed
