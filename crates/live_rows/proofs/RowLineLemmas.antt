@@ -1,5 +1,6 @@
 -- Lemmas on lines and their fields.
 use Rattle.std.proofs.Common.{◌≡◌, ◌≢◌, ℕ, zero, suc, ◌+◌, ◌<◌, ◌≤◌, ◌/◌, ◌%◌, Bool, true, false, cond, eqb, ne_eqb, List, [], ◌∷◌, ◌++◌, All, Some, None, length, take, drop, get_or, refl, sym, ap, ◌∙◌, arith, eq-eqb, eqb-true, zero-le, get_or-take, length-take-le, append_assoc, take-append-drop, take_all, subst}
+use Rattle.std.proofs.Common.{◌-◌, add-one, drop-cons}
 use Rattle.std.specs.Prelude.{Option, IfSome, IfNone, ℤ, pos, negsuc}
 use Rattle.std.specs.Fmt.{decimal, signed_decimal, digits, digits_onto, digit_glyph}
 use Rattle.std.proofs.lemmas.Grind.{common_steps}
@@ -10,7 +11,7 @@ use Rattle.st_types.specs.declared.limits.TheConstants.{MOMENT_LIMIT}
 use Rattle.st_types.specs.Values.{Datum}
 use Rattle.st_types.specs.Rows.{Latch}
 use Rattle.image.specs.Plants.{Fields, spelled, spelled_values}
-use Rattle.live_rows.specs.RowLines.{fields_in, first_longer, joined, row_line}
+use Rattle.live_rows.specs.RowLines.{fields_after, fields_in, first_longer, joined, row_line}
 
 -- bytes without a comma
 abbrev pub HasNoComma : List ℕ → Type 0
@@ -126,6 +127,29 @@ field_before bytes end h =
     let split : bytes ≡ take end bytes ++ 44 ∷ drop (end + 1) bytes =
     sym (take-append-drop (end + 1) bytes) ∙ ap (λ l. l ++ drop (end + 1) bytes) front ∙ append_assoc (take end bytes) (44 ∷ []) (drop (end + 1) bytes) in
     (high, ap fields_in split ∙ fields_in-cut (take end bytes) (drop (end + 1) bytes) (clean_before bytes end (omega arith) (λ k below. before k zero-le below)))
+
+-- behind a first byte are the fields of the bytes after it
+pub fields_after-some : (bytes : List ℕ) → 0 < length bytes
+    → fields_after bytes ≡ fields_in (take (length bytes - 1) (drop 1 bytes))
+fields_after-some [] some = absurd (omega arith)
+fields_after-some (x ∷ xs) some = ap fields_in (sym (take_all (suc (length xs) - 1) xs (omega arith)))
+
+pub fields_after-drop : (bytes : List ℕ) (end : ℕ) → end < length bytes
+    → fields_after (drop end bytes) ≡ fields_in (drop (end + 1) bytes)
+fields_after-drop bytes end within = rw add-one (ap fields_after (drop-cons bytes end 0 within))
+
+-- so there are fields only if there are bytes
+pub fields_after-none : (bytes : List ℕ) → length bytes < 1 → length (fields_after bytes) ≡ 0
+fields_after-none [] none = refl
+fields_after-none (x ∷ xs) none = absurd (omega arith)
+
+pub fields_after-many : (bytes : List ℕ) → 0 < length bytes → 0 < length (fields_after bytes)
+fields_after-many [] some = absurd (omega arith)
+fields_after-many (x ∷ xs) some = at (fields_in xs) (fields_in-some xs)
+  where
+    at : (fs : Fields) → fs ≢ [] → 0 < length fs
+    at [] other = absurd (other refl)
+    at (f ∷ fs) other = omega arith
 
 -- a field more, and the fields of the rest after it
 pub fields_more : (bytes : List ℕ) (end : ℕ) (old new : Fields) (partial : List ℕ) → IsFirstByte (is_byte 44) bytes (Some end)

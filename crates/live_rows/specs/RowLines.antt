@@ -21,6 +21,11 @@ abbrev pub fields_in : List ℕ → Fields
 fields_in [] = [] ∷ []
 fields_in (byte ∷ bytes) = if byte == 44 then [] ∷ fields_in bytes else first_longer byte (fields_in bytes)
 
+-- the fields after a comma, the first byte, or none if there are no bytes
+abbrev pub fields_after : List ℕ → Fields
+fields_after [] = []
+fields_after (comma ∷ bytes) = fields_in bytes
+
 -- the fields of a line
 abbrev pub line_fields : List ℕ → Fields
 line_fields line = fields_in (without_cr line)

@@ -4,6 +4,7 @@
 //! cut off may spell another one.
 #![tactic(auto)]
 
+mod fields;
 mod laws;
 mod line_reader;
 mod row_reader;

@@ -8,15 +8,16 @@ ghost use Rattle.st_types.specs.declared.limits.TheConstants.{MOMENT_LIMIT};
 ghost use Rattle.image.specs.Plants.{IsHeader, IsRowOf};
 ghost use Rattle.live_rows.specs.RowLines.{first_field, line_fields, row_line, without_cr};
 
+use crate::fields::{first_and_others, values_of};
 use csv::ByteRecord;
-use image::{PlantError, is_header, row_of};
+use image::{PlantError, is_header};
 use memchr::memchr;
 use st_meaning::PlanInput;
 use st_print::number;
 use st_types::Row;
 use std::alloc::{AllocError, Global};
 
-/// Reads rows from lines. It keeps the memory for the fields of a line.
+/// Reads headers and rows from lines. It keeps the memory for the fields of a header.
 #[derive(Drop)]
 pub struct RowReader {
     fields: ByteRecord,
@@ -76,22 +77,19 @@ impl RowReader {
     }
 
     /// The row that the line spells: its moment and its values in decimal, with commas between them. I2 if it spells none, I6
-    /// out of memory.
-    pub fn row(
-        &mut self,
-        alloc: Global,
-        inputs: &[PlanInput],
-        line: &[u8],
-    ) -> Result<Row, PlantError>
+    /// out of memory. Each field is read where it stands, since copies of them would cost more than the values.
+    pub fn row(&self, alloc: Global, inputs: &[PlanInput], line: &[u8]) -> Result<Row, PlantError>
         ensures spelled { IfOk result (λ row. without_cr line.now ≡ row_line row) }
         ensures fits { IfOk result (IsRowOf inputs.now) }
         ensures none { IsErrOf result PlantError.Field → (row : Latch) → IsRowOf inputs.now row
             → without_cr line.now ≢ row_line row }
         ensures only { IfErr result (λ e. (e ≡ PlantError.Field) ⊎ (e ≡ PlantError.NoMemory)) }
     {
-        match self.split(line) {
-            Ok(()) => row_of(alloc, inputs, &self.fields),
-            Err(_) => Err(PlantError::NoMemory),
-        }
+        let (first, fields) = first_and_others(without_cr(line));
+        let Some(moment) = number::moment(first) else {
+            return Err(PlantError::Field);
+        };
+        let image = values_of(alloc, inputs, fields)?;
+        Ok(Row::new(moment, image))
     }
 }
