@@ -2,6 +2,7 @@
 use Rattle.std.proofs.Common.{◌≡◌, ◌∙◌, ◌<◌, ℕ, zero, suc, List, [], ◌∷◌, length, Option, Some, None}
 use Rattle.std.proofs.Common.{refl, sym, ap, subst, arith}
 use Rattle.std.specs.Prelude.{unwrap_or}
+use Rattle.std.proofs.lemmas.List.{length-map}
 use Rattle.st_types.specs.Rows.{Latch}
 use Rattle.st_types.specs.Values.{Datum}
 use Rattle.st_meaning.specs.declared.plan.Schedule.{Schedule}
@@ -103,3 +104,13 @@ has_checkpoint engine start log is of =
           (state_at engine.ready.states p).waiting (state_at engine.ready.states p).overruns (row_at engine.held p) at
           (λ k waits. of.held (record { program = p; row = k }) waits));
     }
+
+-- the overruns of a program are those of its progress
+pub progress_told : (engine : EngineView) → IsEngine engine → (p n : ℕ) → n ≡ (state_at engine.ready.states p).overruns
+    → p < length engine.plan.programs.items → n ≡ (progress_at (checkpoint_of engine).programs p).overruns
+progress_told engine is p n told there =
+    let (start, log, of) = is.live in
+    let long : length engine.ready.schedules ≡ length engine.plan.programs.items =
+    ap (λ (s : List Schedule). length s) of.kept.schedules ∙ length-map _ _ ∙ length-map _ _ in
+    told ∙ sym (ap (λ (q : ProgramProgress). q.overruns)
+    (progress_in engine.ready.states engine.held p (omega (arith, there, is.places, long))))

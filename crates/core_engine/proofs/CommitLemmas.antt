@@ -132,7 +132,7 @@ ran plan values row store effect sized typed imaged is own true_of stands =
     }
 
 -- a run changes no variable's type
-run_shape : (plan : plans.Plan) (o : Option plans.ProgramInstance) (s : Store) (row : Latch)
+pub run_shape : (plan : plans.Plan) (o : Option plans.ProgramInstance) (s : Store) (row : Latch)
     → shape_of (after_run plan o s row) ≡ shape_of s
 run_shape plan None s row = refl
 run_shape plan (Some p) s row = store_after_shape p.code plan.budget s (image_of plan.inputs row.image) row.moment
@@ -141,7 +141,7 @@ kinds_in : (s : Store) → map (λ e. e.1) (shape_of s) ≡ map (λ d. d.kind) (
 kinds_in [] = refl
 kinds_in (e ∷ s) = ap (λ (ks : List Kind). e.1.kind ∷ ks) (kinds_in s)
 
-typed_same : (xs : List PlanVariable) (is : List PlanInput) (ds es : List Datum) → length ds ≡ length xs
+pub typed_same : (xs : List PlanVariable) (is : List PlanInput) (ds es : List Datum) → length ds ≡ length xs
     → length es ≡ length xs
     → shape_of (variables_with (layout_of xs is) es) ≡ shape_of (variables_with (layout_of xs is) ds)
     → map (λ d. d.kind) es ≡ map (λ d. d.kind) ds

@@ -57,7 +57,7 @@ sample_same vs ins ds image (Input i) layout sized s = refl
 sample_same vs ins ds image (Variable k) layout sized s =
     variable_same vs ins ds image k (slice_get vs k) layout sized refl s
 
-samples_same : (vs : List PlanVariable) (ins : List PlanInput) (ds image : List Datum) (tasks : List Task)
+pub samples_same : (vs : List PlanVariable) (ins : List PlanInput) (ds image : List Datum) (tasks : List Task)
     → IsLayout (layout_of vs ins) → length ds ≡ length vs
     → list_all (λ t. is_sound_trigger vs ins t.single) tasks ≡ true
     → map (sample_task ds image) tasks

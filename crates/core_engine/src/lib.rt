@@ -20,4 +20,6 @@ mod taking;
 pub use engine::Engine;
 pub use laws::engines_have_checkpoints;
 pub use refusal::{Answer, Refusal};
+pub use sampling::sample_all;
 pub use starting::initial_values;
+pub use taking::code_of;

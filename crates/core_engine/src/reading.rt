@@ -1,6 +1,6 @@
 //! Looks at an engine.
 
-ghost use Rattle.std.specs.Prelude.{◌≡◌, ◌<◌, ◌≤◌, IfSome, slice_get, length, map, Some};
+ghost use Rattle.std.specs.Prelude.{◌≡◌, ◌<◌, ◌≤◌, IfSome, slice_get, length, map, Some, option_map};
 ghost use Rattle.std.specs.Prelude.{MatchBool};
 ghost use Rattle.st_types.specs.declared.limits.TheConstants.{MOMENT_LIMIT};
 ghost use Rattle.st_meaning.specs.Due.{HasOverruns};
@@ -8,8 +8,10 @@ ghost use Rattle.st_meaning.specs.Logs.{last_moment};
 ghost use Rattle.st_meaning.specs.Plans.{schedules_of};
 ghost use Rattle.st_meaning.specs.Scopes.{seen};
 ghost use Rattle.plan.specs.PlanViews.{plan_view};
+ghost use Rattle.checkpoints.specs.Checkpoints.{progress_at};
 ghost use Rattle.core_engine.specs.Steps.{past_in, none_waits, first_image, last_image, inputs_now, IsWaiting};
 ghost use Rattle.core_engine.specs.Lived.{InEachLife};
+ghost use Rattle.core_engine.specs.Checkpointed.{checkpoint_of};
 
 use crate::engine::Engine;
 use plan::{Plan, SlotPlace};
@@ -64,7 +66,8 @@ impl Engine {
 
     /// The values of the variables now, in layout order.
     pub fn values(&self) -> &[Value]
-        ensures { InEachLife self.now (λ life. result.now ≡ map (λ e. e.1) (past_in life).store) }
+        ensures now { InEachLife self.now (λ life. result.now ≡ map (λ e. e.1) (past_in life).store) }
+        ensures values { result.now ≡ self.now.values }
     {
         &self.values
     }
@@ -103,9 +106,36 @@ impl Engine {
         self.ready.waiting(program)
     }
 
+    /// The moment of the life's first row in milliseconds; 0 before it.
+    pub fn first_moment(&self) -> u64
+        ensures { result ≡ (checkpoint_of self.now).first }
+    {
+        self.ready.first()
+    }
+
+    /// The moment in milliseconds and the inputs of the last row; none before the first.
+    pub fn last_row(&self) -> Option<(u64, &[Value])>
+        ensures { option_map (λ row. record { moment = row.0; image = row.1.now }) result
+            ≡ (checkpoint_of self.now).last_row }
+    {
+        if self.rows == 0 {
+            return None;
+        }
+        Some((self.last.unwrap_or(0), self.newest.image()))
+    }
+
+    /// SINGLE of each task at the last row; FALSE before the first.
+    pub fn samples(&self) -> &[bool]
+        ensures { result.now ≡ (checkpoint_of self.now).samples }
+    {
+        self.ready.samples()
+    }
+
     /// How often the program was due while it waited already; 0 for a program that is not there.
     pub fn overruns(&self, program: usize) -> u64
         ensures none { length self.now.plan.programs.items ≤ program → result ≡ 0 }
+        ensures progress { program < length self.now.plan.programs.items
+            → result ≡ (progress_at (checkpoint_of self.now).programs program).overruns }
         ensures overruns { program < length self.now.plan.programs.items → InEachLife self.now
             (λ life. HasOverruns (schedules_of (plan_view life.plan)) (past_in life).history program result) }
     {

@@ -28,7 +28,7 @@ fn sample(values: &[Value], image: &[Value], trigger: Trigger) -> bool
 }
 
 /// Samples the SINGLE of each task.
-pub(crate) fn sample_all(tasks: &[Task], values: &[Value], image: &[Value], samples: &mut Vec<bool>)
+pub fn sample_all(tasks: &[Task], values: &[Value], image: &[Value], samples: &mut Vec<bool>)
     requires { length samples.old.items ≡ length tasks.now }
     ensures { samples.new.items ≡ map (sample_task values.now image.now) tasks.now }
 {

@@ -18,7 +18,7 @@ use std::alloc::{AllocError, Global};
 use std::sync::Arc;
 
 /// A program's code, shared.
-fn code_of(plan: &Plan, program: usize) -> Result<Arc<Code>, AllocError>
+pub fn code_of(plan: &Plan, program: usize) -> Result<Arc<Code>, AllocError>
     requires there { program < length plan.now.programs.items }
     ensures { IfOk result (λ code. code_at plan.now program ≡ Some code.value) }
 {

@@ -85,6 +85,13 @@ impl<D: Disk> EndlessCore<D> {
         self.store.kept();
     }
 
+    /// Its engine.
+    pub fn engine(&self) -> &Engine
+        ensures { result.now ≡ self.now.engine }
+    {
+        &self.engine
+    }
+
     /// Ends the life and gives the disk back, without a device call.
     pub fn stop(self) -> D
         ensures disk { result ≡ self.store.disk }

@@ -9,3 +9,5 @@ mod program_state;
 mod schedules;
 
 pub use list::ReadyList;
+pub use program_state::{NewRow, is_due_at};
+pub use schedules::plan_schedules;

@@ -10,7 +10,7 @@ ghost use Rattle.ready_list.specs.Ready.{state_at, IsReadyOf, Removes};
 
 use crate::order::first_of;
 use crate::program_state::{NewRow, ProgramState, mark_all, taken};
-use crate::schedules::schedules_of;
+use crate::schedules::plan_schedules;
 use plan::Plan;
 use st_meaning::Schedule;
 use st_types::Activation;
@@ -130,7 +130,7 @@ impl ReadyList {
         ensures rows { IfOk result (λ r. r.rows ≡ 0) }
         ensures new { IfOk result (λ r. IsReadyOf no_history r) }
     {
-        let schedules = schedules_of(alloc, &plan.tasks, &plan.programs)?;
+        let schedules = plan_schedules(alloc, plan)?;
         ReadyList::of_schedules(alloc, schedules, plan.tasks.len())
     }
 
@@ -218,10 +218,25 @@ impl ReadyList {
         true
     }
 
+    /// SINGLE of each task at the last row; FALSE before the first.
+    pub fn samples(&self) -> &[bool]
+        ensures { result.now ≡ self.now.samples }
+    {
+        &self.samples
+    }
+
+    /// The moment of the first row in milliseconds; 0 before it.
+    pub fn first(&self) -> u64
+        ensures { result ≡ self.now.first }
+    {
+        self.first
+    }
+
     /// How often the program, by its number from 0, was due while it waited; 0 for one that isn't there.
     #[tactic(auto, using(crate::proofs::ReadyLemmas::overruns_there))]
     pub fn overruns(&self, program: usize) -> u64
         ensures none { length self.now.schedules ≤ program → result ≡ 0 }
+        ensures state { result ≡ (state_at self.now.states program).overruns }
         ensures overruns { (h : History) → IsReadyOf h self.now → program < length self.now.schedules
             → HasOverruns self.now.schedules h program result }
     {

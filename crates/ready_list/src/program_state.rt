@@ -82,6 +82,18 @@ fn marked(standing: ProgramState, is_due: bool, number: u64) -> ProgramState
     }
 }
 
+/// Whether a program at this schedule is due at the row, by the samples of SINGLE at the row before and at this one.
+pub fn is_due_at(row: NewRow, schedule: Schedule, before: &[bool], samples: &[bool]) -> bool
+    ensures { result ≡ is_due_at row schedule before.now samples.now }
+{
+    is_due(
+        row,
+        schedule.interval,
+        sample(before, schedule.task),
+        sample(samples, schedule.task),
+    )
+}
+
 /// The state of a program after the row.
 fn next(
     schedule: Schedule,
@@ -93,13 +105,11 @@ fn next(
     requires { standing.overruns < 2 ^ 63 }
     ensures { result ≡ marked_by standing (is_due_at row schedule before.now samples.now) row.number }
 {
-    let is_due = is_due(
-        row,
-        schedule.interval,
-        sample(before, schedule.task),
-        sample(samples, schedule.task),
-    );
-    marked(standing, is_due, row.number)
+    marked(
+        standing,
+        is_due_at(row, schedule, before, samples),
+        row.number,
+    )
 }
 
 /// A program that was taken waits no more.

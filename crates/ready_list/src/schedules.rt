@@ -1,9 +1,11 @@
 //! Where and how often the programs of a plan run.
 
 ghost use Rattle.std.specs.Prelude.{◌≡◌, map, IfOk};
+ghost use Rattle.st_meaning.specs.Plans.{schedules_of as schedules_in};
+ghost use Rattle.plan.specs.PlanViews.{plan_view};
 ghost use Rattle.ready_list.specs.Schedules.{code_schedule};
 
-use plan::{ProgramInstance, Task};
+use plan::{Plan, ProgramInstance, Task};
 use st_meaning::Schedule;
 use std::alloc::{AllocError, Global};
 
@@ -28,7 +30,7 @@ fn schedule_of(tasks: &[Task], program: &ProgramInstance) -> Schedule
 }
 
 /// The schedules of the programs, in declaration order.
-pub fn schedules_of(
+fn schedules_of(
     alloc: Global,
     tasks: &[Task],
     programs: &[ProgramInstance],
@@ -40,4 +42,11 @@ pub fn schedules_of(
         schedules.push(schedule_of(tasks, program))?;
     }
     Ok(schedules)
+}
+
+/// The schedules of a plan's programs, in declaration order. It fails only if memory is short.
+pub fn plan_schedules(alloc: Global, plan: &Plan) -> Result<Vec<Schedule>, AllocError>
+    ensures { IfOk result (λ schedules. schedules.items ≡ schedules_in (plan_view plan.now)) }
+{
+    schedules_of(alloc, &plan.tasks, &plan.programs)
 }

@@ -13,7 +13,7 @@ use st_meaning::Outcome;
 use st_types::Fault;
 
 /// The text after the resource, the instance and a space, if the text begins with those of the program.
-fn after_program<'a>(text: &'a [u8], program: &ProgramInstance) -> Option<&'a [u8]>
+pub fn after_program<'a>(text: &'a [u8], program: &ProgramInstance) -> Option<&'a [u8]>
     ensures { IsRestAfter text.now (instance_text (Some program.now) ++ codes " ") (option_map (λ rest. rest.now) result) }
 {
     let slash = after_words(text, program.owner.resource.as_slice())?;

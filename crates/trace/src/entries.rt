@@ -22,7 +22,7 @@ use st_types::limits::MOMENT_LIMIT;
 use std::alloc::{AllocError, Global};
 
 /// Another row of the same moment and values.
-fn copied(alloc: Global, row: &Row) -> Result<Row, AllocError>
+pub fn copied(alloc: Global, row: &Row) -> Result<Row, AllocError>
     ensures { IfOk result (λ copy. copy ≡ row.now) }
 {
     let image = Vec::from_slice(alloc, row.image())?;

@@ -35,7 +35,7 @@ fn moment_of(field: &[u8]) -> Option<Option<u64>>
 }
 
 /// The moment that rows have to be later than, if there is one, and the text after this line.
-fn moment(text: &[u8]) -> Option<(Option<u64>, &[u8])>
+pub fn moment(text: &[u8]) -> Option<(Option<u64>, &[u8])>
     ensures { BeginsWith IsMoment (λ m. line (codes "moment " ++ moment_text m)) text.now
         (option_map (λ p. (p.0, p.1.now)) result) }
 {

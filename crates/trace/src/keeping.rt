@@ -46,8 +46,8 @@ fn first_value<'a>(types: &[Vec<Name>], kind: Kind, text: &'a [u8]) -> Option<(V
     Some((value, rest))
 }
 
-/// The initial value of a variable, by its line, and the text after this.
-fn kept_value<'a>(
+/// The value of a variable, by its line, and the text after this.
+pub fn kept_value<'a>(
     alloc: Global,
     types: &[Vec<Name>],
     variable: &PlanVariable,

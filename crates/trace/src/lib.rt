@@ -18,12 +18,12 @@ mod watcher;
 mod writing;
 
 pub use budget::trace_budget;
-pub use done_lines::{ending, program_of};
-pub use entries::replay_log;
-pub use head::begin;
-pub use keeping::kept_values;
-pub use lines::outcome_word;
-pub use parts::{after_count, after_words, first_number};
+pub use done_lines::{after_program, ending, program_of};
+pub use entries::{copied, replay_log};
+pub use head::{begin, moment};
+pub use keeping::{kept_value, kept_values};
+pub use lines::{outcome_word, put_done, put_keep};
+pub use parts::{after_count, after_words, first_field, first_number};
 pub use putting::put;
 pub use trace_error::ReplayError;
 pub use watcher::Watcher;

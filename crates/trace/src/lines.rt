@@ -91,7 +91,7 @@ fn put_value<W: Write>(out: &mut W, works: bool, types: &[Vec<Name>], value: Val
 }
 
 /// Writes `keep PATH VALUE`, with the names of these enumerated types.
-pub(crate) fn put_keep<W: Write>(
+pub fn put_keep<W: Write>(
     out: &mut W,
     works: bool,
     types: &[Vec<Name>],
@@ -200,7 +200,7 @@ fn put_ending<W: Write>(out: &mut W, works: bool, row: u64, outcome: Option<Outc
 }
 
 /// Writes `done RES/INST ROW` and how the execution ended.
-fn put_done<W: Write>(
+pub fn put_done<W: Write>(
     out: &mut W,
     works: bool,
     program: Option<&ProgramInstance>,

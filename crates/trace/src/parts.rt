@@ -33,7 +33,7 @@ fn place_of(mark: u8, text: &[u8]) -> Option<usize>
 }
 
 /// The text before the first such byte, and the text after it.
-pub(crate) fn first_field(mark: u8, text: &[u8]) -> Option<(&[u8], &[u8])>
+pub fn first_field(mark: u8, text: &[u8]) -> Option<(&[u8], &[u8])>
     ensures { option_map (λ p. (p.0.now, p.1.now)) result ≡ split_at mark text.now }
 {
     let end = place_of(mark, text)?;

@@ -9,6 +9,10 @@ use Rattle.plan.specs.PlanViews.{plan_view}
 use Rattle.ready_list.specs.Ready.{IsReadyOf}
 use Rattle.core_engine.specs.Steps.{past_in}
 use Rattle.core_engine.specs.Lived.{EngineView, InEachLife, IsEngineOf, life_in}
+use Rattle.checkpoints.specs.Checkpoints.{progress_at}
+use Rattle.core_engine.specs.Checkpointed.{checkpoint_of}
+use Rattle.core_engine.proofs.Views.{left_of}
+use Rattle.core_engine.proofs.CheckpointLemmas.{progress_told}
 use Rattle.core_engine.proofs.engine.Engine.overruns.Goals as goal
 
 overruns_told : (engine : EngineView) (start : List Datum) (log : List Entry) → IsEngineOf start log engine
@@ -27,3 +31,9 @@ returns-clause-overruns c =
     (schedules_of (plan_view life.plan)) (past_in life).history c.args.program c.overruns.result)) c.self.view_is
     (λ there start log is. overruns_told _ start log is c.args.program c.overruns.result c.overruns.ensures.overruns
     there)
+
+pub returns-clause-progress : goal.returns-clause-progress
+returns-clause-progress c =
+    subst (λ (e : EngineView). c.args.program < length e.plan.programs.items
+    → c.overruns.result ≡ (progress_at (checkpoint_of e).programs c.args.program).overruns) c.self.view_is
+    (progress_told (left_of c.self.view_is) c.self.invariant c.args.program c.overruns.result c.overruns.ensures.state)

@@ -25,7 +25,7 @@ window_values-requires-clause-numbered c =
     (row_at (past_in (life_in now start log)).rows a.row).image
     (c.deref-2.ensures.value
     ∙ ap (λ (p : Plan). p.slots.items) (c.deref.ensures ∙ ap (λ (e : EngineView). e.plan) c.self.view_is))
-    (c.values.ensures start log is ∙ sym (values_are is.kept))
+    (c.values.ensures.now start log is ∙ sym (values_are is.kept))
     (c.image.ensures ∙ ap (λ r. r.image) (c.row_for-row.ensures start log is))
     (slots_numbered is.kept a (waits-row is.kept a (c.requires.waits start log is)))
 
@@ -45,7 +45,7 @@ window_values-requires-clause-window c =
     (row_at (past_in life).rows a.row).image
     (c.deref-2.ensures.value
     ∙ ap (λ (p : Plan). p.slots.items) (c.deref.ensures ∙ ap (λ (e : EngineView). e.plan) c.self.view_is))
-    (c.values.ensures start log is)
+    (c.values.ensures.now start log is)
     (c.image.ensures ∙ ap (λ r. r.image) (c.row_for-row.ensures start log is)) in
     let kinds : kinds_of slots ≡ code.kinds.value.items =
     ap kinds_of slots_are ∙ c.in-Ok.ensures.typed start log is in
@@ -74,7 +74,7 @@ new-requires c =
     (row_at (past_in life).rows a.row).image
     (c.deref-2.ensures.value
     ∙ ap (λ (p : Plan). p.slots.items) (c.deref.ensures ∙ ap (λ (e : EngineView). e.plan) c.self.view_is))
-    (c.values.ensures start log is)
+    (c.values.ensures.now start log is)
     (c.image.ensures ∙ ap (λ r. r.image) (c.row_for-row.ensures start log is)) in
     let kinds : kinds_of slots ≡ code.kinds.value.items =
     ap kinds_of slots_are ∙ c.in-Ok.ensures.typed start log is in
@@ -105,7 +105,7 @@ returns-clause-parts c =
     c.image.result.now (row_at (past_in life).rows a.row).image
     (c.deref-2.ensures.value
     ∙ ap (λ (p : Plan). p.slots.items) (c.deref.ensures ∙ ap (λ (e : EngineView). e.plan) c.self.view_is))
-    (c.values.ensures start log is)
+    (c.values.ensures.now start log is)
     (c.image.ensures ∙ ap (λ r. r.image) (c.row_for-row.ensures start log is)) ∙ ap (slots_for life) (sym same) in
     let code_is : c.deref-3.result.now ≡ code = search rules in
     let window_is : c.window.result.now ≡ window_of c.new.result.code.value = c.window.ensures.window

@@ -15,7 +15,7 @@ are_current-requires c =
     (row_at (past_in (life_in now start log)).rows a.row).image
     (c.deref-2.ensures.value
     ∙ ap (λ (p : Plan). p.slots.items) (c.deref.ensures ∙ ap (λ (e : EngineView). e.plan) c.self.view_is))
-    (c.values.ensures start log is ∙ sym (values_are is.kept))
+    (c.values.ensures.now start log is ∙ sym (values_are is.kept))
     (c.image.ensures ∙ ap (λ r. r.image) (c.row_for-row.ensures start log is
     ∙ ap (λ b. row_at (past_in (life_in now start log)).rows b.row) c.activation.ensures))
     (slots_numbered is.kept a (waits-row is.kept a (c.requires.waits start log is)))

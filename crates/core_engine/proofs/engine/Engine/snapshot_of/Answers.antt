@@ -15,7 +15,7 @@ merged_values-requires c =
     (row_at (past_in (life_in now start log)).rows a.row).image
     (c.deref-2.ensures.value
     ∙ ap (λ (p : Plan). p.slots.items) (c.deref.ensures ∙ ap (λ (e : EngineView). e.plan) c.self.view_is))
-    (c.values.ensures start log is ∙ sym (values_are is.kept))
+    (c.values.ensures.now start log is ∙ sym (values_are is.kept))
     (c.image.ensures ∙ ap (λ r. r.image) (c.row_for-row.ensures start log is))
     (slots_numbered is.kept a (waits-row is.kept a (c.requires.waits start log is)))
 
@@ -31,7 +31,7 @@ new-requires c =
           c.image.result.now (row_at (past_in life).rows a.row).image
           (c.deref-2.ensures.value
           ∙ ap (λ (p : Plan). p.slots.items) (c.deref.ensures ∙ ap (λ (e : EngineView). e.plan) c.self.view_is))
-          (c.values.ensures start log is)
+          (c.values.ensures.now start log is)
           (c.image.ensures ∙ ap (λ r. r.image) (c.row_for-row.ensures start log is)))
           ∙ c.in-Ok.ensures.typed start log is;
     }
@@ -56,7 +56,7 @@ returns-clause-parts c =
           c.image.result.now (row_at (past_in life).rows a.row).image
           (c.deref-2.ensures.value
           ∙ ap (λ (p : Plan). p.slots.items) (c.deref.ensures ∙ ap (λ (e : EngineView). e.plan) c.self.view_is))
-          (c.values.ensures start log is)
+          (c.values.ensures.now start log is)
           (c.image.ensures ∙ ap (λ r. r.image) (c.row_for-row.ensures start log is))
           ∙ ap (slots_for life) (sym same);
     }
