@@ -1,0 +1,4 @@
+pub mod MarkLemmas
+pub mod HeadLemmas
+pub mod PositionLemmas
+pub mod RunLemmas

@@ -1,0 +1,160 @@
+-- The entries of a segment that are run again.
+use Rattle.std.proofs.Common.{◌≡◌, ◌∙◌, ℕ, suc, ◌+◌, Bool, true, false, List, [], ◌∷◌, ◌++◌, length, Option, Some, None, fold}
+use Rattle.std.proofs.Common.{refl, sym, ap, subst, arith, append_assoc, slice_get}
+use Rattle.std.specs.Prelude.{codes}
+use Rattle.std.specs.Fmt.{decimal}
+use Rattle.st_types.specs.declared.entry.Entry.{Entry}
+use Rattle.st_types.specs.declared.entry.Entry.TheVariants.{Row, Done}
+use Rattle.st_types.specs.declared.entry.Activation.{Activation}
+use Rattle.st_types.specs.Rows.{Latch}
+use Rattle.st_meaning.specs.Logs.{Log}
+use Rattle.st_meaning.specs.declared.outcome.Outcome.{Outcome}
+use Rattle.plan.specs.declared.task.ProgramInstance.{ProgramInstance}
+use Rattle.plan.specs.declared.plan.Plan.{Plan}
+use Rattle.plan.specs.PlanViews.{plan_view}
+use Rattle.checkpoints.specs.Checkpoints.{Checkpoint}
+use Rattle.checkpoints.specs.Compaction.{compact_entry}
+use Rattle.checkpoints.specs.Continuation.{IsLegalAfter, outcome_after, outcomes_after}
+use Rattle.live_rows.specs.RowLines.{row_line}
+use Rattle.trace.specs.Texts.{done_line, end_line, entry_line, instance_text, line, outcome_text, row_outcome_text}
+use Rattle.trace.proofs.RestLemmas.{done_parts}
+use Rattle.trace_segments.specs.declared.replaying.Ended.{Ended}
+use Rattle.trace_segments.specs.Positions.{GoesTo, PositionView, checkpoint_at}
+use Rattle.trace_segments.specs.Runs.{EndsSegment, IsReplayOf, IsRest, IsTail, Steps, StepsTo}
+use Rattle.trace_segments.specs.Segments.{IsResting, head_text, log_text, segment_line}
+
+-- an entry before the others
+rest_more : (plan : Plan) (before : Option ℕ) (old new : Checkpoint) (text rest : List ℕ) (outcome : Option Outcome)
+    (log : Log) (tail : List ℕ) → (step : Steps plan before old text outcome new rest)
+    → IsRest plan before new rest log tail → IsRest plan before old text (step.entry ∷ log) tail
+rest_more plan before old new text rest outcome log tail step more =
+    let e = step.entry in
+    let later = compact_entry (plan_view plan) old e in record {
+      legal = (step.may, subst (λ (c : Checkpoint). IsLegalAfter (plan_view plan) before c log) step.after more.legal);
+      spelled = step.spelled
+          ∙ ap (λ t. segment_line plan e (outcome_after (plan_view plan) old e) ++ t) (more.spelled
+          ∙ ap (λ (c : Checkpoint). log_text plan log (outcomes_after (plan_view plan) c log) ++ tail) step.after)
+          ∙ sym (append_assoc (segment_line plan e (outcome_after (plan_view plan) old e))
+          (log_text plan log (outcomes_after (plan_view plan) later log)) tail);
+    }
+
+-- what is a rest after a position makes, with the entries before it, the rest after the first one
+pub record IsAhead (first now : PositionView) (text rest : List ℕ) (entries : ℕ) : Type 0 where
+  pub plan : now.plan ≡ first.plan
+  pub before : now.before ≡ first.before
+  pub ahead : (log : Log) (tail : List ℕ) → IsRest first.plan first.before (checkpoint_at now) rest log tail
+      → (all : Log) × IsRest first.plan first.before (checkpoint_at first) text all tail × (length all ≡ entries + length log)
+      × (fold (compact_entry (plan_view first.plan)) (checkpoint_at first) all
+      ≡ fold (compact_entry (plan_view first.plan)) (checkpoint_at now) log)
+
+pub ahead_begun : (first : PositionView) (text : List ℕ) → IsAhead first first text text 0
+ahead_begun first text = record {
+  plan = refl;
+  before = refl;
+  ahead = λ log tail rest. (log, rest, omega arith, refl);
+}
+
+pub ahead_more : (first old new : PositionView) (text mid rest : List ℕ) (entries : ℕ) (outcome : Option Outcome)
+    → IsAhead first old text mid entries → StepsTo old mid outcome new rest → IsAhead first new text rest (entries + 1)
+ahead_more first old new text mid rest entries outcome so_far step =
+    let at : Steps first.plan first.before (checkpoint_at old) mid outcome (checkpoint_at new) rest =
+    subst (λ (b : Option ℕ). Steps first.plan b (checkpoint_at old) mid outcome (checkpoint_at new) rest) so_far.before
+    (subst (λ (p : Plan). Steps p old.before (checkpoint_at old) mid outcome (checkpoint_at new) rest) so_far.plan step.steps)
+    in record {
+      plan = step.plan ∙ so_far.plan;
+      before = step.before ∙ so_far.before;
+      ahead = λ log tail more.
+          let (all, is, long, same) = so_far.ahead (at.entry ∷ log) tail
+          (rest_more first.plan first.before (checkpoint_at old) (checkpoint_at new) mid rest outcome log tail at more) in (
+            all,
+            is,
+            omega (arith, long),
+            same ∙ ap (λ (c : Checkpoint). fold (compact_entry (plan_view first.plan)) c log) (sym at.after),
+          );
+    }
+
+pub ahead_end : (first : PositionView) (text rest : List ℕ) (ended : Ended)
+    → IsAhead first ended.position text rest ended.entries → IsTail ended.is_whole ended.entries rest
+    → (log : Log) × IsReplayOf first text log ended
+ahead_end first text rest ended so_far tail_is =
+    let (all, is, long, same) = so_far.ahead [] rest (record { legal = tt; spelled = refl }) in
+    let counted : ended.entries ≡ length all = omega (arith, long) in (
+      all,
+      record {
+        tail = rest;
+        rest = is;
+        tail_is = subst (λ n. IsTail ended.is_whole n rest) counted tail_is;
+        entries = counted;
+        plan = so_far.plan;
+        before = so_far.before;
+        after = sym same;
+      },
+    )
+
+-- ---- the lines of entries
+
+pub row_steps : (old new : PositionView) (row : Latch) (text rest : List ℕ) → GoesTo (Row row) old new
+    → text ≡ line (row_line row) ++ rest → StepsTo old (codes "row " ++ text) None new rest
+row_steps old new row text rest goes spelled = record {
+  steps = record {
+    entry = Row row;
+    ends = refl;
+    may = goes.may;
+    spelled = ap (λ t. codes "row " ++ t) spelled ∙ parts (codes "row ") (row_line row) (10 ∷ []) rest;
+    after = goes.after;
+  };
+  plan = goes.plan;
+  before = goes.before;
+}
+  where
+    parts : (w r l more : List ℕ) → w ++ ((r ++ l) ++ more) ≡ ((w ++ r) ++ l) ++ more
+    parts w r l more = simp append_assoc
+
+pub done_steps : (old new : PositionView) (a : Activation) (q : ProgramInstance) (text field rest : List ℕ)
+    (told ended : Outcome) → GoesTo (Done a) old new
+    → outcome_after (plan_view old.plan) (checkpoint_at old) (Done a) ≡ Some ended
+    → slice_get old.plan.programs.items a.program ≡ Some q → text ≡ (instance_text (Some q) ++ codes " ") ++ field
+    → field ≡ row_outcome_text (a.row, told) ++ rest → outcome_text (Some ended) ≡ outcome_text (Some told)
+    → StepsTo old (codes "done " ++ text) (Some ended) new rest
+done_steps old new a q text field rest told ended goes ends at spelled after same = record {
+  steps = record {
+    entry = Done a;
+    ends = sym ends;
+    may = goes.may;
+    spelled = ap (λ t. codes "done " ++ t) (spelled ∙ ap (λ t. (instance_text (Some q) ++ codes " ") ++ t) after)
+        ∙ ap (λ w. codes "done " ++ ((instance_text (Some q) ++ codes " ")
+        ++ (((decimal a.row ++ 32 ∷ []) ++ line w) ++ rest))) (sym same)
+        ∙ sym (done_parts (Some q) a.row (Some ended) rest)
+        ∙ ap (λ p. done_line p a.row (Some ended) ++ rest) (sym at)
+        ∙ ap (λ o. done_line (slice_get old.plan.programs.items a.program) a.row o ++ rest) (sym ends);
+    after = goes.after;
+  };
+  plan = goes.plan;
+  before = goes.before;
+}
+
+-- ---- a whole segment
+
+pub segment_ended : (first : PositionView) (number : ℕ) (plan : Plan) (text entries : List ℕ) (log : Log) (ended : Ended)
+    → first.plan ≡ plan → IsResting (checkpoint_at first)
+    → text ≡ head_text plan number first.before (checkpoint_at first) ++ entries → IsReplayOf first entries log ended
+    → ended.number ≡ number → EndsSegment plan number (checkpoint_at first) text log ended
+segment_ended first number plan text entries log ended is resting spelled replay numbered = record {
+  resting = resting;
+  legal = subst (λ (b : Option ℕ). IsLegalAfter (plan_view plan) b (checkpoint_at first) log) (sym replay.before)
+      (subst (λ (p : Plan). IsLegalAfter (plan_view p) first.before (checkpoint_at first) log) is replay.rest.legal);
+  tail = replay.tail;
+  spelled =
+      let entries_are : entries ≡ log_text plan log (outcomes_after (plan_view plan) (checkpoint_at first) log) ++ replay.tail =
+      replay.rest.spelled
+      ∙ ap (λ (p : Plan). log_text p log (outcomes_after (plan_view p) (checkpoint_at first) log) ++ replay.tail) is in
+      spelled ∙ ap (λ (t : List ℕ). head_text plan number first.before (checkpoint_at first) ++ t) entries_are
+      ∙ ap (λ (b : Option ℕ). head_text plan number b (checkpoint_at first)
+      ++ (log_text plan log (outcomes_after (plan_view plan) (checkpoint_at first) log) ++ replay.tail)) (sym replay.before)
+      ∙ sym (append_assoc (head_text plan number ended.position.before (checkpoint_at first))
+      (log_text plan log (outcomes_after (plan_view plan) (checkpoint_at first) log)) replay.tail);
+  tail_is = replay.tail_is;
+  numbered = numbered;
+  plan_is = replay.plan ∙ is;
+  after = replay.after ∙ ap (λ (p : Plan). fold (compact_entry (plan_view p)) (checkpoint_at first) log) is;
+}

@@ -1,0 +1,4 @@
+pub mod Segments
+pub mod Heads
+pub mod Positions
+pub mod Runs

@@ -1,0 +1,19 @@
+//! Segments of the trace of a life without end: each begins with all that what follows still needs, so it is run again alone.
+//!
+//! It owns how the head of a segment is written, the meaning of its text, and how its entries are run again.
+#![tactic(auto)]
+
+mod head;
+mod marking;
+mod parsing;
+mod position;
+mod progress;
+mod replaying;
+mod resting;
+mod running;
+mod watcher;
+
+pub use head::{Head, push_head};
+pub use position::Position;
+pub use replaying::{Ended, is_first, replay_first, replay_next, segment_budget};
+pub use watcher::SegmentWatcher;
