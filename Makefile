@@ -29,9 +29,11 @@ examples:
 test:
 	@tests/gate.sh
 
-# Refuses each request for memory of out/plant, also for large texts: all of tests/refusals.py, of which the gate runs a part.
+# Refuses each request for memory of out/plant, also for large texts, and feeds it a million rows as lines: all of tests/refusals.py and
+# tests/live.py, of which the gate runs a part.
 sweep:
 	@tests/refusals.py out/plant --all
+	@tests/live.py out/plant 1000000
 
 # Tries wrong bodies that the prover must refuse, for each crate or for CRATE='NAME ..'.
 strength:
