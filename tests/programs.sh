@@ -8,11 +8,18 @@ cd "$(dirname "$0")/.."
 # shellcheck source=tools/crates.sh
 . tools/crates.sh
 
-# compile NAME: compiles a program to out/tests/NAME, unless that is newer than all sources
+# compile NAME: compiles a program to out/tests/NAME, unless that is newer than all sources. If the kit can't compile without proofs, it says
+# so and ends the shell
 compile() {
+    local status=0
     if ! is_new "out/tests/$1" src || [ -n "$(find tests/programs.txt "tests/$1/src" -newer "out/tests/$1" -print -quit)" ]; then
-        tools/unproved.py "$1" "out/tests/$1" -O2
+        tools/unproved.py "$1" "out/tests/$1" -O2 || status=$?
     fi
+    if [ $status -eq 3 ]; then
+        echo "programs.sh: this kit can't compile $1 without proofs, so it wasn't run"
+        exit 0
+    fi
+    return $status
 }
 
 # tables: asks all rows, and compares files, scenes and the count with tests/test_tables/expected.txt
