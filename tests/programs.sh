@@ -24,16 +24,14 @@ compile() {
 
 # tables: asks all rows, and compares files, scenes and the count with tests/test_tables/expected.txt
 tables() {
-    local found
-    compile test_tables
-    found=$(mktemp)
-    (cd tests/test_tables/data && ../../../out/tests/test_tables < ../files.txt) > "$found"
-    diff tests/test_tables/expected.txt "$found" && echo "test_tables: $(tail -n 1 "$found")"
-    rm "$found"
+    compile test_tables || return
+    (cd tests/test_tables/data && ../../../out/tests/test_tables < ../files.txt) > "$outputs/found" || return
+    diff tests/test_tables/expected.txt "$outputs/found" || return
+    echo "test_tables: $(tail -n 1 "$outputs/found")"
 }
 
 calls() {
-    compile refused_calls
+    compile refused_calls || return
     tests/refused_calls.py out/tests/refused_calls
 }
 
