@@ -154,6 +154,7 @@ segment_ended first number plan text entries log ended is resting spelled replay
       ∙ sym (append_assoc (head_text plan number ended.position.before (checkpoint_at first))
       (log_text plan log (outcomes_after (plan_view plan) (checkpoint_at first) log)) replay.tail);
   tail_is = replay.tail_is;
+  entries = replay.entries;
   numbered = numbered;
   plan_is = replay.plan ∙ is;
   after = replay.after ∙ ap (λ (p : Plan). fold (compact_entry (plan_view p)) (checkpoint_at first) log) is;

@@ -63,6 +63,7 @@ pub record EndsSegment (plan : Plan) (number : ℕ) (head : Checkpoint) (text : 
   pub spelled : text ≡ head_text plan number ended.position.before head
       ++ log_text plan log (outcomes_after (plan_view plan) head log) ++ tail
   pub tail_is : IsTail ended.is_whole (length log) tail
+  pub entries : ended.entries ≡ length log
   pub numbered : ended.number ≡ number
   pub plan_is : ended.position.plan ≡ plan
   pub after : checkpoint_at ended.position ≡ fold (compact_entry (plan_view plan)) head log

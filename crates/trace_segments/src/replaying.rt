@@ -297,7 +297,8 @@ pub fn replay_next<W: SegmentWatcher>(
     text: &[u8],
     watcher: &mut W,
 ) -> Result<Ended, ReplayError>
-    ensures { IfOk result (λ ended. (log : Log) × EndsSegment before.position.plan (before.number + 1) (checkpoint_at before.position) text.now log ended) }
+    ensures { IfOk result (λ ended. (ended.position.before ≡ before.position.before) × (log : Log)
+        × EndsSegment before.position.plan (before.number + 1) (checkpoint_at before.position) text.now log ended) }
 {
     let Ended {
         number,
