@@ -20,8 +20,8 @@ use Rattle.trace.specs.Texts.{done_line, end_line, entry_line, instance_text, li
 use Rattle.trace.proofs.RestLemmas.{done_parts}
 use Rattle.trace_segments.specs.declared.replaying.Ended.{Ended}
 use Rattle.trace_segments.specs.Positions.{GoesTo, PositionView, checkpoint_at}
-use Rattle.trace_segments.specs.Runs.{EndsSegment, IsReplayOf, IsRest, IsTail, Steps, StepsTo}
-use Rattle.trace_segments.specs.Segments.{IsResting, head_text, log_text, segment_line}
+use Rattle.trace_segments.specs.Runs.{EndsSegment, IsReplayOf, IsRest, IsTail, Steps, StepsTo, segment_of}
+use Rattle.trace_segments.specs.Segments.{FollowsOn, IsResting, IsSegment, head_text, log_text, segment_line}
 
 -- an entry before the others
 rest_more : (plan : Plan) (before : Option ℕ) (old new : Checkpoint) (text rest : List ℕ) (outcome : Option Outcome)
@@ -159,3 +159,29 @@ segment_ended first number plan text entries log ended is resting spelled replay
   plan_is = replay.plan ∙ is;
   after = replay.after ∙ ap (λ (p : Plan). fold (compact_entry (plan_view p)) (checkpoint_at first) log) is;
 }
+
+-- the last line of a segment that is whole
+whole_tail : (whole : Bool) (n : ℕ) (tail : List ℕ) → whole ≡ true → IsTail whole n tail → tail ≡ end_line n
+whole_tail true n tail is tail_is = tail_is
+whole_tail false n tail is tail_is = absurd (cc)
+
+pub whole_segment : (plan : Plan) (number : ℕ) (head : Checkpoint) (text : List ℕ) (log : Log) (ended : Ended)
+    → EndsSegment plan number head text log ended → ended.is_whole ≡ true → IsSegment plan text (segment_of head log ended)
+whole_segment plan number head text log ended ends whole = record {
+  resting = ends.resting;
+  legal = ends.legal;
+  spelled = ends.spelled
+      ∙ ap (λ (t : List ℕ). head_text plan number ended.position.before head
+      ++ log_text plan log (outcomes_after (plan_view plan) head log) ++ t)
+      (whole_tail ended.is_whole (length log) ends.tail whole ends.tail_is)
+      ∙ ap (λ (n : ℕ). head_text plan n ended.position.before head
+      ++ log_text plan log (outcomes_after (plan_view plan) head log) ++ end_line (length log)) (sym ends.numbered);
+}
+
+pub next_follows : (plan : Plan) (number : ℕ) (head : Checkpoint) (text next_text : List ℕ) (log next_log : Log)
+    (ended next : Ended) → EndsSegment plan number head text log ended
+    → EndsSegment plan (ended.number + 1) (checkpoint_at ended.position) next_text next_log next
+    → next.position.before ≡ ended.position.before
+    → FollowsOn plan (segment_of head log ended) (segment_of (checkpoint_at ended.position) next_log next)
+next_follows plan number head text next_text log next_log ended next ends after same =
+    (after.numbered, same, ends.after)

@@ -10,7 +10,7 @@ use Rattle.checkpoints.specs.Checkpoints.{Checkpoint}
 use Rattle.checkpoints.specs.Compaction.{compact_entry}
 use Rattle.checkpoints.specs.Continuation.{IsLegalAfter, MayContinue, outcome_after, outcomes_after}
 use Rattle.trace.specs.Texts.{end_line}
-use Rattle.trace_segments.specs.Segments.{IsResting, head_text, log_text, segment_line}
+use Rattle.trace_segments.specs.Segments.{IsResting, Segment, head_text, log_text, segment_line}
 use Rattle.trace_segments.specs.declared.replaying.Ended.{Ended}
 use Rattle.trace_segments.specs.Positions.{PositionView, checkpoint_at}
 
@@ -67,3 +67,8 @@ pub record EndsSegment (plan : Plan) (number : ℕ) (head : Checkpoint) (text : 
   pub numbered : ended.number ≡ number
   pub plan_is : ended.position.plan ≡ plan
   pub after : checkpoint_at ended.position ≡ fold (compact_entry (plan_view plan)) head log
+
+-- the segment that was run again from a checkpoint on
+abbrev pub segment_of : Checkpoint → Log → Ended → Segment
+segment_of head log ended =
+    record { number = ended.number; before = ended.position.before; head = head; log = log }

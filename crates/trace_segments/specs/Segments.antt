@@ -92,12 +92,7 @@ pub record IsSegment (plan : Plan) (text : List ℕ) (segment : Segment) : Type 
   pub legal : IsLegalAfter (plan_view plan) segment.before segment.head segment.log
   pub spelled : text ≡ segment_text plan segment
 
--- Segments of one life in a row: each begins where the one before ends, and has the next number.
+-- The second is the next segment of the life: it begins where the first ends, and has the next number.
 abbrev pub FollowsOn : Plan → Segment → Segment → Type 0
 FollowsOn plan first second = (second.number ≡ first.number + 1) × (second.before ≡ first.before)
     × (second.head ≡ end_of plan first)
-
-abbrev pub AreInARow : Plan → List Segment → Type 0
-AreInARow plan [] = Unit {0}
-AreInARow plan (segment ∷ []) = Unit {0}
-AreInARow plan (first ∷ second ∷ segments) = FollowsOn plan first second × AreInARow plan (second ∷ segments)

@@ -4,6 +4,7 @@
 #![tactic(auto)]
 
 mod head;
+mod laws;
 mod marking;
 mod parsing;
 mod position;
@@ -14,6 +15,7 @@ mod running;
 mod watcher;
 
 pub use head::{Head, push_head};
+pub use laws::what_is_run_again_is_a_segment;
 pub use position::Position;
 pub use replaying::{Ended, is_first, replay_first, replay_next, segment_budget};
 pub use watcher::SegmentWatcher;

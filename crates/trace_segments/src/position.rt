@@ -202,8 +202,8 @@ impl Position {
     /// Goes on by a row. V2 if it doesn't fit the plan or isn't later than the one before, V5 out of memory.
     pub fn after_row(self, alloc: Global, row: Row) -> Result<Position, ReplayError>
         ensures goes { IfOk result (GoesTo (entries.Row row) self) }
-        ensures refused { IfErr result (λ e. e ≢ ReplayError.NoMemory
-            → MayContinue (plan_view self.plan) self.before (checkpoint_at self) (entries.Row row) → ⊥) }
+        ensures refused { IfErr result (λ e. e ≢ ReplayError.NoMemory → (e ≡ ReplayError.Row)
+            × (MayContinue (plan_view self.plan) self.before (checkpoint_at self) (entries.Row row) → ⊥)) }
     {
         if !self.admits(&row) {
             return Err(ReplayError::Row);

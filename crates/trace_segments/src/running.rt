@@ -55,7 +55,8 @@ impl Position {
     ) -> Result<(Position, Outcome), ReplayError>
         ensures goes { IfOk result (λ r. GoesTo (Done activation) self r.0) }
         ensures outcome { IfOk result (λ r. outcome_after (plan_view self.plan) (checkpoint_at self) (Done activation) ≡ Some r.1) }
-        ensures refused { IfErr result (λ e. e ≢ ReplayError.NoMemory → IsWaitingIn (checkpoint_at self) activation → ⊥) }
+        ensures refused { IfErr result (λ e. e ≢ ReplayError.NoMemory → (e ≡ ReplayError.NotWaiting)
+            × (IsWaitingIn (checkpoint_at self) activation → ⊥)) }
     {
         let Some(row) = row_of(&self.programs, activation) else {
             return Err(ReplayError::NotWaiting);
