@@ -8,7 +8,7 @@ import re
 import sys
 
 ROOT = pathlib.Path(__file__).resolve().parent.parent
-MOST_WORDS, MOST_LINES = 27_000, 110
+MOST_WORDS, MOST_LINES = 25_000, 60
 
 BETTER = {
     r"wants? of memory|for want of|wants? memory": "out of memory, for lack of",
