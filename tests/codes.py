@@ -140,6 +140,8 @@ class Program:
         command = re.fullmatch(r"`plant (.*)`", example)
         if command:
             return self.answers(answer, 3, shlex.split(command[1]))
+        if example == "a segment of the folder was removed":
+            return self.segment_missing(answer)
         new, old = re.fullmatch(r"`(.*)` for `(.*)`", example).groups()
         pathlib.Path("traced.csv").write_text(TRACED)
         words = [*self.run(plant="traced.csv", store="traced"), "--trace", "trace.txt"]
@@ -149,6 +151,14 @@ class Program:
             fail(f"`{old}` occurs {lines.count(old)} times in the trace")
         pathlib.Path("changed.txt").write_text("".join(lines).replace(f"{old}\n", f"{new}\n"))
         self.answers(answer, 3, ["replay", "s.st", "--plant", "traced.csv", "--trace", "changed.txt"])
+
+    def segment_missing(self, answer):
+        """A folder whose second segment is the third one of the life."""
+        words = [self.program, "live", "s.st", "--store", "lived", "--start", "cold", "--trace", "segments"]
+        subprocess.run(words, input=TRACED, text=True, check=True, capture_output=True, timeout=60)
+        (first,) = pathlib.Path("segments").iterdir()
+        (pathlib.Path("segments") / "9.trace").write_text(first.read_text().replace("segment 0\n", "segment 2\n"))
+        self.answers(answer, 3, ["replay", "s.st", "--trace", "segments"])
 
     def store(self, example, answer):
         stores = re.findall(r"`--store (\S+)`", example)

@@ -112,7 +112,7 @@ def try_example(program, example):
     if example.frame is None:
         return
     right = commands(program, example, example.right)
-    if right.returncode or re.search(r"fault|\bF\d$", right.stderr, re.MULTILINE):
+    if right.returncode or re.search(r"^fault [A-Z]|\bF\d$", right.stderr, re.MULTILINE):
         fail(f"{example.code}: the right example ended with {right.returncode}, {right.stderr[-300:]}\n{example.right}")
     if example.frame == RAN_OUT:
         return

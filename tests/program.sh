@@ -217,7 +217,7 @@ jobless() {
 }
 jobless
 for words in fly "first s.st" check "check s.st t.st" "run s.st" "run s.st --plant p --store made" replay "replay s.st" "replay s.st --plant p" \
-    "replay s.st --trace t" "replay --plant p --trace t" "replay s.st --plant p --trace t u" \
+    "replay --plant p --trace t" "replay s.st --plant p --trace t u" \
     "replay s.st --plant p --trace t --store made"; do
     jobless $words
 done
@@ -314,7 +314,7 @@ headless() {
 }
 headless "no bytes" ''
 headless "one line" 'trace 1\n'
-headless "another number" 'trace 2\nbudget 1\n'
+headless "another number" 'trace 3\nbudget 1\n'
 headless "another word" 'Trace 1\nbudget 1\n'
 headless "no budget" 'trace 1\nstart cold\n'
 headless "a budget that does not end" 'trace 1\nbudget 1'
@@ -398,7 +398,7 @@ changed "one entry less at its end" 's/^end 6$/end 5/' V1
 changed "no ticks" 's/^budget 10000$/budget 0/' V1
 # The head.
 changed "an empty line in front" '1i\\' V1
-changed "another number of its format" '1s/1/2/' V1
+changed "another number of its format" '1s/1/3/' V1
 changed "another start" 's/^start cold$/start hot/' V1
 changed "no start" '/^start/d' V1
 changed "a cold start with a moment" 's/^moment none$/moment 5/' V1

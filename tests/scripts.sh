@@ -9,7 +9,7 @@ shift
 cd "$(dirname "$0")/.."
 
 scripts=(program.sh rules.py language.py edges.py examples.sh replays.sh broken.py codes.py explanations.py explain.py all_faults.py
-    shows.py layouts.py plots.py pictures.py progress.py flat.py kill.sh two_runs.py hostile.py refusals.py live.py)
+    shows.py layouts.py plots.py pictures.py progress.py flat.py kill.sh two_runs.py hostile.py refusals.py live.py segments.py)
 outputs=$(mktemp -d)
 trap 'rm -rf "$outputs"' EXIT
 failed=0 running=()

@@ -18,6 +18,7 @@ is_memory replays.Row not = absurd (not (λ e. absurd (cc)))
 is_memory replays.NotWaiting not = absurd (not (λ e. absurd (cc)))
 is_memory replays.Outcome not = absurd (not (λ e. absurd (cc)))
 is_memory replays.Device not = absurd (not (λ e. absurd (cc)))
+is_memory replays.Order not = absurd (not (λ e. absurd (cc)))
 
 -- if the findings apply to each life and only out of memory refuses one, the replay accepts each life
 pub accepted : (plan : Plan) (rows : List Latch) (text : List ℕ) (result : Result Replayed ReplayError)

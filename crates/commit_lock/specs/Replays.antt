@@ -1,10 +1,8 @@
 -- The contents of a trace, and the findings of its replay.
-use Rattle.std.specs.Prelude.{◌≡◌, ◌<◌, ◌≤◌, ◌-◌, ◌^◌, ℕ, min, List, ◌++◌, Bool, true, false, length, map, sum}
-use Rattle.std.specs.Prelude.{count_by, slice_index, Option, Some, None, IfSome, Result, MatchResult}
+use Rattle.std.specs.Prelude.{◌≡◌, ◌<◌, ◌≤◌, ◌-◌, ◌^◌, ℕ, min, List, ◌++◌, length, map, sum}
+use Rattle.std.specs.Prelude.{count_by, slice_index, IfSome, Result, MatchResult}
 use Rattle.st_types.specs.declared.limits.TheConstants.{MAX_LOG_ROOM, MOMENT_LIMIT}
 use Rattle.st_types.specs.Values.{Datum}
-use Rattle.st_meaning.specs.declared.outcome.Outcome.{Outcome}
-use Rattle.st_meaning.specs.declared.outcome.Outcome.TheVariants.{Done as Ended, Faulted}
 use Rattle.st_types.specs.Rows.{Latch}
 use Rattle.st_meaning.specs.Due.{HasOverruns}
 use Rattle.st_meaning.specs.Plans.{schedules_of}
@@ -16,6 +14,7 @@ use Rattle.durable_core.specs.declared.starting.StartMode.{StartMode}
 use Rattle.durable_core.specs.Starting.{IsStart}
 use Rattle.trace.specs.declared.trace_error.ReplayError.{ReplayError}
 use Rattle.trace.specs.Texts.{trace_text}
+use Rattle.trace.specs.Outcomes.{is_faulted}
 use Rattle.trace.specs.Rests.{rows_in}
 use Rattle.commit_lock.specs.declared.findings.Replayed.{Replayed}
 
@@ -29,11 +28,6 @@ pub record IsTrace (plan : Plan) (rows : List Latch) (text : List ℕ) (mode : S
   pub behind : List Latch
   pub rows_are : rows ≡ rows_in log ++ behind
   pub spelled : text ≡ trace_text plan mode start log
-
-abbrev pub is_faulted : Option Outcome → Bool
-is_faulted None = false
-is_faulted (Some Ended) = false
-is_faulted (Some (Faulted f)) = true
 
 -- the overruns of each program of a life, and in all, up to the greatest number of 64 bits
 pub record HasOverrunsInAll (plan : Plan) (start : Start) (log : Log) (n : ℕ) : Type 0 where

@@ -3,7 +3,8 @@
 ghost use Rattle.std.specs.Prelude.{◌≡◌, IfOk, length, map, count_by, option_map, slice_get, unwrap_or, false};
 ghost use Rattle.st_meaning.specs.Logs.{after, outcomes_of};
 ghost use Rattle.plan.specs.PlanViews.{plan_view};
-ghost use Rattle.commit_lock.specs.Replays.{AreFindings, HasOverrunsInAll, is_faulted};
+ghost use Rattle.trace.specs.Outcomes.{is_faulted};
+ghost use Rattle.commit_lock.specs.Replays.{AreFindings, HasOverrunsInAll};
 
 use serial_core::SerialCore;
 use st_meaning::Outcome;

@@ -105,12 +105,21 @@ has_checkpoint engine start log is of =
           (λ k waits. of.held (record { program = p; row = k }) waits));
     }
 
+-- each program has a place for the row that it waits with
+held_long : (engine : EngineView) → IsEngine engine → length engine.held ≡ length engine.plan.programs.items
+held_long engine is =
+    let (start, log, of) = is.live in
+    is.places ∙ ap (λ (s : List Schedule). length s) of.kept.schedules ∙ length-map _ _ ∙ length-map _ _
+
+-- each program has its progress
+pub progress_long : (engine : EngineView) → IsEngine engine
+    → length (checkpoint_of engine).programs ≡ length engine.plan.programs.items
+progress_long engine is = each_long engine.ready.states engine.held ∙ held_long engine is
+
 -- the overruns of a program are those of its progress
 pub progress_told : (engine : EngineView) → IsEngine engine → (p n : ℕ) → n ≡ (state_at engine.ready.states p).overruns
     → p < length engine.plan.programs.items → n ≡ (progress_at (checkpoint_of engine).programs p).overruns
 progress_told engine is p n told there =
-    let (start, log, of) = is.live in
-    let long : length engine.ready.schedules ≡ length engine.plan.programs.items =
-    ap (λ (s : List Schedule). length s) of.kept.schedules ∙ length-map _ _ ∙ length-map _ _ in
+    let long = held_long engine is in
     told ∙ sym (ap (λ (q : ProgramProgress). q.overruns)
-    (progress_in engine.ready.states engine.held p (omega (arith, there, is.places, long))))
+    (progress_in engine.ready.states engine.held p (omega (arith, there, long))))

@@ -1,6 +1,6 @@
 //! The engine.
 
-ghost use Rattle.core_engine.specs.Lived.{HasEngineLife};
+ghost use Rattle.core_engine.specs.Lived.{IsEngine};
 
 use core_values::HeldRow;
 use plan::Plan;
@@ -95,9 +95,9 @@ impl Model for Engine {
 }
 
 impl Engine {
-    /// There is a life that it is of: what a contract says of each is never empty.
+    /// It keeps its invariant. So there is a life that it is of: what a contract says of each is never empty.
     pub fn lived(&self)
-        ensures { HasEngineLife self.now }
+        ensures { IsEngine self.now }
     {
         let _entries = self.entries;
     }

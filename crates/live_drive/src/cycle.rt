@@ -4,6 +4,7 @@ ghost use Rattle.std.specs.Prelude.{◌≡◌, MatchOption, MatchResult, IfErr, 
 ghost use Rattle.durable_core.specs.Endless.{EachCoreGoesOn, InEachCore};
 ghost use Rattle.live_drive.specs.Cycles.{EndsRun, IsNext, NothingWaits, Refuses, Runs, Serves, Withstands};
 
+use crate::serving::Observer;
 use disk::Disk;
 use durable_core::{EndlessCore, Refusal};
 use st_meaning::Outcome;
@@ -26,7 +27,11 @@ fn next_waiting<D: Disk>(core: &EndlessCore<D>) -> Option<Activation>
 /// a fault.
 ///
 /// K5 if the store has failed, K6 if an allocation fails, K1 if the log is full.
-fn settle<D: Disk>(core: &mut EndlessCore<D>, alloc: Global) -> Result<u64, Refusal>
+fn settle<D: Disk, O: Observer>(
+    core: &mut EndlessCore<D>,
+    alloc: Global,
+    observer: &mut O,
+) -> Result<u64, Refusal>
     ensures runs { EachCoreGoesOn (λ a b. Runs a b × Withstands D.tells D.left_since D.may_leave a b) core.old core.new }
     ensures settled { IfOk result (λ _. InEachCore core.new (λ core. NothingWaits core.state)) }
     ensures ends { IfErr result (λ refusal. EndsRun refusal core.new) }
@@ -37,7 +42,9 @@ fn settle<D: Disk>(core: &mut EndlessCore<D>, alloc: Global) -> Result<u64, Refu
         let Some(activation) = next_waiting(core) else {
             return Ok(faults);
         };
-        match core.commit_activation(alloc, activation)? {
+        let outcome = core.commit_activation(alloc, activation)?;
+        observer.ran(core.plan(), activation, outcome);
+        match outcome {
             Outcome::Done => {}
             Outcome::Faulted(_) => faults = faults.saturating_add(1),
         }
@@ -50,10 +57,11 @@ fn settle<D: Disk>(core: &mut EndlessCore<D>, alloc: Global) -> Result<u64, Refu
 ///
 /// K3 if the row doesn't fit the plan, K4 if its moment isn't later than the last one: then nothing changes. Otherwise a refusal
 /// ends the life: K5 if the store has failed before or fails now, K6 if an allocation fails, K1 if the log is full.
-pub(crate) fn cycle<D: Disk>(
+pub(crate) fn cycle<D: Disk, O: Observer>(
     core: &mut EndlessCore<D>,
     alloc: Global,
     row: &Row,
+    observer: &mut O,
 ) -> Result<u64, Refusal>
     ensures { MatchResult result
         (λ _. EachCoreGoesOn
@@ -62,7 +70,9 @@ pub(crate) fn cycle<D: Disk>(
         (λ a b. Refuses a row.now refusal b × Withstands D.tells D.left_since D.may_leave a b) core.old core.new) }
 {
     core.latch(row)?;
-    let faults = settle(core, alloc)?;
+    observer.latched(row);
+    let faults = settle(core, alloc, observer)?;
     core.flush()?;
+    observer.saved(core.engine());
     Ok(faults)
 }

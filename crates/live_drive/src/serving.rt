@@ -9,10 +9,12 @@ ghost use Rattle.live_drive.specs.Serving.{Fails, HasServed, IsAnswered, is_late
 use crate::answers::{Answers, Missed};
 use crate::cycle::cycle;
 use crate::feed::{Feed, FeedEnd, Incoming};
-use core_engine::Refusal as Serial;
+use core_engine::{Engine, Refusal as Serial};
 use disk::Disk;
 use durable_core::{EndlessCore, Refusal};
-use st_types::Row;
+use plan::Plan;
+use st_meaning::Outcome;
+use st_types::{Activation, Row};
 use std::alloc::Global;
 use std::io::Write;
 
@@ -38,10 +40,19 @@ pub enum Answered {
     Missed(Missed),
 }
 
-/// Who sees how each line or tick fares.
+/// Who sees how each line or tick fares, and what the life does.
 pub trait Observer {
     /// It has come.
     fn begun(&mut self);
+
+    /// Its row was latched.
+    fn latched(&mut self, row: &Row);
+
+    /// An activation has run, and ended so.
+    fn ran(&mut self, plan: &Plan, activation: Activation, outcome: Outcome);
+
+    /// Its row has settled, and all is acknowledged.
+    fn saved(&mut self, engine: &Engine);
 
     /// It was answered.
     fn answered(&mut self, answered: Answered);
@@ -80,12 +91,13 @@ fn is_late(refusal: Refusal) -> bool
 }
 
 /// Serves a row, and answers with its outputs once its state is safe on disk.
-fn serve_row<D: Disk, W: Write>(
+fn serve_row<D: Disk, W: Write, O: Observer>(
     core: &mut EndlessCore<D>,
     alloc: Global,
     answers: &mut Answers,
     out: &mut W,
     row: &Row,
+    observer: &mut O,
 ) -> Result<Answered, End>
     ensures answers { MatchResult result
         (λ answered. (answer : List ℕ) × Appends (W.contents out.old) (W.contents out.new) answer
@@ -95,7 +107,7 @@ fn serve_row<D: Disk, W: Write>(
     ensures outputs { answers.new ≡ answers.old }
 {
     core.kept();
-    match cycle(core, alloc, row) {
+    match cycle(core, alloc, row, observer) {
         Ok(faults) => {
             core.kept();
             match answers.send_outputs(out, core) {
@@ -111,12 +123,13 @@ fn serve_row<D: Disk, W: Write>(
 }
 
 /// Serves what has come.
-fn serve_incoming<D: Disk, W: Write>(
+fn serve_incoming<D: Disk, W: Write, O: Observer>(
     core: &mut EndlessCore<D>,
     alloc: Global,
     answers: &mut Answers,
     out: &mut W,
     incoming: &Incoming,
+    observer: &mut O,
 ) -> Result<Answered, End>
     ensures answers { MatchResult result
         (λ answered. (answer : List ℕ) × Appends (W.contents out.old) (W.contents out.new) answer
@@ -126,7 +139,7 @@ fn serve_incoming<D: Disk, W: Write>(
     ensures outputs { answers.new ≡ answers.old }
 {
     match incoming {
-        Incoming::Row(row) => serve_row(core, alloc, answers, out, row),
+        Incoming::Row(row) => serve_row(core, alloc, answers, out, row, observer),
         Incoming::NoRow(moment) => miss(answers, out, *moment, Missed::NoRow),
         Incoming::Old(moment) => miss(answers, out, Some(*moment), Missed::Newer),
     }
@@ -154,10 +167,12 @@ pub fn serve<D: Disk, F: Feed, W: Write, O: Observer>(
         }
         observer.begun();
         match feed.take(alloc, core.plan(), core.last_moment()) {
-            Ok(incoming) => match serve_incoming(core, alloc, answers, out, &incoming) {
-                Ok(answered) => observer.answered(answered),
-                Err(end) => return end,
-            },
+            Ok(incoming) => {
+                match serve_incoming(core, alloc, answers, out, &incoming, observer) {
+                    Ok(answered) => observer.answered(answered),
+                    Err(end) => return end,
+                }
+            }
             Err(_) => return End::NoMemory,
         }
     }

@@ -7,7 +7,6 @@ use Rattle.source_run.specs.declared.job.LiveJob.{LiveJob}
 use Rattle.source_run.specs.declared.fault.Fault as faults
 use Rattle.plant_main.specs.declared.ending.Ending.{Ending}
 use Rattle.plant_main.specs.declared.ending.Ending.TheVariants.{Done, Helped, Misworded, Declined, Fault, OutputFailed}
-use Rattle.plant_main.specs.declared.ending.Declined.TheVariants as reasons
 use Rattle.plant_main.specs.declared.reporting.End.{End}
 use Rattle.plant_main.specs.declared.reporting.End.TheVariants as ends
 use Rattle.plant_main.specs.Endings.{Does, DoesOnce, IsPrinted, Performs, PerformsLive, PerformsOnce}
@@ -72,25 +71,13 @@ module _ {O : Type 0} (contents : O → Option (List ℕ)) where
     lives job (Ok ends.OutputFailed) Misworded old mid new does printed = absurd printed
     lives job (Ok ends.OutputFailed) (Declined why) old mid new does printed = absurd printed
     lives job (Ok ends.OutputFailed) (Fault fault) old mid new does printed = absurd printed
-    lives job (Ok (ends.Declined reasons.SharedStore)) (Declined reasons.SharedStore) old mid new does printed =
-        ap contents printed.1 ∙ does
-    lives job (Ok (ends.Declined reasons.SharedStore)) (Declined reasons.SharedPicture) old mid new does printed =
-        absurd (let same = printed.0 in cc)
-    lives job (Ok (ends.Declined reasons.SharedStore)) (Declined reasons.NoPicture) old mid new does printed =
-        absurd (let same = printed.0 in cc)
-    lives job (Ok (ends.Declined reasons.SharedStore)) (Declined reasons.NoVariable) old mid new does printed =
-        absurd (let same = printed.0 in cc)
-    lives job (Ok (ends.Declined reasons.SharedStore)) (Declined reasons.NoCode) old mid new does printed =
-        absurd (let same = printed.0 in cc)
-    lives job (Ok (ends.Declined reasons.SharedStore)) Done old mid new does printed = absurd printed
-    lives job (Ok (ends.Declined reasons.SharedStore)) Helped old mid new does printed = absurd printed
-    lives job (Ok (ends.Declined reasons.SharedStore)) Misworded old mid new does printed = absurd printed
-    lives job (Ok (ends.Declined reasons.SharedStore)) (Fault fault) old mid new does printed = absurd printed
-    lives job (Ok (ends.Declined reasons.SharedStore)) OutputFailed old mid new does printed = absurd printed
-    lives job (Ok (ends.Declined reasons.SharedPicture)) ending old mid new does printed = absurd does
-    lives job (Ok (ends.Declined reasons.NoPicture)) ending old mid new does printed = absurd does
-    lives job (Ok (ends.Declined reasons.NoVariable)) ending old mid new does printed = absurd does
-    lives job (Ok (ends.Declined reasons.NoCode)) ending old mid new does printed = absurd does
+    lives job (Ok (ends.Declined why)) (Declined reason) old mid new does printed =
+        (subst (λ r. Declines (jobs.Live job) r) (sym printed.0) does.0, ap contents printed.1 ∙ does.1)
+    lives job (Ok (ends.Declined why)) Done old mid new does printed = absurd printed
+    lives job (Ok (ends.Declined why)) Helped old mid new does printed = absurd printed
+    lives job (Ok (ends.Declined why)) Misworded old mid new does printed = absurd printed
+    lives job (Ok (ends.Declined why)) (Fault fault) old mid new does printed = absurd printed
+    lives job (Ok (ends.Declined why)) OutputFailed old mid new does printed = absurd printed
     lives job (Ok (ends.Report text)) ending old mid new does printed = absurd does
     lives job (Err fault) (Fault told) old mid new does printed =
         subst (λ (o : O). LivesSo tells left_since may_leave job bytes (Err told) (contents old) (contents o)) (sym printed.1)

@@ -1,3 +1,4 @@
 mod PlotLemmas
+mod RowLemmas
 mod ReplayLemmas
 pub mod EndLemmas

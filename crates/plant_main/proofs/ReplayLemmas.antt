@@ -1,6 +1,6 @@
 -- Why a replay is refused.
 use Rattle.std.proofs.Common.{◌≡◌, ◌≢◌, ◌∙◌, refl, subst, ap, List, ℕ, None, Some, Result, Ok, Err, IfOk, IfErr, map}
-use Rattle.std.proofs.Common.{option_map, slice_get}
+use Rattle.std.proofs.Common.{option_map, slice_get, ◌⊎◌, inl, inr, sym, true, false, Option, IsNone, IsSome}
 use Rattle.std.specs.Vec.{vec_items}
 use Rattle.plan.specs.declared.plan.Plan.{Plan}
 use Rattle.st_types.specs.Rows.{Latch}
@@ -26,6 +26,7 @@ no_memory replays.Form h is = absurd (cc)
 no_memory replays.Row h is = absurd (cc)
 no_memory replays.NotWaiting h is = absurd (cc)
 no_memory replays.Outcome h is = absurd (cc)
+no_memory replays.Order h is = absurd (cc)
 no_memory replays.Device h is = h
 
 -- the fault of a refused source is none of them
@@ -71,3 +72,11 @@ mapped P Q (Err e) step holds = tt
 pub mapped_fault : {T E : Type 0} (P Q : E → Type 0) (r : Result T E) → ((e : E) → P e → Q e) → IfErr r P → IfErr r Q
 mapped_fault P Q (Ok t) step holds = tt
 mapped_fault P Q (Err e) step holds = step e holds
+
+-- a trace that can't be read is no V1 to V4
+pub device_or_memory : (e : ReplayError) → (e ≡ replays.NoMemory) ⊎ (e ≡ replays.Device) → IsTraceFault (faults.Trace e) → ⊥
+device_or_memory e (inl memory) is = subst (λ (x : ReplayError). IsTraceFault (faults.Trace x)) memory is
+device_or_memory e (inr device) is = subst (λ (x : ReplayError). IsTraceFault (faults.Trace x)) device is
+
+pub none_or_some : {T : Type 0} (o : Option T) → IsNone o → IsSome o → ⊥
+none_or_some o none some = let bad : true ≡ false = sym some ∙ none in cc

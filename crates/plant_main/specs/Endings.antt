@@ -10,7 +10,6 @@ use Rattle.plant_main.specs.declared.reporting.End.{End}
 use Rattle.plant_main.specs.declared.reporting.End.TheVariants as ends
 use Rattle.source_run.specs.declared.job.Job.TheVariants as jobs
 use Rattle.source_run.specs.declared.job.LiveJob.{LiveJob}
-use Rattle.plant_main.specs.declared.ending.Declined.TheVariants.{SharedStore}
 use Rattle.plant_main.specs.Jobs.{Declines, EndsWell, Reports}
 use Rattle.source_run.specs.declared.living.Lived.{Lived}
 use Rattle.plant_main.specs.LiveJobs.{IsLive, IsReported, LivesSo}
@@ -55,7 +54,7 @@ module _ {O : Type 0} (contents : O → Option (List ℕ)) where
     abbrev pub PerformsLive : LiveJob → Ending → O → O → Type 0
     PerformsLive job Done old new = (how : Lived) × IsReported how
         × IsLive tells left_since may_leave job bytes (Ok how) (contents old) (contents new)
-    PerformsLive job (Declined SharedStore) old new = contents new ≡ contents old
+    PerformsLive job (Declined why) old new = Declines (jobs.Live job) why × (contents new ≡ contents old)
     PerformsLive job (Fault fault) old new =
         LivesSo tells left_since may_leave job bytes (Err fault) (contents old) (contents new)
     PerformsLive job OutputFailed old new =

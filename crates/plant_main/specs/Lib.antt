@@ -1,4 +1,5 @@
 pub mod Endings
+pub mod SegmentRows
 pub mod Jobs
 pub mod Sizes
 pub mod Statuses

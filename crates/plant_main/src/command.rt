@@ -59,7 +59,20 @@ fn plant_file<'a>(alloc: Global) -> Arg<'a> {
 }
 
 fn trace_file<'a>(alloc: Global) -> Arg<'a> {
-    file(alloc, "trace", "The trace to replay").required(true)
+    file(
+        alloc,
+        "trace",
+        "The trace to replay, or a folder of segments from `plant live`",
+    )
+    .required(true)
+}
+
+fn segments_plant<'a>(alloc: Global) -> Arg<'a> {
+    file(
+        alloc,
+        "plant",
+        "The plant of a trace, a CSV file; segments need none",
+    )
 }
 
 fn flag<'a>(alloc: Global, name: &'a str, help: &'a str) -> Arg<'a> {
@@ -117,6 +130,10 @@ fn live<'a>(alloc: Global) -> Result<Command<'a>, AllocError> {
         Arg::new(alloc, "every").long("every").value_name("T").help(
             "Make a row each T, such as 10ms or 2s, with the newest inputs; lines have no `t`"
         ),
+        Arg::new(alloc, "trace")
+            .long("trace")
+            .value_name("DIR")
+            .help("A folder for the trace, in segments of about 1 MiB"),
         explain_flag(alloc),
     ]?;
     Command::new(alloc, "live")
@@ -129,7 +146,7 @@ fn live<'a>(alloc: Global) -> Result<Command<'a>, AllocError> {
 fn replay<'a>(alloc: Global) -> Result<Command<'a>, AllocError> {
     let args = vec![in alloc;
         source(alloc),
-        plant_file(alloc),
+        segments_plant(alloc),
         trace_file(alloc),
         explain_flag(alloc),
     ]?;
@@ -161,7 +178,7 @@ fn plot<'a>(alloc: Global) -> Result<Command<'a>, AllocError> {
         .num_args(0..);
     let args = vec![in alloc;
         source(alloc),
-        plant_file(alloc),
+        segments_plant(alloc),
         trace_file(alloc),
         file(alloc, "out", "The file for the picture"),
         paths,

@@ -20,6 +20,15 @@ pub enum Declined {
     /// The file for the picture is, by another name, the source, the plant or the trace.
     #[error("error: the picture is the source, the plant or the trace")]
     SharedPicture,
+    /// A trace of a run has no rows, and needs its plant.
+    #[error("error: a trace of a run needs its plant: --plant F")]
+    NoPlant,
+    /// Segments have their rows, and need no plant.
+    #[error("error: segments have their rows: leave out --plant")]
+    NeedlessPlant,
+    /// The folder for the trace can't be made.
+    #[error("error: the folder for the trace can't be made")]
+    NoFolder,
     /// The file for the picture can't be written.
     #[error("error: the picture can't be written")]
     NoPicture,

@@ -48,6 +48,11 @@ pub(crate) fn live<
     if shares_store(files, job) {
         return Ok(End::Declined(Declined::SharedStore));
     }
+    if let Some(folder) = job.trace {
+        if folder.is_empty() || !files.make_folder(folder) {
+            return Ok(End::Declined(Declined::NoFolder));
+        }
+    }
     let plan = plan_of(alloc, files, job.source, job.budget)?;
     match live_plan(rt, alloc, files, plan, job, input, out) {
         Ok(Lived::Report(report)) => Ok(End::Lived(report)),

@@ -20,6 +20,7 @@ mod program;
 mod reading;
 mod replaying;
 mod reporting;
+mod segments;
 mod showing;
 mod sizes;
 mod source_faults;

@@ -71,7 +71,7 @@ fn done<
         Job::Check(job) => check(alloc, files, job),
         Job::Run(job) => run(rt, alloc, files, job),
         Job::Live(job) => live(rt, alloc, files, job, input, out),
-        Job::Replay(job) => Ok(End::Report(replay(alloc, files, job)?)),
+        Job::Replay(job) => replay(alloc, files, job),
         Job::Show(job) => Ok(End::Report(show(alloc, files, job)?)),
         Job::Plot(job) => plot(alloc, files, job),
         Job::Explain { code } => match meaning(alloc, code)? {

@@ -79,6 +79,7 @@ fn live<'a>(given: &ArgMatches<'a>, every: Option<u64>) -> Option<LiveJob<'a>> {
         stamp: given.get_flag("stamp"),
         newest: given.get_flag("newest"),
         every,
+        trace: given.get_str("trace"),
         explain: given.get_flag("explain"),
     })
 }
@@ -86,7 +87,7 @@ fn live<'a>(given: &ArgMatches<'a>, every: Option<u64>) -> Option<LiveJob<'a>> {
 fn replay<'a>(given: &ArgMatches<'a>) -> Option<ReplayJob<'a>> {
     Some(ReplayJob {
         source: given.get_str("source")?,
-        plant: given.get_str("plant")?,
+        plant: given.get_str("plant"),
         trace: given.get_str("trace")?,
         explain: given.get_flag("explain"),
     })
@@ -119,7 +120,7 @@ fn show<'a>(given: &ArgMatches<'a>) -> Option<ShowJob<'a>> {
 fn plot<'a>(given: &ArgMatches<'a>, paths: Vec<&'a str>) -> Option<PlotJob<'a>> {
     Some(PlotJob {
         source: given.get_str("source")?,
-        plant: given.get_str("plant")?,
+        plant: given.get_str("plant"),
         trace: given.get_str("trace")?,
         picture: given.get_str("out"),
         paths,

@@ -1,18 +1,22 @@
 //! Traces that are run again.
 
-ghost use Rattle.std.specs.Prelude.{◌≡◌, ◌≢◌, ◌⊎◌, List, ℕ, None, IfOk, IfErr, map};
+ghost use Rattle.std.specs.Prelude.{◌≡◌, ◌⊎◌, List, ℕ, IsNone, IsSome, IfOk, IfErr, map};
 ghost use Rattle.std.specs.Vec.{vec_items};
 ghost use Rattle.st_types.specs.Rows.{Latch};
 ghost use Rattle.image.specs.Plants.{AreRowsOf};
 ghost use Rattle.source_run.specs.Reports.{report_text};
-ghost use Rattle.plant_main.specs.Jobs.{IsNoTrace, IsReplay, IsReplayOf, IsReportOfTrace, IsTraceFault, RefusesTrace};
+ghost use Rattle.source_run.specs.declared.job.Job.{Job};
+ghost use Rattle.plant_main.specs.Jobs.{EndsWell, IsNoTrace, IsReplayOf, IsReportOfTrace, IsTraceFault, RefusesTrace};
 ghost use Rattle.source_run.specs.Lives.{counts_of};
 
+use crate::ending::Declined;
+use crate::reporting::End;
+use crate::segments::{is_segment, replay_segments};
 use commit_lock::{ReplayError, Replayed, replay_text, trace_budget};
 use plan::Plan;
 use source_run::{Counts, Fault, Files, ReplayJob, plan_of, read_rows, report_with};
 use st_types::Row;
-use std::alloc::Global;
+use std::alloc::{AllocError, Global};
 use std::io;
 use std::io::Read;
 use std::sync::Arc;
@@ -27,8 +31,9 @@ fn unread_trace(error: &io::Error) -> ReplayError
     ReplayError::Device
 }
 
-/// More bytes than any trace has: 65,536 entries have lines of at most 144 bytes.
-const MAX_TRACE_BYTES: u64 = 16 * 1024 * 1024;
+/// More bytes than any trace has: 65,536 entries have lines of at most 144 bytes. A segment has 1 MiB and what a row adds, and a
+/// head with at most 4,096 paths.
+const MAX_TRACE_BYTES: u64 = 32 * 1024 * 1024;
 
 /// The bytes of a trace, as far as a trace may have them.
 pub(crate) fn read_trace<F: Files>(
@@ -117,17 +122,87 @@ fn replay_trace<F: Files>(
     files: &mut F,
     job: &ReplayJob<'_>,
     trace: &[u8],
-) -> Result<Vec<u8>, Fault>
-    ensures report { IfOk result (λ text. IsReplay text.items) }
+) -> Result<End, Fault>
+    ensures report { IfOk result (λ end. EndsWell F.Disk (Job.Replay job.now) end) }
     ensures refused { IfErr result (λ fault. RefusesTrace trace.now fault) }
 {
+    let Some(plant) = job.plant else {
+        return Ok(End::Declined(Declined::NoPlant));
+    };
     let budget = match trace_budget(trace) {
         Ok(budget) => budget,
         Err(error) => return Err(Fault::Trace(error)),
     };
     match plan_of(alloc, files, job.source, budget) {
-        Ok(plan) => replay_plan(alloc, files, plan, job.plant, trace),
+        Ok(plan) => match replay_plan(alloc, files, plan, plant, trace) {
+            Ok(report) => Ok(End::Report(report)),
+            Err(fault) => Err(fault),
+        },
         Err(fault) => Err(fault),
+    }
+}
+
+/// Runs a segment and those of these names again, in a row.
+fn replay_names<F: Files>(
+    alloc: Global,
+    files: &mut F,
+    job: &ReplayJob<'_>,
+    first: Vec<u8>,
+    others: &[String],
+) -> Result<End, Fault>
+    ensures report { IfOk result (λ end. EndsWell F.Disk (Job.Replay job.now) end) }
+    ensures refused { IfErr result (λ _. IsNone job.now.plant) }
+{
+    match job.plant {
+        Some(_) => Ok(End::Declined(Declined::NeedlessPlant)),
+        None => match replay_segments(alloc, files, job.source, first, others) {
+            Ok(report) => Ok(End::Report(report)),
+            Err(fault) => Err(fault),
+        },
+    }
+}
+
+/// The contents of what is given as a trace.
+#[derive(Drop)]
+pub(crate) enum Given {
+    /// The trace of a run.
+    Trace(Vec<u8>),
+    /// A segment, and the names of the files of the next ones.
+    Segments(Vec<u8>, Vec<String>),
+}
+
+/// Reads what is given as a trace: the first segment of a folder, a segment, or the trace of a run. V5 out of memory, V6 if it
+/// can't be read or the folder has none.
+pub(crate) fn read_given<F: Files>(
+    alloc: Global,
+    files: &mut F,
+    name: &str,
+) -> Result<Given, ReplayError>
+    ensures { IfErr result (λ error. (error ≡ ReplayError.NoMemory) ⊎ (error ≡ ReplayError.Device)) }
+{
+    let mut names = match files.traces(alloc, name) {
+        Ok(Some(names)) => names,
+        Ok(None) => return read_file(alloc, files, name),
+        Err(error) => return Err(unread_trace(&error)),
+    };
+    if names.is_empty() {
+        return Err(ReplayError::Device);
+    }
+    let first = names.remove(0);
+    match read_trace(alloc, files, &first) {
+        Ok(text) => Ok(Given::Segments(text, names)),
+        Err(error) => Err(error),
+    }
+}
+
+/// Reads a segment, or the trace of a run.
+fn read_file<F: Files>(alloc: Global, files: &mut F, name: &str) -> Result<Given, ReplayError>
+    ensures { IfErr result (λ error. (error ≡ ReplayError.NoMemory) ⊎ (error ≡ ReplayError.Device)) }
+{
+    match read_trace(alloc, files, name) {
+        Ok(text) if is_segment(&text) => Ok(Given::Segments(text, Vec::new(alloc))),
+        Ok(text) => Ok(Given::Trace(text)),
+        Err(error) => Err(error),
     }
 }
 
@@ -137,12 +212,13 @@ pub(crate) fn replay<F: Files>(
     alloc: Global,
     files: &mut F,
     job: &ReplayJob<'_>,
-) -> Result<Vec<u8>, Fault>
-    ensures report { IfOk result (λ text. IsReplay text.items) }
-    ensures refused { IfErr result (λ fault. (trace : List ℕ) × RefusesTrace trace fault) }
+) -> Result<End, Fault>
+    ensures report { IfOk result (λ end. EndsWell F.Disk (Job.Replay job.now) end) }
+    ensures refused { IfErr result (λ fault. IsSome job.now.plant → (trace : List ℕ) × RefusesTrace trace fault) }
 {
-    match read_trace(alloc, files, job.trace) {
-        Ok(trace) => replay_trace(alloc, files, job, &trace),
+    match read_given(alloc, files, job.trace) {
+        Ok(Given::Segments(first, others)) => replay_names(alloc, files, job, first, &others),
+        Ok(Given::Trace(trace)) => replay_trace(alloc, files, job, &trace),
         Err(error) => Err(Fault::Trace(error)),
     }
 }

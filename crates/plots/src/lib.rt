@@ -24,7 +24,7 @@ mod text;
 pub use chart::{Chart, Lane, Lanes, Level, Line, Mark, Point, Shape, Sign, Strip};
 pub use frame::MOST_LEVELS;
 pub use picture::write_chart;
-pub use plotting::{Plot, gather, write_plot};
+pub use plotting::{Plot, SegmentNotes, gather, write_plot};
 pub use scale::Scale;
 pub use shown::{MOST_VARIABLES, Shown, find, first_variables};
 pub use steps::round_step;

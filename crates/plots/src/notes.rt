@@ -9,6 +9,7 @@ use serial_core::SerialCore;
 use st_meaning::Outcome;
 use st_types::{Entry, Fault, Row, Value};
 use std::alloc::{AllocError, Global};
+use trace_segments::{Position, SegmentWatcher};
 
 /// A value that something took at a moment in milliseconds; no moment if it had it before the first row.
 #[derive(Clone, Copy)]
@@ -60,10 +61,39 @@ pub(crate) struct Notes {
     pub(crate) span: Option<(u64, u64)>,
 }
 
+/// A life whose values and overruns are noted.
+pub(crate) trait Noted {
+    /// The values of the variables, by their slots.
+    fn values(&self) -> &[Value];
+
+    /// How often a program was due while it waited.
+    fn overruns(&self, program: usize) -> u64;
+}
+
+impl Noted for SerialCore {
+    fn values(&self) -> &[Value] {
+        self.values()
+    }
+
+    fn overruns(&self, program: usize) -> u64 {
+        self.overruns(program)
+    }
+}
+
+impl Noted for Position {
+    fn values(&self) -> &[Value] {
+        self.values()
+    }
+
+    fn overruns(&self, program: usize) -> u64 {
+        self.overruns(program)
+    }
+}
+
 /// The value of a variable or input, if the entry just done may have changed it.
-fn value_of(core: &SerialCore, row: Option<&Row>, shown: Shown) -> Option<Value> {
+fn value_of<L: Noted>(life: &L, row: Option<&Row>, shown: Shown) -> Option<Value> {
     match shown {
-        Shown::Variable(number) => core.values().get(number).copied(),
+        Shown::Variable(number) => life.values().get(number).copied(),
         Shown::Input(number) => row?.image().get(number).copied(),
     }
 }
@@ -119,19 +149,23 @@ impl Notes {
         };
     }
 
-    fn note_values(&mut self, core: &SerialCore, row: Option<&Row>) -> Result<(), AllocError> {
-        let moment = core.last_moment();
+    fn note_values<L: Noted>(
+        &mut self,
+        life: &L,
+        row: Option<&Row>,
+        moment: Option<u64>,
+    ) -> Result<(), AllocError> {
         for course in &mut self.courses {
-            if let Some(value) = value_of(core, row, course.shown) {
+            if let Some(value) = value_of(life, row, course.shown) {
                 course.note(moment, value)?;
             }
         }
         Ok(())
     }
 
-    fn note_overruns(&mut self, core: &SerialCore, moment: u64) -> Result<(), AllocError> {
+    fn note_overruns<L: Noted>(&mut self, life: &L, moment: u64) -> Result<(), AllocError> {
         for (program, history) in self.histories.iter_mut().enumerate() {
-            let overruns = core.overruns(program);
+            let overruns = life.overruns(program);
             if overruns > history.overruns {
                 history.note(moment, Happening::Overrun)?;
                 history.overruns = overruns;
@@ -165,17 +199,54 @@ impl Notes {
     ) -> Result<(), AllocError> {
         match core.entry(number) {
             Some(Entry::Row(row)) => {
-                self.note_values(core, Some(row))?;
+                self.note_values(core, Some(row), Some(moment))?;
                 self.note_overruns(core, moment)
             }
             Some(Entry::Done(activation)) => {
-                self.note_values(core, None)?;
+                self.note_values(core, None, Some(moment))?;
                 match core.outcome(number) {
                     Some(outcome) => self.note_execution(moment, activation.program, outcome),
                     None => Ok(()),
                 }
             }
-            None => self.note_values(core, None),
+            None => self.note_values(core, None, Some(moment)),
+        }
+    }
+}
+
+impl SegmentWatcher for Notes {
+    fn begun(&mut self, position: &Position) -> Result<(), AllocError> {
+        for (program, history) in self.histories.iter_mut().enumerate() {
+            history.overruns = position.overruns(program);
+        }
+        // a life that begins later has its values from the last moment that was seen
+        let moment = match (position.last_moment(), self.span) {
+            (Some(moment), Some((_, last))) => Some(moment.max(last)),
+            (moment, None) => moment,
+            (None, Some((_, last))) => Some(last),
+        };
+        self.note_values(position, position.last_row(), moment)
+    }
+
+    fn latched(&mut self, position: &Position) -> Result<(), AllocError> {
+        let Some(moment) = position.last_moment() else {
+            return Ok(());
+        };
+        self.note_moment(moment);
+        self.note_values(position, position.last_row(), Some(moment))?;
+        self.note_overruns(position, moment)
+    }
+
+    fn ran(
+        &mut self,
+        position: &Position,
+        program: usize,
+        outcome: Outcome,
+    ) -> Result<(), AllocError> {
+        self.note_values(position, None, position.last_moment())?;
+        match position.last_moment() {
+            Some(moment) => self.note_execution(moment, program, outcome),
+            None => Ok(()),
         }
     }
 }
@@ -186,12 +257,12 @@ impl Watcher for Notes {
 
     fn seen(&mut self, core: &SerialCore) -> Result<(), AllocError> {
         let Some(moment) = core.last_moment() else {
-            return self.note_values(core, None);
+            return self.note_values(core, None, None);
         };
         self.note_moment(moment);
         match core.len().checked_sub(1) {
             Some(number) => self.note_entry(core, number, moment),
-            None => self.note_values(core, None),
+            None => self.note_values(core, None, Some(moment)),
         }
     }
 }

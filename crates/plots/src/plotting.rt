@@ -15,11 +15,13 @@ use crate::picture::write_chart;
 use crate::shown::Shown;
 use commit_lock::{ReplayError, Replayed, replay_watched};
 use plan::Plan;
+use st_meaning::Outcome;
 use st_types::Row;
 use std::alloc::{AllocError, Global};
 use std::io;
 use std::io::Write;
 use std::sync::Arc;
+use trace_segments::{Position, SegmentWatcher};
 
 /// The contents of a plot: a life that was run again, the values shown, and the history of each program.
 pub struct Plot {
@@ -58,6 +60,51 @@ pub fn gather(
     match replay_watched(alloc, plan, rows, text, &mut notes) {
         Ok(found) => Ok(Plot { found, notes }),
         Err(error) => Err(error),
+    }
+}
+
+/// The notes on segments that are run again, for a plot.
+pub struct SegmentNotes {
+    notes: Notes,
+}
+
+impl Drop for SegmentNotes {
+    fn drop(self) {
+        let Self { notes: _ } = self;
+    }
+}
+
+impl SegmentNotes {
+    /// Nothing is noted yet of these variables. The error is out of memory.
+    pub fn new(alloc: Global, plan: &Plan, shown: &[Shown]) -> Result<SegmentNotes, AllocError> {
+        Ok(SegmentNotes {
+            notes: Notes::new(alloc, plan, shown)?,
+        })
+    }
+
+    /// The plot of what was noted, with these findings.
+    pub fn plot(self, found: Replayed) -> Plot {
+        let SegmentNotes { notes } = self;
+        Plot { found, notes }
+    }
+}
+
+impl SegmentWatcher for SegmentNotes {
+    fn begun(&mut self, position: &Position) -> Result<(), AllocError> {
+        self.notes.begun(position)
+    }
+
+    fn latched(&mut self, position: &Position) -> Result<(), AllocError> {
+        self.notes.latched(position)
+    }
+
+    fn ran(
+        &mut self,
+        position: &Position,
+        program: usize,
+        outcome: Outcome,
+    ) -> Result<(), AllocError> {
+        self.notes.ran(position, program, outcome)
     }
 }
 

@@ -10,7 +10,7 @@ all =
     told.C2 ∷ told.C3 ∷ told.C4 ∷ told.C5 ∷ told.C6 ∷ told.C7 ∷ told.C8 ∷ told.C9 ∷ told.C10 ∷ told.C11 ∷
     told.C12 ∷ told.C13 ∷ told.G2 ∷ told.G3 ∷ told.G4 ∷ told.G5 ∷ told.G6 ∷ told.G7 ∷ told.G8 ∷ told.G9 ∷
     told.M1 ∷ told.M2 ∷ told.M3 ∷ told.X1 ∷ told.I1 ∷ told.I2 ∷ told.I3 ∷ told.I4 ∷ told.I5 ∷ told.I6 ∷
-    told.V1 ∷ told.V2 ∷ told.V3 ∷ told.V4 ∷ told.V5 ∷ told.V6 ∷ told.S1 ∷ told.S2 ∷ told.S3 ∷ told.S4 ∷
+    told.V1 ∷ told.V2 ∷ told.V3 ∷ told.V4 ∷ told.V5 ∷ told.V6 ∷ told.V7 ∷ told.S1 ∷ told.S2 ∷ told.S3 ∷ told.S4 ∷
     told.S5 ∷ told.S6 ∷ told.N2 ∷ told.K1 ∷ told.K2 ∷ told.K3 ∷ told.K4 ∷ told.K5 ∷ told.K6 ∷
     told.H1 ∷ told.H2 ∷ []
 
@@ -64,6 +64,7 @@ found_own told.V3 = refl
 found_own told.V4 = refl
 found_own told.V5 = refl
 found_own told.V6 = refl
+found_own told.V7 = refl
 found_own told.S1 = refl
 found_own told.S2 = refl
 found_own told.S3 = refl

@@ -40,7 +40,7 @@ use Rattle.source_run.specs.declared.code.Code.TheVariants.{L1, L2, L3, L4, L5, 
 use Rattle.source_run.specs.declared.code.Code.TheVariants.{C7, C8, C9, C10, C11, C12, C13, G2, G3, G4, G5, G6, G7, G8}
 use Rattle.source_run.specs.declared.code.Code.TheVariants.{G9, M1, M2, M3, X1, I1, I2, I3, I4, I5, I6, V1, V2, V3, V4}
 use Rattle.source_run.specs.declared.code.Code.TheVariants.{V5, V6, S1, S2, S3, S4, S5, S6, N2, K1, K2, K3, K4, K5}
-use Rattle.source_run.specs.declared.code.Code.TheVariants.{K6, H1, H2}
+use Rattle.source_run.specs.declared.code.Code.TheVariants.{K6, H1, H2, V7}
 
 abbrev pub code_of_word : LexFault → Code
 code_of_word words.Byte = L1
@@ -121,6 +121,7 @@ code_of_trace replays.NotWaiting = V3
 code_of_trace replays.Outcome = V4
 code_of_trace replays.NoMemory = V5
 code_of_trace replays.Device = V6
+code_of_trace replays.Order = V7
 
 abbrev pub code_of_store : StoreFault → Code
 code_of_store stores.TooLong = S1

@@ -26,7 +26,7 @@ abbrev pub differs_from_files : Option (Bor (List ℕ)) → PlotJob → Bool
 differs_from_files None job = true
 differs_from_files (Some picture) job =
     not (bytes_eq picture.now job.source.now)
-    && (not (bytes_eq picture.now job.plant.now) && not (bytes_eq picture.now job.trace.now))
+    && (not (is_named job.plant picture.now) && not (bytes_eq picture.now job.trace.now))
 
 abbrev pub has_own_picture : PlotJob → Bool
 has_own_picture job = differs_from_files job.picture job

@@ -48,7 +48,7 @@ listed_plants = codes "I1" ∷ codes "I2" ∷ codes "I3" ∷ codes "I4" ∷ code
 
 -- of the trace
 abbrev pub listed_traces : List (List ℕ)
-listed_traces = codes "V1" ∷ codes "V2" ∷ codes "V3" ∷ codes "V4" ∷ codes "V5" ∷ codes "V6" ∷ []
+listed_traces = codes "V1" ∷ codes "V2" ∷ codes "V3" ∷ codes "V4" ∷ codes "V5" ∷ codes "V6" ∷ codes "V7" ∷ []
 
 -- of the retain file
 abbrev pub listed_stores : List (List ℕ)

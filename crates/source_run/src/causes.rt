@@ -149,6 +149,7 @@ fn code_of_trace(error: ReplayError) -> Code
         ReplayError::Outcome => Code::V4,
         ReplayError::NoMemory => Code::V5,
         ReplayError::Device => Code::V6,
+        ReplayError::Order => Code::V7,
     }
 }
 

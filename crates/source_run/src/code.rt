@@ -61,6 +61,7 @@ pub enum Code {
     V4,
     V5,
     V6,
+    V7,
     // The retain file.
     S1,
     S2,
@@ -134,6 +135,7 @@ impl Code {
             Code::V4 => "V4",
             Code::V5 => "V5",
             Code::V6 => "V6",
+            Code::V7 => "V7",
             Code::S1 => "S1",
             Code::S2 => "S2",
             Code::S3 => "S3",

@@ -87,6 +87,8 @@ pub struct LiveJob<'a> {
     pub newest: bool,
     /// Milliseconds from row to row, if the clock makes rows with the newest inputs.
     pub every: Option<u64>,
+    /// The folder for the segments of the trace.
+    pub trace: Option<&'a str>,
     /// Whether a fault is explained.
     pub explain: bool,
 }
@@ -106,7 +108,9 @@ impl LiveJob<'_> {
 #[derive(Clone, Copy, Debug, PartialEq, Eq)]
 pub struct ReplayJob<'a> {
     pub source: &'a str,
-    pub plant: &'a str,
+    /// The plant of a trace; segments have their rows.
+    pub plant: Option<&'a str>,
+    /// The trace or a segment, or a folder of segments.
     pub trace: &'a str,
     /// Whether a fault is explained.
     pub explain: bool,
@@ -142,7 +146,9 @@ pub struct ShowJob<'a> {
 #[derive(Debug)]
 pub struct PlotJob<'a> {
     pub source: &'a str,
-    pub plant: &'a str,
+    /// The plant of a trace; segments have their rows.
+    pub plant: Option<&'a str>,
+    /// The trace or a segment, or a folder of segments.
     pub trace: &'a str,
     /// The file for the picture; the standard output if none is given.
     pub picture: Option<&'a str>,
@@ -171,7 +177,11 @@ impl PlotJob<'_> {
     {
         match self.picture {
             Some(picture) => {
-                picture != self.source && picture != self.plant && picture != self.trace
+                let is_plant = match self.plant {
+                    Some(plant) => plant == picture,
+                    None => false,
+                };
+                picture != self.source && !is_plant && picture != self.trace
             }
             None => true,
         }

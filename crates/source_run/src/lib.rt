@@ -24,6 +24,7 @@ mod progress;
 mod real_files;
 mod report;
 mod running;
+mod segments;
 mod sources;
 mod tracing;
 mod writing;
@@ -34,7 +35,7 @@ pub use code_writing::write_explanation;
 pub use codes::explanations;
 pub use entry::{Example, Explanation, Frame, Status};
 pub use fault::Fault;
-pub use files::Files;
+pub use files::{Files, Folder};
 pub use finding::{explanation, title};
 pub use job::{
     AskedMachine, CheckJob, DEFAULT_BUDGET, DEFAULT_BUDGET_TEXT, Job, LiveJob, Pace, PlotJob,

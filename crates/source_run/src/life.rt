@@ -3,7 +3,8 @@
 ghost use Rattle.std.specs.Prelude.{◌≡◌, IfOk, Some, option_map, slice_get, unwrap_or, false, count_by};
 ghost use Rattle.st_meaning.specs.Logs.{IsLegal, outcomes_of, row_count, done_count};
 ghost use Rattle.plan.specs.PlanViews.{plan_view};
-ghost use Rattle.commit_lock.specs.Replays.{HasOverrunsInAll, is_faulted};
+ghost use Rattle.trace.specs.Outcomes.{is_faulted};
+ghost use Rattle.commit_lock.specs.Replays.{HasOverrunsInAll};
 ghost use Rattle.source_run.specs.Lives.{IsReport};
 ghost use Rattle.durable_core.specs.Starting.{start_in};
 

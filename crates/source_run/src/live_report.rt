@@ -1,17 +1,25 @@
 //! What is reported of a life whose rows come as lines.
 
+use crate::files::Folder;
 use crate::report::{Counts, report_with};
+use crate::segments::{Segments, TraceEnd};
+use core_engine::Engine;
 use disk::Disk;
 use durable_core::EndlessCore;
 use live_drive::{Answered, Latencies, LineCounts, Missed, Observer};
+use plan::Plan;
+use st_meaning::Outcome;
+use st_types::{Activation, Row};
 use std::alloc::{AllocError, Global};
 use std::io::Write;
 use std::time::{Clock, Instant};
 
 /// How lines or ticks fared so far. A refused line is reported as it comes, and so is one whose executions had faults.
 #[derive(Drop)]
-pub(crate) struct Tally<'a, R: Eprint + Clock> {
+pub(crate) struct Tally<'a, R: Eprint + Clock, D: Folder + Drop> {
     rt: &'a R,
+    /// The segments of the trace, as long as they can be written.
+    segments: Option<Segments<D>>,
     /// Whether the clock makes rows, so that there is no line for each.
     by_clock: bool,
     /// When the line or the tick came that is served.
@@ -22,10 +30,11 @@ pub(crate) struct Tally<'a, R: Eprint + Clock> {
     faults: u64,
 }
 
-impl<'a, R: Eprint + Clock> Tally<'a, R> {
-    pub(crate) fn new(rt: &'a R, by_clock: bool) -> Tally<'a, R> {
+impl<'a, R: Eprint + Clock, D: Folder + Drop> Tally<'a, R, D> {
+    pub(crate) fn new(rt: &'a R, by_clock: bool, segments: Option<Segments<D>>) -> Tally<'a, R, D> {
         Tally {
             rt,
+            segments,
             by_clock,
             begun: None,
             latencies: Latencies::new(),
@@ -48,6 +57,21 @@ impl<'a, R: Eprint + Clock> Tally<'a, R> {
         };
     }
 
+    /// The trace ends, and the life goes on.
+    fn stop_trace(&mut self, why: TraceEnd) {
+        let _ = eprintln!(self.rt; "the trace ends: {why}");
+        self.segments = None;
+    }
+
+    /// Ends the trace with the life.
+    pub(crate) fn end_trace(&mut self) {
+        if let Some(segments) = &mut self.segments {
+            if let Err(why) = segments.end() {
+                self.stop_trace(why);
+            }
+        }
+    }
+
     /// Counts the time since the line was read, if there is a clock.
     fn count_latency(&mut self) {
         if let Some(begun) = self.begun {
@@ -59,10 +83,34 @@ impl<'a, R: Eprint + Clock> Tally<'a, R> {
     }
 }
 
-impl<R: Eprint + Clock> Observer for Tally<'_, R> {
+impl<R: Eprint + Clock, D: Folder + Drop> Observer for Tally<'_, R, D> {
     fn begun(&mut self) {
         self.counts.lines = self.counts.lines.saturating_add(1);
         self.begun = Instant::now(self.rt).ok();
+    }
+
+    fn latched(&mut self, row: &Row) {
+        if let Some(segments) = &mut self.segments {
+            if let Err(why) = segments.latched(row) {
+                self.stop_trace(why);
+            }
+        }
+    }
+
+    fn ran(&mut self, plan: &Plan, activation: Activation, outcome: Outcome) {
+        if let Some(segments) = &mut self.segments {
+            if let Err(why) = segments.ran(plan, activation, outcome) {
+                self.stop_trace(why);
+            }
+        }
+    }
+
+    fn saved(&mut self, engine: &Engine) {
+        if let Some(segments) = &mut self.segments {
+            if let Err(why) = segments.saved(engine) {
+                self.stop_trace(why);
+            }
+        }
     }
 
     fn answered(&mut self, answered: Answered) {
@@ -98,10 +146,10 @@ fn overruns<D: Disk>(core: &EndlessCore<D>) -> u64 {
 /// The report of a life: how many lines came and were refused, how long served lines took, then the counts and the variables
 /// as a run reports them. The feed has the counts of lines if it doesn't give them one by one. The only error is out of
 /// memory.
-pub(crate) fn live_report<D: Disk, R: Eprint + Clock>(
+pub(crate) fn live_report<D: Disk, R: Eprint + Clock, S: Folder + Drop>(
     alloc: Global,
     core: &EndlessCore<D>,
-    tally: &Tally<'_, R>,
+    tally: &Tally<'_, R, S>,
     came: Option<LineCounts>,
 ) -> Result<Vec<u8>, AllocError> {
     let rows = core.rows();

@@ -10,11 +10,13 @@ ghost use Rattle.source_run.specs.LiveRuns.{backlog_of, endless_room, is_before_
 ghost use Rattle.source_run.specs.Progress.{BeginsAs, mode_of};
 
 use crate::fault::Fault;
-use crate::files::Files;
+use crate::files::{Files, Folder};
 use crate::job::{LiveJob, Start};
 use crate::layouts::{changes_by, report_changes};
 use crate::live_report::{Tally, live_report};
 use crate::running::mode;
+use crate::segments::{Segments, TraceEnd, begin};
+use core_engine::Engine;
 use disk::Disk;
 use durable_core::{EndlessCore, StartFault};
 use image::PlantError;
@@ -173,13 +175,14 @@ fn moments(job: &LiveJob<'_>) -> Moments
 }
 
 /// Sends the header, then serves what comes of a feed, and gives the report.
-fn served<D: Disk, F: Feed, W: Write, R: Eprint + Clock>(
+fn served<D: Disk, F: Feed, W: Write, R: Eprint + Clock, S: Folder + Drop>(
     rt: &R,
     alloc: Global,
     core: &mut EndlessCore<D>,
     feed: &mut F,
     answers: &mut Answers,
     out: &mut W,
+    segments: Option<Segments<S>>,
 ) -> Result<Lived, Fault>
     ensures { HasLived D.tells D.left_since D.may_leave F.came F.gives F.ended result core.old feed.old
         answers.old (W.contents out.old) core.new feed.new (W.contents out.new) }
@@ -188,8 +191,10 @@ fn served<D: Disk, F: Feed, W: Write, R: Eprint + Clock>(
         Ok(()) => {}
         Err(_) => return Ok(Lived::OutputFailed),
     }
-    let mut tally = Tally::new(rt, feed.counts().is_some());
-    match serve(core, alloc, feed, answers, out, &mut tally) {
+    let mut tally = Tally::new(rt, feed.counts().is_some(), segments);
+    let end = serve(core, alloc, feed, answers, out, &mut tally);
+    tally.end_trace();
+    match end {
         End::Feed(FeedEnd::Ended) => match live_report(alloc, core, &tally, feed.counts()) {
             Ok(report) => Ok(Lived::Report(report)),
             Err(_) => Err(Fault::NO_MEMORY),
@@ -198,6 +203,29 @@ fn served<D: Disk, F: Feed, W: Write, R: Eprint + Clock>(
         End::Life(refusal) => Err(Fault::Run(RunFault::Refused(refusal))),
         End::Feed(FeedEnd::NoMemory) | End::NoMemory => Err(Fault::NO_MEMORY),
         End::Output => Ok(Lived::OutputFailed),
+    }
+}
+
+/// The segments of the trace of a life, if they are asked for and can be written. The error is out of memory.
+fn segments<F: Files, R: Eprint>(
+    rt: &R,
+    alloc: Global,
+    files: &mut F,
+    job: &LiveJob<'_>,
+    engine: &Engine,
+) -> Result<Option<Segments<F::Folder>>, AllocError> {
+    let Some(folder) = job.trace else {
+        return Ok(None);
+    };
+    match begin(alloc, files, folder, engine) {
+        Ok(segments) => Ok(Some(segments)),
+        Err(error) => match TraceEnd::of(&error) {
+            TraceEnd::NoMemory => Err(AllocError),
+            why => {
+                let _ = eprintln!(rt; "the trace ends: {why}");
+                Ok(None)
+            }
+        },
     }
 }
 
@@ -216,7 +244,14 @@ fn live_feed<F: Files, E: Feed, O: Write, R: Eprint + Clock>(
         feed.old answers.old (O.contents out.old) (O.contents out.new) }
 {
     let mut core = start(rt, alloc, files, plan, job)?;
-    let lived = served(rt, alloc, &mut core, feed, answers, out);
+    let segments = match segments(rt, alloc, files, job, core.engine()) {
+        Ok(segments) => segments,
+        Err(_) => {
+            files.back(core.stop());
+            return Err(Fault::NO_MEMORY);
+        }
+    };
+    let lived = served(rt, alloc, &mut core, feed, answers, out, segments);
     files.back(core.stop());
     lived
 }

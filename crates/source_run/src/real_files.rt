@@ -1,8 +1,9 @@
 //! The files of the system.
 
-use crate::files::Files;
+use crate::files::{Files, Folder};
 use disk::FileDisk;
-use std::fs::{File, Metadata, OpenOptions};
+use std::alloc::Global;
+use std::fs::{File, Metadata, OpenOptions, create_dir_all, read_dir};
 use std::io;
 use std::os::unix::fs::MetadataExt;
 
@@ -25,29 +26,56 @@ fn is_terminal(file: &Metadata) -> bool {
     file.mode() & KIND == CHARACTER_DEVICE && matches!(major, 4 | 5 | 136..=143)
 }
 
+/// A folder of the system.
+pub struct RealFolder<R: std::rt::Files<File = File> + Copy> {
+    rt: R,
+    name: String,
+}
+
+impl<R: std::rt::Files<File = File> + Copy> Drop for RealFolder<R> {
+    fn drop(self) {
+        let Self { rt: _, name: _ } = self;
+    }
+}
+
+impl<R: std::rt::Files<File = File> + Copy> Folder for RealFolder<R> {
+    type Writer = File;
+
+    fn create_new(&mut self, alloc: Global, name: &str) -> io::Result<File> {
+        let folder = &self.name;
+        let path = format!(in alloc; "{folder}/{name}")?;
+        OpenOptions::new()
+            .write(true)
+            .create_new(true)
+            .open(&self.rt, &path)
+    }
+}
+
 /// The files of the system. A retain file is locked as long as its disk is there.
-pub struct RealFiles<'a, R: std::rt::Files<File = File>> {
+pub struct RealFiles<'a, R: std::rt::Files<File = File> + Copy> {
     rt: &'a R,
 }
 
-impl<'a, R: std::rt::Files<File = File>> RealFiles<'a, R> {
+impl<'a, R: std::rt::Files<File = File> + Copy> RealFiles<'a, R> {
     pub fn new(rt: &'a R) -> RealFiles<'a, R> {
         RealFiles { rt }
     }
 }
 
-impl<R: std::rt::Files<File = File>> Drop for RealFiles<'_, R> {
+impl<R: std::rt::Files<File = File> + Copy> Drop for RealFiles<'_, R> {
     fn drop(self) {
         let Self { rt: _ } = self;
     }
 }
 
-impl<R: std::rt::Files<File = File>> Files for RealFiles<'_, R> {
+impl<R: std::rt::Files<File = File> + Copy> Files for RealFiles<'_, R> {
     type Reader = File;
 
     type Writer = File;
 
     type Disk = FileDisk<File>;
+
+    type Folder = RealFolder<R>;
 
     fn is_one_file(&mut self, one: &str, other: &str) -> bool {
         match (self.rt.metadata(one), self.rt.metadata(other)) {
@@ -69,6 +97,39 @@ impl<R: std::rt::Files<File = File>> Files for RealFiles<'_, R> {
 
     fn create(&mut self, name: &str) -> Option<File> {
         File::create(self.rt, name).ok()
+    }
+
+    fn folder(&mut self, alloc: Global, name: &str) -> io::Result<RealFolder<R>> {
+        Ok(RealFolder {
+            rt: *self.rt,
+            name: String::from_str(alloc, name)?,
+        })
+    }
+
+    fn traces(&mut self, alloc: Global, folder: &str) -> io::Result<Option<Vec<String>>> {
+        match self.rt.metadata(folder) {
+            Ok(found) if found.is_dir() => {}
+            _ => return Ok(None),
+        }
+        let mut names = Vec::new(alloc);
+        for entry in read_dir(&(self.rt, alloc), folder)? {
+            let entry = match entry {
+                Ok(entry) => entry,
+                // a name that isn't UTF-8 is no segment's
+                Err(error) if error.kind() == io::ErrorKind::InvalidFilename => continue,
+                Err(error) => return Err(error),
+            };
+            let name = entry.path();
+            if name.as_str().ends_with(".trace") {
+                names.push(String::from_str(alloc, name.as_str())?)?;
+            }
+        }
+        names.sort()?;
+        Ok(Some(names))
+    }
+
+    fn make_folder(&mut self, name: &str) -> bool {
+        create_dir_all(self.rt, name).is_ok()
     }
 
     fn store(&mut self, name: &str) -> Option<FileDisk<File>> {

@@ -1,5 +1,6 @@
 pub mod Puts
 pub mod Texts
+pub mod Outcomes
 pub mod Reads
 pub mod NamedValues
 pub mod Heads

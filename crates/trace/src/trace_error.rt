@@ -23,4 +23,7 @@ pub enum ReplayError {
     /// The trace could not be read or written.
     #[error("V6")]
     Device,
+    /// A segment that doesn't begin where the one before has ended.
+    #[error("V7")]
+    Order,
 }

@@ -1,8 +1,9 @@
 -- A position after a row, and after an execution.
 use Rattle.std.proofs.Common.{◌≡◌, ◌∙◌, ℕ, zero, suc, ◌+◌, ◌<◌, ◌≤◌, ◌^◌, Bool, true, false, List, [], ◌∷◌, length, map, Option, Some, None}
-use Rattle.std.proofs.Common.{IfSome, option_map, slice_get, slice_set, length-set, refl, sym, ap, subst, arith, IsTrue, ◌↔◌}
+use Rattle.std.proofs.Common.{min, sum_by, take, get_or, IfSome, option_map, slice_get, slice_set, length-set, refl, sym, ap, subst, arith, IsTrue, ◌↔◌}
 use Rattle.std.specs.List.{AllByRecursion}
 use Rattle.std.proofs.lemmas.List.{length-map}
+use Rattle.std.proofs.lemmas.List.Sums.{sum_by_more}
 use Rattle.std.proofs.lemmas.Bool.{ltb-true}
 use Rattle.st_types.specs.declared.limits.TheConstants.{MOMENT_LIMIT}
 use Rattle.st_types.specs.Values.{Datum}
@@ -55,6 +56,17 @@ pub samples_here : (position : PositionView) → IsPosition position → (image 
     ≡ samples_of (plan_view position.plan) (checkpoint_at position).store image
 samples_here position is image = samples_same position.plan.variables.items position.plan.inputs.items position.values image
     position.plan.tasks.items position.plan.sound.layout (values_sized position is) position.plan.sound.singles
+
+-- ---- overruns
+
+-- those of one program more, in all
+pub overruns_next : (ps : List ProgramProgress) (i : ℕ) (p : ProgramProgress) (old n new limit : ℕ) → i < length ps
+    → p ≡ get_or ps i p → old ≡ min (sum_by (λ q. q.overruns) (take i ps)) limit → n ≡ p.overruns
+    → new ≡ min (old + n) limit → new ≡ min (sum_by (λ q. q.overruns) (take (i + 1) ps)) limit
+overruns_next ps i p old n new limit small at so_far is sum =
+    let more = sum_by_more (λ (q : ProgramProgress). q.overruns) ps i p small in
+    let this : (get_or ps i p).overruns ≡ n = ap (λ (q : ProgramProgress). q.overruns) (sym at) ∙ sym is in
+    omega (arith, so_far, more, this, sum)
 
 -- ---- a row
 

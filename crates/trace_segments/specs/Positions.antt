@@ -1,5 +1,5 @@
 -- A life at some point, as code holds it.
-use Rattle.std.specs.Prelude.{◌≡◌, ◌≤◌, ◌<◌, ◌+◌, ℕ, Bool, List, length, map, Option, Some, None, IfSome}
+use Rattle.std.specs.Prelude.{◌≡◌, ◌≤◌, ◌<◌, ◌+◌, ◌-◌, ◌^◌, min, sum_by, ℕ, Bool, List, length, map, Option, Some, None, IfSome}
 use Rattle.std.specs.List.{AllByRecursion}
 use Rattle.st_types.specs.declared.limits.TheConstants.{MOMENT_LIMIT}
 use Rattle.st_types.specs.Values.{Datum}
@@ -39,6 +39,10 @@ checkpoint_at position = record {
   samples = position.samples;
   programs = position.programs;
 }
+
+-- how often programs were due while they waited, in all, up to the greatest number of 64 bits
+abbrev pub overruns_in : List ProgramProgress → ℕ
+overruns_in programs = min (sum_by (λ p. p.overruns) programs) (2 ^ 64 - 1)
 
 -- more rows than this don't come before the last one is over, since their moments rise from 0
 abbrev pub most_rows : Option Latch → ℕ

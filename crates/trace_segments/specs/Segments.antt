@@ -56,9 +56,13 @@ overruns_text (program ∷ programs) [] = []
 overruns_text (program ∷ programs) (p ∷ progress) =
     overruns_line program p.overruns ++ overruns_text programs progress
 
+-- the lines that each segment of a plan with this budget begins with
+abbrev pub begin_text : ℕ → List ℕ
+begin_text budget = line (codes "trace 2") ++ line (codes "budget " ++ decimal budget)
+
 -- the lines that say which life it is and how far that has come
 abbrev pub title_text : Plan → ℕ → Option ℕ → List ℕ
-title_text plan number before = line (codes "trace 2") ++ line (codes "budget " ++ decimal plan.budget)
+title_text plan number before = begin_text plan.budget
     ++ line (codes "segment " ++ decimal number) ++ line (codes "moment " ++ moment_text before)
 
 abbrev pub rows_text : Checkpoint → List ℕ

@@ -3,19 +3,23 @@
 //! It owns how the head of a segment is written, the meaning of its text, and how its entries are run again.
 #![tactic(auto)]
 
+mod beginning;
 mod head;
 mod laws;
 mod marking;
 mod parsing;
 mod position;
 mod progress;
+mod recorder;
 mod replaying;
 mod resting;
 mod running;
 mod watcher;
 
+pub use beginning::{is_first, segment_budget};
 pub use head::{Head, push_head};
 pub use laws::what_is_run_again_is_a_segment;
 pub use position::Position;
-pub use replaying::{Ended, is_first, replay_first, replay_next, segment_budget};
+pub use recorder::Recorder;
+pub use replaying::{Ended, replay_first, replay_next};
 pub use watcher::SegmentWatcher;

@@ -4,10 +4,12 @@ ghost use Rattle.std.specs.Prelude.{◌≡◌, ◌≢◌, ◌↔◌, ◌<◌, Is
 ghost use Rattle.st_types.specs.declared.entry.Entry.TheVariants as entries;
 ghost use Rattle.st_meaning.specs.Plans.{samples_of};
 ghost use Rattle.plan.specs.PlanViews.{plan_view};
+ghost use Rattle.std.specs.List.{list_any};
 ghost use Rattle.checkpoints.specs.Checkpoints.{moment_before_next, progress_at};
 ghost use Rattle.checkpoints.specs.Compaction.{compact_done, first_moment, moment_or};
 ghost use Rattle.checkpoints.specs.Continuation.{MayContinue};
-ghost use Rattle.trace_segments.specs.Positions.{GoesTo, HasRun, checkpoint_at};
+ghost use Rattle.trace_segments.specs.Positions.{GoesTo, HasRun, checkpoint_at, overruns_in};
+ghost use Rattle.trace_segments.specs.Runs.{IsBeginning};
 
 use crate::marking::mark_all;
 use crate::progress::Progress;
@@ -103,6 +105,13 @@ fn end_one(programs: &mut Vec<Progress>, program: usize)
     progress.ends();
 }
 
+/// Whether any sample is TRUE.
+fn is_any(samples: &[bool]) -> bool
+    ensures { result ≡ list_any (λ sample. sample) samples.now }
+{
+    samples.iter().any(|sample| *sample)
+}
+
 /// The moment of a row, or this one if there is none.
 fn moment_or(row: &Option<Row>, moment: u64) -> u64
     ensures { result ≡ moment_or moment row.now }
@@ -128,8 +137,10 @@ impl Position {
         &self.values
     }
 
-    /// How often programs were due while they waited, in all.
-    pub fn all_overruns(&self) -> u64 {
+    /// How often programs were due while they waited, in all, up to the greatest number of 64 bits.
+    pub fn all_overruns(&self) -> u64
+        ensures { result ≡ overruns_in self.now.programs }
+    {
         let mut overruns = 0u64;
         for program in &self.programs {
             overruns = overruns.saturating_add(program.overruns());
@@ -162,6 +173,13 @@ impl Position {
             Some(row) => Some(row.moment()),
             None => self.before,
         }
+    }
+
+    /// Whether it is the beginning of a life, before all rows.
+    pub(crate) fn is_beginning(&self) -> bool
+        ensures { IsTrue result → IsBeginning (checkpoint_at self.now) }
+    {
+        self.rows == 0 && self.first == 0 && self.last_row.is_none() && !is_any(&self.samples)
     }
 
     /// Whether the row may come next.

@@ -1,13 +1,12 @@
 //! A segment is run again, alone.
 
-ghost use Rattle.std.specs.Prelude.{◌≡◌, ◌==◌, ◌+◌, ◌++◌, IfOk, IfSome, IfNone, IsTrue, Some, codes};
+ghost use Rattle.std.specs.Prelude.{◌≡◌, ◌==◌, ◌++◌, IfOk, IfSome, IfNone, IsTrue, true, Some, codes};
 ghost use Rattle.std.specs.List.{list_any};
 ghost use Rattle.st_meaning.specs.Logs.{Log};
-ghost use Rattle.checkpoints.specs.Checkpoints.{Checkpoint};
 ghost use Rattle.live_rows.specs.RowLines.{row_line};
 ghost use Rattle.trace.specs.Texts.{end_line, line, outcome_text};
 ghost use Rattle.trace_segments.specs.Positions.{checkpoint_at};
-ghost use Rattle.trace_segments.specs.Runs.{EndsSegment, IsReplayOf, IsTail, StepsTo, outcome_in};
+ghost use Rattle.trace_segments.specs.Runs.{IsBeginning, IsReplayOf, IsRunAfter, IsRunAlone, IsTail, StepsTo, outcome_in};
 ghost use Rattle.trace_segments.specs.Segments.{IsResting, head_text};
 
 use crate::head::push_row;
@@ -18,47 +17,26 @@ use image::PlantError;
 use live_rows::RowReader;
 use plan::Plan;
 use st_meaning::Outcome;
-use st_types::limits::MAX_BUDGET;
 use st_types::{Activation, Row};
 use std::alloc::{AllocError, Global};
 use std::sync::Arc;
-use trace::{
-    ReplayError, after_count, after_words, ending, first_field, first_number, outcome_word,
-    program_of,
-};
-
-/// The budget of ticks in a segment: 1 to 1,000,000. V1 if its first lines are not of the format, or the number is another.
-pub fn segment_budget(text: &[u8]) -> Result<u32, ReplayError> {
-    let Some(lines) = after_words(text, b"trace 2\nbudget ") else {
-        return Err(ReplayError::Form);
-    };
-    match first_number(b'\n', lines) {
-        Some((budget, _)) if 1 <= budget && budget <= u64::from(MAX_BUDGET) => Ok(budget as u32),
-        _ => Err(ReplayError::Form),
-    }
-}
-
-/// Whether the text is the first segment of a life.
-pub fn is_first(text: &[u8]) -> bool {
-    let Some(lines) = after_words(text, b"trace 2\nbudget ") else {
-        return false;
-    };
-    match first_field(b'\n', lines) {
-        Some((_, lines)) => lines.starts_with(b"segment 0\n"),
-        None => false,
-    }
-}
+use trace::{ReplayError, after_count, after_words, ending, first_field, outcome_word, program_of};
 
 /// Where the segment begins that the text is of: its number, its position, and the text after its head.
 ///
-/// V1 if the text doesn't begin with the head of a segment of this plan, V5 out of memory.
+/// V1 if the text doesn't begin with the head of a segment of this plan, or if the first segment of a life begins after
+/// rows; V5 out of memory.
 fn begun(alloc: Global, plan: Arc<Plan>, text: &[u8]) -> Result<(u64, Position, &[u8]), ReplayError>
     ensures plan { IfOk result (λ begun. begun.1.plan ≡ plan.value) }
     ensures resting { IfOk result (λ begun. IsResting (checkpoint_at begun.1)) }
+    ensures first { IfOk result (λ begun. begun.0 ≡ 0 → IsBeginning (checkpoint_at begun.1)) }
     ensures head { IfOk result (λ begun. text.now
         ≡ head_text plan.value begun.0 begun.1.before (checkpoint_at begun.1) ++ begun.2.now) }
 {
     let (number, position) = position_in(alloc, plan, text)?;
+    if number == 0 && !position.is_beginning() {
+        return Err(ReplayError::Form);
+    }
     let head = position.head(alloc, number)?;
     match after_words(text, &head) {
         Some(rest) => Ok((number, position, rest)),
@@ -197,6 +175,8 @@ pub struct Ended {
     pub rows: u64,
     /// How many of its executions ended with a fault.
     pub faults: u64,
+    /// How often programs were due in it while they waited.
+    pub overruns: u64,
     /// Whether it has its last line. If not, it was cut off, perhaps within a line.
     pub is_whole: bool,
 }
@@ -237,6 +217,7 @@ fn replay_entries<W: SegmentWatcher>(
 ) -> Result<Ended, ReplayError>
     ensures { IfOk result (λ ended. (ended.number ≡ number) × (log : Log) × IsReplayOf position text.now log ended) }
 {
+    let overruns = position.all_overruns();
     let mut now = position;
     let mut rest = text;
     let (mut rows, mut faults) = (0u64, 0u64);
@@ -246,12 +227,14 @@ fn replay_entries<W: SegmentWatcher>(
             let Some(is_whole) = tail_of(entries, rest) else {
                 return Err(ReplayError::Form);
             };
+            let overruns = position.all_overruns().saturating_sub(overruns);
             return Ok(Ended {
                 number,
                 position,
                 entries,
                 rows,
                 faults,
+                overruns,
                 is_whole,
             });
         };
@@ -279,7 +262,7 @@ pub fn replay_first<W: SegmentWatcher>(
     text: &[u8],
     watcher: &mut W,
 ) -> Result<Ended, ReplayError>
-    ensures { IfOk result (λ ended. (head : Checkpoint) × (log : Log) × EndsSegment plan.value ended.number head text.now log ended) }
+    ensures { IfOk result (λ ended. IsRunAlone plan.value text.now ended) }
 {
     let (number, position, entries) = begun(alloc, plan, text)?;
     if watcher.begun(&position).is_err() {
@@ -288,17 +271,19 @@ pub fn replay_first<W: SegmentWatcher>(
     replay_entries(alloc, number, position, entries, watcher)
 }
 
-/// Runs the next segment of the life again, which begins where this one has ended.
+/// Runs the next segment of the life again, which begins where this one has ended. If it was cut off within its head, it has no
+/// entry.
 ///
-/// V1 if it begins elsewhere, is of another life, or has another number; otherwise as `replay_first`.
+/// V7 if this one was cut off, or the next one begins elsewhere, is of another life, or has another number; otherwise as
+/// `replay_first`.
 pub fn replay_next<W: SegmentWatcher>(
     alloc: Global,
     before: Ended,
     text: &[u8],
     watcher: &mut W,
 ) -> Result<Ended, ReplayError>
-    ensures { IfOk result (λ ended. (ended.position.before ≡ before.position.before) × (log : Log)
-        × EndsSegment before.position.plan (before.number + 1) (checkpoint_at before.position) text.now log ended) }
+    ensures whole { IfOk result (λ _. before.is_whole ≡ true) }
+    ensures next { IfOk result (λ ended. IsRunAfter before text.now ended) }
 {
     let Ended {
         number,
@@ -306,15 +291,27 @@ pub fn replay_next<W: SegmentWatcher>(
         entries: _,
         rows: _,
         faults: _,
-        is_whole: _,
+        overruns: _,
+        is_whole,
     } = before;
-    if number == u64::MAX {
-        return Err(ReplayError::Form);
+    if !is_whole || number == u64::MAX {
+        return Err(ReplayError::Order);
     }
     let next = number + 1;
     let head = position.head(alloc, next)?;
-    match after_words(text, &head) {
-        Some(entries) => replay_entries(alloc, next, position, entries, watcher),
-        None => Err(ReplayError::Form),
+    if let Some(entries) = after_words(text, &head) {
+        return replay_entries(alloc, next, position, entries, watcher);
+    }
+    match after_words(&head, text) {
+        Some(_) => Ok(Ended {
+            number: next,
+            position,
+            entries: 0,
+            rows: 0,
+            faults: 0,
+            overruns: 0,
+            is_whole: false,
+        }),
+        None => Err(ReplayError::Order),
     }
 }

@@ -5,7 +5,7 @@ ghost use Rattle.source_run.specs.ListedCodes.{code_bytes, listed_traces};
 
 use crate::entry::{Example, Explanation, Frame, Status};
 
-static EXPLANATIONS: [Explanation; 6] = [
+static EXPLANATIONS: [Explanation; 7] = [
     Explanation {
         code: "V1",
         title: "a line is malformed, or doesn't match the plan",
@@ -71,6 +71,7 @@ static EXPLANATIONS: [Explanation; 6] = [
         title: "the trace can't be read, or a run can't write it",
         meaning: &[
             "A run that can't write its trace has otherwise succeeded, and its retain file is saved.",
+            "A live run whose trace can't be written goes on without it.",
         ],
         example: Some(Example {
             frame: Frame::Command,
@@ -78,6 +79,27 @@ static EXPLANATIONS: [Explanation; 6] = [
             right: &[
                 "plant run own.st --plant own.csv --store own.retain --start cold --trace own.trace",
                 "plant replay own.st --plant own.csv --trace own.trace",
+            ],
+        }),
+        status: Status::Trace,
+    },
+    Explanation {
+        code: "V7",
+        title: "a segment of a trace doesn't begin where the one before it has ended",
+        meaning: &[
+            "The segments of a folder are replayed in the order of their names.",
+            "One is missing, was changed, or is of another life; only the last one of a life may be cut off.",
+        ],
+        example: Some(Example {
+            frame: Frame::Command,
+            wrong: &[
+                "plant live own.st --store own.retain --start cold --trace segments < own.csv",
+                "sed 's/^segment 0$/segment 2/' segments/*.trace > segments/9.trace",
+                "plant replay own.st --trace segments",
+            ],
+            right: &[
+                "plant live own.st --store own.retain --start cold --trace segments < own.csv",
+                "plant replay own.st --trace segments",
             ],
         }),
         status: Status::Trace,

@@ -1,7 +1,7 @@
 use Rattle.std.proofs.Common.{◌≡◌, take, count_by}
 use Rattle.st_meaning.specs.Logs.{outcomes_of}
 use Rattle.plan.specs.PlanViews.{plan_view}
-use Rattle.commit_lock.specs.Replays.{is_faulted}
+use Rattle.trace.specs.Outcomes.{is_faulted}
 use Rattle.commit_lock.proofs.findings.faults.Given as goal
 
 abbrev pub invariant-loop-number : goal.invariant-loop-number

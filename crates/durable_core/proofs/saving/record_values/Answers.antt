@@ -11,7 +11,7 @@ use Rattle.durable_core.proofs.saving.record_values.Goals as goal
 
 pub returns-clause-values : goal.returns-clause-values
 returns-clause-values c =
-    let (start, log, is) = c.lived.ensures in
+    let (start, log, is) = c.lived.ensures.live in
     let plan = c.args.engine.now.plan in
     c.record_all.ensures.items
     ∙ ap (map recorded) (c.retain.ensures.values start log is

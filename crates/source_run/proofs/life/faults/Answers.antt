@@ -2,7 +2,7 @@ use Rattle.std.proofs.Common.{◌≡◌, ◌<◌, ◌∙◌, ap, sym, rules, ◌
 use Rattle.std.proofs.Math.Seq.{take-length}
 use Rattle.st_meaning.specs.Logs.{outcomes_of, beginning}
 use Rattle.plan.specs.PlanViews.{plan_view}
-use Rattle.commit_lock.specs.Replays.{is_faulted}
+use Rattle.trace.specs.Outcomes.{is_faulted}
 use Rattle.commit_lock.proofs.FindingLemmas.{count_no, count_yes}
 use Rattle.trace.proofs.TraceLemmas.{outcomes_long}
 use Rattle.source_run.proofs.life.faults.Goals.{then-is_faulted_at, else-is_faulted_at}

@@ -1,4 +1,4 @@
-use Rattle.std.proofs.Common.{inr}
+use Rattle.std.proofs.Common.{inl, inr, refl}
 use Rattle.source_run.proofs.living.live_feed.Goals as goal
 
 pub returns : goal.returns
@@ -13,3 +13,6 @@ returns g c = inr (
   c.served-lived.new.feed,
   c.served-lived.ensures,
 )
+
+pub returns-in-Err : goal.returns-in-Err
+returns-in-Err g c = inl (_, refl, (refl, λ e. let it = e in cc), refl)

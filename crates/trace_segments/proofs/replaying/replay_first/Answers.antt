@@ -17,4 +17,5 @@ returns g c =
           (c.in_ok-number.ensures.head
           ∙ ap (λ n. head_text c.args.plan.value n first.before (checkpoint_at first) ++ entries) (sym is.0))
           is.2 refl,
+      λ zero. c.in_ok-number.ensures.first (sym is.0 ∙ zero),
     )) c.replay_entries.ensures

@@ -12,14 +12,14 @@ whole_execution-requires c = record {
 
 pub returns-in-Quick-clause-activation : goal.returns-in-Quick-clause-activation
 returns-in-Quick-clause-activation c =
-    let (start, log, is) = c.lived.ensures in
+    let (start, log, is) = c.lived.ensures.live in
     let taken = subst (IsTakenIn (life_in c.args.self.now start log) c.args.activation) c.in-Quick.is
     (c.in_ok-quick.ensures.taken start log is) in
     ok_weaker c.quick_execution.result _ _ (λ e same. same ∙ taken.0) c.quick_execution.ensures.activation
 
 pub returns-in-Whole-clause-activation : goal.returns-in-Whole-clause-activation
 returns-in-Whole-clause-activation c =
-    let (start, log, is) = c.lived.ensures in
+    let (start, log, is) = c.lived.ensures.live in
     let taken = subst (IsTakenIn (life_in c.args.self.now start log) c.args.activation) c.in-Whole.is
     (c.in_ok-quick.ensures.taken start log is) in
     ok_weaker c.whole_execution.result _ _ (λ e same. same ∙ taken.0) c.whole_execution.ensures.activation
