@@ -88,10 +88,35 @@ error[L1]: the byte 0x01 isn't allowed here
 """),
     ("L1", "PROGRAM P @(* \x1b[2J *) END_PROGRAM", """\
 error[L1]: the byte 0x1B isn't allowed in a comment
- --> t.st:1:11
+ --> t.st:1:14
   |
 1 | PROGRAM P (* ?[2J *) END_PROGRAM
+  |              ^
+  = help: use printable ASCII characters
+"""),
+    ("L1", "PROGRAM P @(* f\u00fcr *) END_PROGRAM", """\
+error[L1]: the byte 0xC3 isn't allowed in a comment
+ --> t.st:1:15
+  |
+1 | PROGRAM P (* f??r *) END_PROGRAM
+  |               ^
+  = help: a source has ASCII characters alone, as `ue` for an umlaut
+"""),
+    ("L1", "PROGRAM P @\u00fc := 1; END_PROGRAM", """\
+error[L1]: the byte 0xC3 isn't allowed here
+ --> t.st:1:11
+  |
+1 | PROGRAM P ?? := 1; END_PROGRAM
   |           ^
+  = help: a source has ASCII characters alone, as `ue` for an umlaut
+"""),
+    ("L1", "@\ufeffPROGRAM P END_PROGRAM", """\
+error[L1]: the byte 0xEF isn't allowed here
+ --> t.st:1:1
+  |
+1 | ???PROGRAM P END_PROGRAM
+  | ^
+  = help: save the source without a byte order mark
 """),
     ("L2", "PROGRAM P n := @2#102; END_PROGRAM", """\
 error[L2]: `2#102` isn't a literal
@@ -195,7 +220,7 @@ error[P1]: `REAL` isn't allowed here
   |
 6 |     raw : REAL;
   |           ^~~~
-  = help: this word is reserved, but isn't supported
+  = help: there is no REAL: use whole numbers, as 15 tenths for 1.5
 """),
     ("P2", tank("level := " + "(" * 63 + "1" + ")" * 63 + ";"), """\
 error[P2]: an expression, a statement or an initial value is over 64 deep
@@ -575,7 +600,7 @@ error[C3]: a condition is BOOL; the expression is INT
    |
 10 |   IF level THEN level := 1; END_IF;
    |      ^~~~~
-   = help: convert it with INT_TO_BOOL
+   = help: compare it: `level <> 0`
 """),
     ("C3", tank("slow(IN := open, PT := @level);"), """\
 error[C3]: the input `PT` is TIME; the expression is INT
@@ -583,6 +608,7 @@ error[C3]: the input `PT` is TIME; the expression is INT
    |
 10 |   slow(IN := open, PT := level);
    |                          ^~~~~
+   = help: a TIME isn't converted to a number or back: compare TIMEs, as in `t >= T#1s`
 """),
     ("C3", tank("level := DINT_TO_INT(@level);"), """\
 error[C3]: `DINT_TO_INT` doesn't take INT
@@ -597,6 +623,7 @@ error[C3]: `open` is BOOL; the expression is a number
    |
 10 |   open := 1;
    |           ^
+   = help: write TRUE or FALSE
 """),
     ("C3", tank("raw : DINT := @TRUE;", "raw : DINT := 5;"), """\
 error[C3]: the variable is DINT; the expression is BOOL
@@ -604,7 +631,7 @@ error[C3]: the variable is DINT; the expression is BOOL
   |
 6 |     raw : DINT := TRUE;
   |                   ^~~~
-  = help: convert it with BOOL_TO_DINT
+  = help: write a literal of DINT
 """),
     ("C3", tank("spot : Point;", "slow : TON;").replace(STATEMENT, "spot.x := @raw;") + POINT, """\
 error[C3]: `spot.x` is INT; the expression is DINT
@@ -1392,6 +1419,237 @@ error[X1]: the source can't be read
 """),
 ]
 
+LATE = tank("late : TIME;", "slow : TON;")
+NO_POWER = "there is no power: multiply, as in `n * n`"
+NO_REAL = "there is no REAL: use whole numbers, as 15 tenths for 1.5"
+TIME_STAYS = "a TIME isn't converted to a number or back: compare TIMEs, as in `t >= T#1s`"
+COMMENT = "write a comment as `(* .. *)`"
+PLAIN = "numbers without a type are LINT in a call: write"
+NAMES = "a function takes its arguments without names; a block is called in a statement"
+LOCATED = "a global has an address, as in `flow AT %IW0 : INT`; use its name elsewhere"
+ROOM = "TASK and PROGRAM belong in a RESOURCE: `RESOURCE R ON CPU .. END_RESOURCE`"
+TASK = "write a task as `TASK T (INTERVAL := T#10ms, PRIORITY := 0);`"
+
+
+def stray(token):
+    return f"`{token}` isn't allowed here"
+
+
+def undeclared(name):
+    return f"`{name}` isn't declared in this scope"
+
+
+def byte(character):
+    return f"the byte 0x{ord(character):02X} (`{character}`) isn't allowed here"
+
+
+def unlike(operator, left, right):
+    return f"the operands of `{operator}` are {left} and {right}: they must have the same type"
+
+
+# statements with marks of other languages, or of what the profile leaves out: the sentence, and what to write
+MARKS = {
+    "level := level /@/ 2": (stray("/"), COMMENT),
+    "@// a comment": (stray("/"), COMMENT),
+    "@/* a comment */": (stray("/"), COMMENT),
+    "level := level *@* 2;": (stray("*"), NO_POWER),
+    "IF level =@= 1 THEN ; END_IF;": (stray("="), "`=` compares, `:=` assigns"),
+    "open := level =@< 1;": (stray("<"), "write `<=`"),
+    "level @+= 1;": (stray("+"), "write the name twice, as in `n := n + 1`"),
+    "level @-= 1;": (stray("-"), "write the name twice, as in `n := n - 1`"),
+    "level @*= 1;": (stray("*"), "write the name twice, as in `n := n * 2`"),
+    "level @/= 1;": (stray("/"), "write the name twice, as in `n := n / 2`"),
+    "level@++;": (stray("+"), "write `n := n + 1`"),
+    "level@--;": (stray("-"), "write `n := n - 1`, and a comment as `(* .. *)`"),
+    "level := level <@< 1;": (stray("<"), "shift a bit string, as in `SHL(w, 1)`"),
+    "level := level >@> 1;": (stray(">"), "shift a bit string, as in `SHR(w, 1)`"),
+    "open := open &@& open;": (stray("&"), "write AND"),
+    "IF level @!= 1 THEN ; END_IF;": (byte("!"), "write `<>`"),
+    "open := open @|| open;": (byte("|"), "write OR"),
+    "open := open @| open;": (byte("|"), "write OR"),
+    "open := @!open;": (byte("!"), "write NOT"),
+    "open := @~open;": (byte("~"), "write NOT"),
+    "level := level @% 2;": (byte("%"), "write a remainder as `n MOD 2`, and an address as `%IX0`"),
+    "level := level@^;": (byte("^"), "there is no power, and there are no pointers"),
+    "level := open @? 1 : 2;": (byte("?"), "choose with IF or SEL"),
+    "@{once} level := 1;": (byte("{"), "leave a pragma out; an IF ends with END_IF"),
+    "IF open THEN level := 1; @}": (byte("}"), "leave a pragma out; an IF ends with END_IF"),
+    'level := @"a";': (byte('"'), "strings aren't supported"),
+}
+
+# statements with words and forms of other languages
+FORMS = {
+    "IF open THEN ; ELSEIF @open THEN ; END_IF;": (stray("open"), "write ELSIF"),
+    "IF open THEN ; END @IF;": (stray("IF"), "write the last word as END_IF or END_FOR"),
+    "WHILE open DO BREAK@; END_WHILE;": (stray(";"), "write EXIT in a loop; an arm of a CASE needs no word"),
+    "WHILE open DO CONTINUE@; END_WHILE;": (stray(";"), "put the rest of the loop into an IF"),
+    "GOTO @Start;": (stray("Start"), "there are no jumps: write an IF or a loop"),
+    "SWITCH @level OF 1: ; END_CASE;": (stray("level"), "write CASE"),
+    "REPEAT level := 1; UNTIL open@; END_REPEAT;": (stray(";"), "write `END_REPEAT` here, without `;`"),
+    "IF open@; level := 1; END_IF;": (stray(";"), "write `THEN` here, without `;`"),
+    "level := 1@.5;": (stray("."), NO_REAL),
+    "open := raw.@3;": (stray("3"), "a bit has no name: read it with a mask, as in `(w AND 16#8) <> 0`"),
+    "level := LIMIT(MN @:= 0, IN := level, MX := 5);": (stray(":="), NAMES),
+    "level := MAX(1, IN2 @:= 2);": (stray(":="), NAMES),
+    "open := slow(IN @:= open);": (stray(":="), NAMES),
+    "slow(open@, T#1s);": (stray(","), "an input of a block has a name, as in `IN := b`"),
+    "IF (level @:= 1) THEN ; END_IF;": (stray(":="), "`=` compares, `:=` assigns"),
+    "open := level @=> 1;": (stray("=>"), "`>=` compares, `=>` copies an output of a block"),
+    "level := @%IW0;": (stray("%IW0"), LOCATED),
+    "level := 1; @VAR size : INT; END_VAR": (stray("VAR"), "variables come before the first statement, which may be a `;`"),
+}
+
+# words that aren't literals, and what to write
+WORDS = {
+    "0x1F": "write `16#1F`",
+    "0b10": "write `2#10`",
+    "0o17": "write `8#17`",
+    "500ms": "write `T#500ms`",
+    "1e3": NO_REAL,
+}
+
+# functions with the operators that do their work; the first four are reserved words
+OPERATORS = {
+    "MOD": "MOD",
+    "AND": "AND",
+    "OR": "OR",
+    "XOR": "XOR",
+    "ADD": "+",
+    "SUB": "-",
+    "MUL": "*",
+    "DIV": "/",
+    "GT": ">",
+    "GE": ">=",
+    "EQ": "=",
+    "LE": "<=",
+    "LT": "<",
+    "ne": "<>",
+}
+
+# functions that the profile doesn't have, and what to write
+FUNCTIONS = {
+    "TIME_TO_DINT": TIME_STAYS,
+    "INT_TO_TIME": TIME_STAYS,
+    "INT_TO_REAL": NO_REAL,
+    "INT_TO_INT": "leave it out: the types are one",
+    "TO_INT": "write both types, as in `DINT_TO_INT`",
+    "EXPT": NO_POWER,
+    "SQRT": NO_REAL,
+    "MUX": "choose with CASE",
+    "MOVE": "assign with `:=`",
+    "CONCAT": "strings aren't supported",
+    "ADR": "there are no pointers",
+}
+
+# types that the profile doesn't have
+TYPES = {
+    "Boolean": "write BOOL",
+    "INT32": "write DINT",
+    "LTIME": "write TIME",
+    "TOD": "dates aren't supported",
+}
+
+# declarations of a program's variable
+DECLARED = {
+    "@STRING": (stray("STRING"), "strings aren't supported"),
+    "ARRAY [0..3@, 0..3] OF INT": (stray(","), "an array has one dimension: declare an array of rows"),
+    "ARRAY [0..3] OF @ARRAY [0..3] OF INT": (stray("ARRAY"), "declare this type in TYPE, and write its name here"),
+    "@(Fill, Drain)": (stray("("), "declare this type in TYPE, and write its name here"),
+    "INT @(0..9)": (stray("("), "there are no subranges: bound a value with LIMIT"),
+    "DINT;@": (stray(";"), "leave the `;` out"),
+}
+
+# each hint that is one of many alike: the code, the text, the sentence and the hint. A second `@` is the place of the caret.
+HINTS = [
+    *(("L1" if said.startswith("the byte") else "P1", tank(it), said, hint) for it, (said, hint) in MARKS.items()),
+    *(("P1", tank(it), said, hint) for it, (said, hint) in FORMS.items()),
+    *(("L2", tank(f"raw := @{it};"), f"`{it}` isn't a literal", hint) for it, hint in WORDS.items()),
+    *(("P1" if it == sign else "C1", tank(f"level := @{it}(level, 1);"), stray(it) if it == sign else undeclared(it),
+       f"write the operator, as in `level {sign} 1`") for it, sign in OPERATORS.items()),
+    ("C1", tank("open := @GT(level + 1, 2);"), undeclared("GT"), "write the operator, as in `a > b`"),
+    *(("C1", tank(f"level := @{it}(level);"), undeclared(it), hint) for it, hint in FUNCTIONS.items()),
+    *(("C1", tank(f"raw : @{it};", "raw : DINT := 5;"), undeclared(it), hint) for it, hint in TYPES.items()),
+    *(("P1", tank(f"raw : {it};", "raw : DINT := 5;"), said, hint) for it, (said, hint) in DECLARED.items()),
+    # a number where a BOOL is expected
+    ("C3", tank("WHILE @level + 1 DO ; END_WHILE;"), "a condition is BOOL; the expression is INT", "compare it with `<> 0`"),
+    ("C3", tank("open := @raw;"), "`open` is BOOL; the expression is DINT", "compare it: `raw <> 0`"),
+    ("C3", LATE.replace(STATEMENT, "IF @late THEN ; END_IF;"), "a condition is BOOL; the expression is TIME", "compare it: `late <> T#0s`"),
+    # calls of numbers alone, beside an INT
+    ("C3", tank("level := @MAX(1, 2);"), "`level` is INT; the expression is LINT", f"{PLAIN} `INT#1`"),
+    ("C3", tank("level := @ABS(-5);"), "`level` is INT; the expression is LINT", f"{PLAIN} `-INT#5`"),
+    ("C3", tank("level := @(@LIMIT(16#0, 5, 9));"), "`level` is INT; the expression is LINT", f"{PLAIN} `INT#16#0`"),
+    ("C3", tank("level := @level + @SEL(open, -1, 1);"), unlike("+", "INT", "LINT"), f"{PLAIN} `-INT#1`"),
+    ("C3", tank("level := @SEL(level > MAX(level, 1), 2, 1) - level;"), unlike("-", "LINT", "INT"), f"{PLAIN} `INT#2`"),
+    ("C3", tank("level := MAX(level, @MIN(1, ABS(2)));"),
+     "the arguments of `MAX` must have the same type: this one is LINT, another INT", f"{PLAIN} `INT#1`"),
+    ("C3", tank("level := @raw + level * MAX(level, 1);"), unlike("+", "DINT", "INT"), None),
+    ("L2", tank("level := @INT#-1;"), "`INT#` isn't a literal", "write the sign first: `-INT#1`"),
+    # a TIME and a number
+    ("C3", LATE.replace(STATEMENT, "late := @late * 2;"), "`*` takes integers; an operand is TIME",
+     "a TIME can't be multiplied: add it up, as in `t + t`, or write a TIME literal"),
+    ("C3", LATE.replace(STATEMENT, "late := @2 * late;"), "`*` takes integers; an operand is TIME",
+     "a TIME can't be multiplied: add it up, as in `t + t`, or write a TIME literal"),
+    ("C3", LATE.replace(STATEMENT, "late := @late / late;"), "`/` takes integers; the operands are TIME",
+     "a TIME can't be divided: write a TIME literal, as in `T#500ms`"),
+    ("C3", LATE.replace(STATEMENT, "late := @late + 1;"), unlike("+", "TIME", "a number"), "write a TIME, as in `T#1s`"),
+    ("C3", LATE.replace(STATEMENT, "open := @level > late;"), unlike(">", "INT", "TIME"), TIME_STAYS),
+    ("C3", LATE.replace(STATEMENT, "late := @5;"), "`late` is TIME; the expression is a number", "write a TIME, as in `T#1s`"),
+    ("C3", LATE.replace(STATEMENT, "level := @late;"), "`level` is INT; the expression is TIME", TIME_STAYS),
+    ("C3", LATE.replace(STATEMENT, "late := @-late;"), "`-` takes a signed number; the operand is TIME", "subtract it, as in `T#0s - t`"),
+    ("C3", tank("open := @open AND level;"), "`AND` takes BOOLs or bit strings; an operand is INT", None),
+    # where parts of a text stand
+    ("P1", tank("@VAR_INPUT", "VAR_EXTERNAL"), stray("VAR_INPUT"),
+     "a program's inputs and outputs are globals, which it names in VAR_EXTERNAL"),
+    ("P1", tank("@VAR_GLOBAL", "VAR_EXTERNAL").replace("END_CONFIGURATION", ""), stray("VAR_GLOBAL"),
+     "declare globals in VAR_GLOBAL of the CONFIGURATION, before its RESOURCE"),
+    ("P1", TANK + TWICE.replace("VAR_INPUT", "@VAR_OUTPUT"), stray("VAR_OUTPUT"),
+     "a function has VAR_INPUT and VAR alone, and gives its result under its name"),
+    ("P1", TANK + TWICE.replace(": INT VAR_INPUT", "@VAR_INPUT"), stray("VAR_INPUT"),
+     "write the type of its result, as in `FUNCTION F : INT`"),
+    ("P1", tank("VAR PERSISTENT @size : INT; END_VAR VAR raw : DINT;", "VAR\n    raw : DINT := 5;"), stray("size"), "write RETAIN"),
+    ("P1", tank("@VAR", "VAR_GLOBAL"), stray("VAR"), "a CONFIGURATION has VAR_GLOBAL alone"),
+    ("P1", tank("@TASK T", "RESOURCE R ON CPU\n    TASK T"), stray("TASK"), ROOM),
+    ("P1", "CONFIGURATION Plant @END_CONFIGURATION", stray("END_CONFIGURATION"), ROOM),
+    ("P1", tank("RESOURCE R @TASK", "RESOURCE R ON CPU\n    TASK"), stray("TASK"),
+     "write ON and a name after it, as in `RESOURCE R ON CPU`"),
+    ("P1", tank("", "    PROGRAM P WITH T : Tank;\n").replace("END_RESOURCE", "@END_RESOURCE"), stray("END_RESOURCE"),
+     "a RESOURCE has a PROGRAM, as in `PROGRAM P WITH T : Main;`"),
+    ("P1", tank("PRIORITY := 0)\n    @TASK U (INTERVAL := T#1s, PRIORITY := 0);", "PRIORITY := 0);"), stray("TASK"), "a `;` may be missing before it"),
+    ("P1", tank("PROGRAM P WITH T : Tank;\n    @TASK U (INTERVAL := T#1s, PRIORITY := 0);", "PROGRAM P WITH T : Tank;"), stray("TASK"),
+     "TASKs come before the PROGRAMs"),
+    ("P1", tank("PRIORITY := 0@, INTERVAL := T#100ms", "INTERVAL := T#100ms, PRIORITY := 0"), stray(","), TASK),
+    ("P1", tank("INTERVAL := @100,", "INTERVAL := T#100ms,"), stray("100"), TASK),
+    ("P1", tank("END_PROGRAM@;", "END_PROGRAM"), stray(";"), "leave the `;` out"),
+    ("P1", f"@level := 1;\n{TANK}", stray("level"), "a source has TYPE, FUNCTION, FUNCTION_BLOCK, PROGRAM and CONFIGURATION"),
+    ("P1", tank("VAR_GLOBAL\n    in AT %IX0@.0 : BOOL;", "VAR_GLOBAL"), stray("."), "an address has one number, as in `%IX3`"),
+    ("P1", tank("raw @AT %IW0 : INT;", "raw : DINT := 5;"), stray("AT"), LOCATED),
+    ("C3", tank("slow : ARRAY [0..3] OF @TON;", "slow : TON;"), "`TON` is a function block: an instance isn't allowed here",
+     "an array has no instances: declare each one with a name of its own"),
+    ("P1", TANK + "TYPE Mode : (Fill @:= 1, Drain := 2); END_TYPE\n", stray(":="), "the values of an enumerated type have no numbers"),
+    ("P1", TANK + "TYPE Amount : @INT; END_TYPE\n", stray("INT"), "a TYPE is an array, a structure or an enumerated type"),
+]
+
+
+def view(code, text, sentence, hint):
+    """The explanation of a fault with a hint, or without one."""
+    bare, place = text.replace("@", ""), text.rindex("@") - text.count("@") + 1
+    start = bare.rfind("\n", 0, place) + 1
+    number, line = bare.count("\n", 0, place) + 1, bare[start:].split("\n")[0]
+    word = re.match(r"%?[\w#]*", bare[place:])[0]
+    margin, before = " " * len(str(number)), " " * (place - start)
+    return (
+        f"error[{code}]: {sentence}\n{margin}--> t.st:{number}:{place - start + 1}\n{margin} |\n{number} | {line}\n"
+        f"{margin} | {before}^{'~' * (len(word) - 1)}\n" + (f"{margin} = help: {hint}\n" if hint else "")
+    )
+
+
+def hinted(code, text, sentence, hint):
+    front, mark, rest = text.partition("@")
+    return code, front + mark + rest.replace("@", ""), view(code, text, sentence, hint)
+
+
+CASES += [hinted(*row) for row in HINTS]
+
 # the codes whose line has a place
 PLACED = ("L", "P1", "C")
 
@@ -1420,6 +1678,14 @@ def is_explained(printed, line, shown):
     return printed.startswith(line) and shown in every and count == f"{len(every)} errors"
 
 
+def check_name(program, folder):
+    """A character of a file's name that isn't printable ASCII is one `?`, whatever its bytes."""
+    pathlib.Path(folder, "F\u00fcllstand\u20ac.st").write_text("PROGRAM P END_PROGRAM")
+    ended = subprocess.run([program, "check", "F\u00fcllstand\u20ac.st", "--explain"], cwd=folder, capture_output=True, timeout=60)
+    if ended.stderr != b"fault G2\nerror[G2]: the source has no CONFIGURATION\n--> F?llstand?.st\n":
+        fail(f"the name of a file: {ended.stderr}")
+
+
 def main():
     if len(sys.argv) != 2:
         sys.exit(__doc__)
@@ -1434,6 +1700,7 @@ def main():
             printed, line = ended.stderr.decode(), line_of(code, text)
             if (ended.returncode, ended.stdout) != (2, b"") or not is_explained(printed, line, shown):
                 fail(f"{code}: status {ended.returncode}, printed\n{printed}and expected\n{line}{shown}")
+        check_name(program, folder)
     print(f"explain.py: {len(CASES)} texts explained as expected")
 
 

@@ -49,9 +49,11 @@ impl Finding {
         self
     }
 
-    /// The same with a byte that is shown.
+    /// The same with a byte that is shown, if it has none.
     pub fn at(mut self, place: usize) -> Finding {
-        self.place = Some(place);
+        if self.place.is_none() {
+            self.place = Some(place);
+        }
         self
     }
 }

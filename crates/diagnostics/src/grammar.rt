@@ -1,7 +1,12 @@
 //! Findings on texts that are not of the grammar (P1, P2).
 
 use crate::finding::Finding;
+use crate::foreign_marks::foreign_mark;
+use crate::foreign_words::{foreign_keyword, foreign_statement};
+use crate::left_out::help_of_left_out;
 use crate::open::{innermost_open, missing_word};
+use crate::operator_calls::operator_call;
+use crate::rooms::{help_of_head, help_of_room};
 use crate::spot::{Spot, is_mark};
 use st_lex::{Keyword, Mark, TokenKind};
 use st_types::limits::MAX_DEPTH;
@@ -58,24 +63,6 @@ fn begins_anew(keyword: Keyword) -> bool {
     )
 }
 
-/// Whether the word is reserved and occurs in no text of the language.
-fn is_left_out(keyword: Keyword) -> bool {
-    matches!(
-        keyword,
-        Keyword::Real
-            | Keyword::Lreal
-            | Keyword::String
-            | Keyword::Wstring
-            | Keyword::Date
-            | Keyword::VarInOut
-            | Keyword::VarTemp
-            | Keyword::VarAccess
-            | Keyword::VarConfig
-            | Keyword::En
-            | Keyword::Eno
-    )
-}
-
 /// Whether a semicolon may be missing before the place.
 fn lacks_semicolon(spot: &Spot) -> bool {
     let Some(last) = spot.last() else {
@@ -120,12 +107,10 @@ fn follows_operand(spot: &Spot) -> bool {
 /// A hint, as far as single tokens allow.
 fn help_of_token(spot: &Spot) -> Option<&'static str> {
     match spot.here() {
-        Some(TokenKind::Keyword(keyword)) if is_left_out(*keyword) => {
-            Some("this word is reserved, but isn't supported")
-        }
         Some(TokenKind::Keyword(_)) if is_in_place_of_name(spot) => {
             Some("this word is reserved: it can't be a name")
         }
+        Some(TokenKind::Keyword(keyword)) => foreign_keyword(*keyword),
         Some(TokenKind::Elementary(_)) if is_in_place_of_name(spot) => {
             Some("this word is reserved: it can't be a name")
         }
@@ -139,12 +124,16 @@ fn help_of_token(spot: &Spot) -> Option<&'static str> {
     }
 }
 
-/// A hint if a word is missing before the place: THEN, DO or OF, a semicolon, or the END of an open part.
+/// A hint if a word is missing before the place: THEN, DO, OF or END_REPEAT, a semicolon, or the END of an open part.
 fn help_of_missing(alloc: Global, spot: &Spot) -> Result<Option<String>, AllocError> {
-    if may_begin_anew(spot) {
-        if let Some(word) = missing_word(spot.before) {
+    match missing_word(spot.before) {
+        Some(word) if is_mark(spot.here(), Mark::Semicolon) => {
+            return Ok(Some(format!(in alloc; "write `{word}` here, without `;`")?));
+        }
+        Some(word) if may_begin_anew(spot) => {
             return Ok(Some(format!(in alloc; "`{word}` may be missing before it")?));
         }
+        _ => {}
     }
     if lacks_semicolon(spot) {
         return Ok(Some(String::from_str(alloc, "a `;` may be missing before it")?));
@@ -170,13 +159,57 @@ fn help_of_open(
     }
 }
 
+/// What to write for the mark at the place, if the profile doesn't have it.
+fn foreign_mark_at(spot: &Spot) -> Option<&'static str> {
+    match spot.here() {
+        Some(TokenKind::Mark(_) | TokenKind::Keyword(Keyword::And)) => {
+            foreign_mark(spot.text, spot.place)
+        }
+        _ => None,
+    }
+}
+
+/// What to write for the word before the place, if the profile doesn't have it.
+fn foreign_word_before(spot: &Spot) -> Option<&'static str> {
+    match (spot.last(), spot.here()) {
+        (
+            Some(TokenKind::Name(name)),
+            Some(TokenKind::Name(_) | TokenKind::Keyword(_) | TokenKind::Mark(Mark::Semicolon)),
+        ) => foreign_statement(name.as_slice()),
+        _ => None,
+    }
+}
+
+/// A hint of one of these kinds, the first that there is.
+fn help_of_place(spot: &Spot) -> Option<&'static str> {
+    let helps = [
+        foreign_mark_at(spot),
+        foreign_word_before(spot),
+        help_of_head(spot),
+        help_of_token(spot),
+        help_of_left_out(spot),
+    ];
+    helps.iter().find_map(|help| *help)
+}
+
+/// A hint on the token at the place.
+fn help_of(alloc: Global, spot: &Spot) -> Result<Option<String>, AllocError> {
+    if let Some(help) = help_of_place(spot) {
+        return Ok(Some(String::from_str(alloc, help)?));
+    }
+    if let Some(help) = operator_call(alloc, spot)? {
+        return Ok(Some(help));
+    }
+    match help_of_room(alloc, spot)? {
+        Some(help) => Ok(Some(help)),
+        None => help_of_missing(alloc, spot),
+    }
+}
+
 fn token_reason(alloc: Global, spot: &Spot) -> Result<Finding, AllocError> {
     let spelled = spot.spelled();
     let finding = Finding::new(format!(in alloc; "`{spelled}` isn't allowed here")?);
-    if let Some(help) = help_of_token(spot) {
-        return finding.with_help(alloc, help);
-    }
-    match help_of_missing(alloc, spot)? {
+    match help_of(alloc, spot)? {
         Some(help) => Ok(finding.helped(help)),
         None => Ok(finding),
     }

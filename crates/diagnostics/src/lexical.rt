@@ -1,50 +1,18 @@
 //! Findings on faults of words (L1 to L4).
 
 use crate::finding::Finding;
+use crate::left_out::NO_BIT;
+use crate::numerals::{numeral, sign_after};
 use crate::part::{part, shown, word_in_front};
+use crate::wrong_bytes::byte_reason;
 use st_lex::{LexFault, lex};
 use st_types::limits::MAX_NAME_LENGTH;
 use std::alloc::{AllocError, Global};
 
-fn is_allowed(byte: u8) -> bool {
-    matches!(byte, b'\t' | b'\n' | b'\r' | 32..=126)
-}
-
-fn comment_byte_reason(alloc: Global, comment: &[u8]) -> Result<Finding, AllocError> {
-    match comment.iter().find(|b| !is_allowed(**b)) {
-        Some(byte) => {
-            let byte = *byte;
-            Ok(Finding::new(format!(in alloc; "the byte 0x{byte:02X} isn't allowed in a comment")?))
-        }
-        None => Finding::plain(alloc, "a byte in this comment isn't allowed"),
-    }
-}
-
-fn single_byte_reason(alloc: Global, byte: u8) -> Result<Finding, AllocError> {
-    if !is_allowed(byte) {
-        let sentence = format!(in alloc; "the byte 0x{byte:02X} isn't allowed here")?;
-        return Finding::new(sentence).with_help(alloc, "use printable ASCII characters");
-    }
-    let character = char::from(byte);
-    let sentence = format!(in alloc; "the byte 0x{byte:02X} (`{character}`) isn't allowed here")?;
-    if byte == b'\'' || byte == b'"' {
-        return Finding::new(sentence).with_help(alloc, "strings aren't supported");
-    }
-    Ok(Finding::new(sentence))
-}
-
-/// The finding on a byte that may not be there; if it is in a comment, `behind` begins with the comment.
-fn byte_reason(alloc: Global, behind: &[u8]) -> Result<Finding, AllocError> {
-    match behind {
-        [b'(', b'*', ..] => comment_byte_reason(alloc, behind),
-        [byte, ..] => single_byte_reason(alloc, *byte),
-        [] => Finding::plain(alloc, "a byte isn't allowed here"),
-    }
-}
-
-/// A hint if a word isn't a literal.
-fn help_of_literal(word: &[u8]) -> Option<&'static str> {
+/// A hint that is the same for all words of a form.
+fn help_of_form(word: &[u8]) -> Option<&'static str> {
     match word {
+        [b'%', b'X' | b'x', ..] => Some(NO_BIT),
         [b'%', ..] => Some("an address is %IX, %QX, %IW or %QW and a number, as in %IX0"),
         [b'T' | b't', b'#', ..] => Some("write a duration as T#1h30m or T#1s500ms"),
         _ if word.contains(&b'#') => None,
@@ -55,11 +23,28 @@ fn help_of_literal(word: &[u8]) -> Option<&'static str> {
     }
 }
 
+/// A hint on the word in front, which isn't a literal.
+fn help_of_literal(
+    alloc: Global,
+    word: &[u8],
+    behind: &[u8],
+) -> Result<Option<String>, AllocError> {
+    if let Some(help) = numeral(alloc, word)? {
+        return Ok(Some(help));
+    }
+    match help_of_form(word) {
+        Some(help) => Ok(Some(String::from_str(alloc, help)?)),
+        None => sign_after(alloc, word, behind),
+    }
+}
+
 fn has_digits_alone(word: &[u8]) -> bool {
     word.iter().all(|b| b.is_ascii_digit())
 }
 
-fn literal_reason(alloc: Global, word: &[u8]) -> Result<Finding, AllocError> {
+/// The finding on the word in front of a text, which isn't a literal.
+fn literal_reason(alloc: Global, text: &[u8]) -> Result<Finding, AllocError> {
+    let word = word_in_front(text);
     let spelled = shown(word);
     if has_digits_alone(word) {
         let greatest = u64::MAX;
@@ -68,8 +53,8 @@ fn literal_reason(alloc: Global, word: &[u8]) -> Result<Finding, AllocError> {
         )?));
     }
     let finding = Finding::new(format!(in alloc; "`{spelled}` isn't a literal")?);
-    match help_of_literal(word) {
-        Some(help) => finding.with_help(alloc, help),
+    match help_of_literal(alloc, word, part(text, word.len(), text.len()))? {
+        Some(help) => Ok(finding.helped(help)),
         None => Ok(finding),
     }
 }
@@ -113,8 +98,8 @@ pub fn words_reason(
 ) -> Result<Finding, AllocError> {
     let behind = part(text, place, text.len());
     match fault {
-        LexFault::Byte => byte_reason(alloc, behind),
-        LexFault::Literal => literal_reason(alloc, word_in_front(behind)),
+        LexFault::Byte => byte_reason(alloc, text, place),
+        LexFault::Literal => literal_reason(alloc, behind),
         LexFault::Identifier => name_reason(alloc, word_in_front(behind)),
         LexFault::Comment => comment_reason(alloc, part(text, 0, place)),
     }

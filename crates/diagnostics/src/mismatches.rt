@@ -1,29 +1,49 @@
 //! Findings on expressions and variables that don't meet the demands of their places (C3).
 
 use crate::arguments::{Wrong, standard_argument};
+use crate::comparisons::with_zero;
+use crate::conversions::{WRITE_TIME, conversion};
 use crate::finding::Finding;
+use crate::plain_calls::with_call;
 use crate::site::Site;
 use crate::spots::spelled_from;
 use crate::type_names::{typing_name, variable_name};
 use st_rules::{Demand, Purpose, Sorts, Typing};
 use st_types::Kind;
-use std::alloc::AllocError;
+use std::alloc::{AllocError, Global};
 
-/// Whether values of the type are converted.
-fn is_convertible(kind: Kind) -> bool {
-    !matches!(kind, Kind::Time | Kind::Enumerated { .. })
+/// What to write as the initial value of a variable of this type.
+fn initial(alloc: Global, kind: Kind) -> Result<Option<String>, AllocError> {
+    match kind {
+        Kind::Time => Ok(Some(String::from_str(alloc, WRITE_TIME)?)),
+        Kind::Enumerated { .. } => Ok(None),
+        _ => {
+            let name = kind.row().keyword;
+            Ok(Some(format!(in alloc; "write a literal of {name}")?))
+        }
+    }
 }
 
-/// A hint if an expression has a wrong type: a conversion, if there is one.
-fn conversion(site: &Site, wrong: Wrong) -> Result<Option<String>, AllocError> {
-    let (Typing::Elementary(from), Some(to)) = (wrong.given, wrong.expected) else {
+/// A hint on an expression of a wrong type.
+fn help_of_value(
+    site: &Site,
+    purpose: Purpose,
+    wrong: Wrong,
+) -> Result<Option<String>, AllocError> {
+    let alloc = site.text.alloc;
+    let Some(to) = wrong.expected else {
         return Ok(None);
     };
-    if from.is(to) || !is_convertible(from) || !is_convertible(to) {
-        return Ok(None);
+    match (purpose, to, wrong.given) {
+        (_, Kind::Bool, Typing::Untyped) => {
+            Ok(Some(String::from_str(alloc, "write TRUE or FALSE")?))
+        }
+        (Purpose::Initial, _, _) => initial(alloc, to),
+        (_, Kind::Bool, Typing::Elementary(from)) => with_zero(site, from),
+        (_, Kind::Time, Typing::Untyped) => Ok(Some(String::from_str(alloc, WRITE_TIME)?)),
+        (_, _, Typing::Elementary(from)) => conversion(alloc, from, to),
+        _ => Ok(None),
     }
-    let (first, second) = (from.row().keyword, to.row().keyword);
-    Ok(Some(format!(in site.text.alloc; "convert it with {first}_TO_{second}")?))
 }
 
 /// What a place demands for a purpose, as a clause.
@@ -54,7 +74,7 @@ fn wrong_value(site: &Site, purpose: Purpose, wrong: Wrong) -> Result<Finding, A
     }
     Ok(Finding {
         sentence: format!(in alloc; "{demand}; the expression is {given}")?,
-        help: conversion(site, wrong)?,
+        help: help_of_value(site, purpose, wrong)?,
         place: None,
     })
 }
@@ -100,8 +120,12 @@ pub fn mismatch(site: &Site, demand: Demand, given: Typing) -> Result<Finding, A
     if is_whole(wrong) {
         return assigned_as_whole(site);
     }
-    match purpose {
-        Purpose::Argument(function) => wrong_argument(site, function, wrong),
-        _ => wrong_value(site, purpose, wrong),
+    let finding = match purpose {
+        Purpose::Argument(function) => wrong_argument(site, function, wrong)?,
+        _ => wrong_value(site, purpose, wrong)?,
+    };
+    match expected {
+        Some(kind) => with_call(site, finding, given, kind),
+        None => Ok(finding),
     }
 }

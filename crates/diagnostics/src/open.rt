@@ -4,7 +4,7 @@ use st_lex::{Keyword, Mark, Token, TokenKind};
 use std::alloc::{AllocError, Global};
 
 /// The word that ends the part that a word begins, as it is spelled.
-fn end_of(keyword: Keyword) -> Option<&'static str> {
+pub fn end_of(keyword: Keyword) -> Option<&'static str> {
     match keyword {
         Keyword::If => Some("END_IF"),
         Keyword::Case => Some("END_CASE"),
@@ -27,7 +27,8 @@ fn end_of(keyword: Keyword) -> Option<&'static str> {
     }
 }
 
-fn is_end(keyword: Keyword) -> bool {
+/// Whether the word ends a part.
+pub fn is_end(keyword: Keyword) -> bool {
     matches!(
         keyword,
         Keyword::EndIf
@@ -47,7 +48,7 @@ fn is_end(keyword: Keyword) -> bool {
 }
 
 /// Takes a word into account. PROGRAM in a resource begins nothing that has an end.
-fn meet(open: &mut Vec<&'static str>, keyword: Keyword) -> Result<(), AllocError> {
+fn meet(open: &mut Vec<Keyword>, keyword: Keyword) -> Result<(), AllocError> {
     if is_end(keyword) {
         open.pop();
         return Ok(());
@@ -55,14 +56,14 @@ fn meet(open: &mut Vec<&'static str>, keyword: Keyword) -> Result<(), AllocError
     if keyword == Keyword::Program && !open.is_empty() {
         return Ok(());
     }
-    if let Some(end) = end_of(keyword) {
-        open.push(end)?;
+    if end_of(keyword).is_some() {
+        open.push(keyword)?;
     }
     Ok(())
 }
 
-/// The word that ends the innermost part that the tokens leave open.
-pub fn innermost_open(alloc: Global, tokens: &[Token]) -> Result<Option<&'static str>, AllocError> {
+/// The word that begins the innermost part that the tokens leave open.
+pub fn innermost_begun(alloc: Global, tokens: &[Token]) -> Result<Option<Keyword>, AllocError> {
     let mut open = Vec::new(alloc);
     for token in tokens {
         if let TokenKind::Keyword(keyword) = &token.kind {
@@ -70,6 +71,14 @@ pub fn innermost_open(alloc: Global, tokens: &[Token]) -> Result<Option<&'static
         }
     }
     Ok(open.last().copied())
+}
+
+/// The word that ends the innermost part that the tokens leave open.
+pub fn innermost_open(alloc: Global, tokens: &[Token]) -> Result<Option<&'static str>, AllocError> {
+    match innermost_begun(alloc, tokens)? {
+        Some(begun) => Ok(end_of(begun)),
+        None => Ok(None),
+    }
 }
 
 /// A search backwards from a place in a condition.
@@ -87,6 +96,7 @@ fn closing_word(keyword: Keyword, has_to: bool) -> Option<&'static str> {
         Keyword::While => Some("DO"),
         Keyword::For => Some(if has_to { "DO" } else { "TO" }),
         Keyword::Case => Some("OF"),
+        Keyword::Until => Some("END_REPEAT"),
         _ => None,
     }
 }
@@ -123,7 +133,7 @@ fn goes_on(back: &mut Backwards, kind: &TokenKind) -> bool {
     }
 }
 
-/// The THEN, DO, TO or OF that hasn't come yet after an IF, WHILE, FOR or CASE.
+/// The THEN, DO, TO, OF or END_REPEAT that hasn't come yet after an IF, WHILE, FOR, CASE or UNTIL.
 pub fn missing_word(tokens: &[Token]) -> Option<&'static str> {
     let mut back = Backwards {
         closed: 0,

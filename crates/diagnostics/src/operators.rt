@@ -1,19 +1,18 @@
 //! Findings on the operands of operators (C3).
 
+use crate::conversions::{TIME_STAYS, WRITE_TIME, is_number};
 use crate::finding::Finding;
+use crate::plain_calls::{Operation, with_operand};
 use crate::site::Site;
 use crate::type_names::typing_name;
-use st_rules::Typing;
+use st_rules::{Sorts, Typing};
 use st_types::{BinaryOperator, Kind, Sort, UnaryOperator};
 use std::alloc::AllocError;
 
 /// The typing of a value beside one of a type: a number takes that type if it may.
 pub fn beside(kind: Option<Kind>, typing: Typing) -> Typing {
     match (kind, typing) {
-        (Some(kind), Typing::Untyped) => match kind.row().sort {
-            Sort::Signed | Sort::Unsigned | Sort::Bits => Typing::Elementary(kind),
-            _ => typing,
-        },
+        (Some(kind), Typing::Untyped) if is_number(kind) => Typing::Elementary(kind),
         _ => typing,
     }
 }
@@ -25,48 +24,113 @@ fn kind_of(typing: Typing) -> Option<Kind> {
     }
 }
 
-/// The sign of an operator, and the values that it takes on both sides.
-fn operator_of(operator: BinaryOperator) -> (&'static str, &'static str) {
-    match operator {
-        BinaryOperator::Or => ("OR", "BOOLs or bit strings"),
-        BinaryOperator::Xor => ("XOR", "BOOLs or bit strings"),
-        BinaryOperator::And => ("AND", "BOOLs or bit strings"),
-        BinaryOperator::Equal => ("=", "single values"),
-        BinaryOperator::NotEqual => ("<>", "single values"),
-        BinaryOperator::Less => ("<", "numbers, bit strings or TIMEs"),
-        BinaryOperator::Greater => (">", "numbers, bit strings or TIMEs"),
-        BinaryOperator::LessOrEqual => ("<=", "numbers, bit strings or TIMEs"),
-        BinaryOperator::GreaterOrEqual => (">=", "numbers, bit strings or TIMEs"),
-        BinaryOperator::Add => ("+", "integers or TIMEs"),
-        BinaryOperator::Subtract => ("-", "integers or TIMEs"),
-        BinaryOperator::Multiply => ("*", "integers"),
-        BinaryOperator::Divide => ("/", "integers"),
-        BinaryOperator::Modulo => ("MOD", "integers"),
+/// An operator between two operands.
+#[derive(Clone, Copy)]
+struct BetweenTwo {
+    sign: &'static str,
+    /// The sorts of values that it takes on both sides.
+    sorts: Sorts,
+}
+
+fn row_of(operator: BinaryOperator) -> BetweenTwo {
+    let (sign, sorts) = match operator {
+        BinaryOperator::Or => ("OR", Sorts::TruthOrBits),
+        BinaryOperator::Xor => ("XOR", Sorts::TruthOrBits),
+        BinaryOperator::And => ("AND", Sorts::TruthOrBits),
+        BinaryOperator::Equal => ("=", Sorts::Any),
+        BinaryOperator::NotEqual => ("<>", Sorts::Any),
+        BinaryOperator::Less => ("<", Sorts::Ordered),
+        BinaryOperator::Greater => (">", Sorts::Ordered),
+        BinaryOperator::LessOrEqual => ("<=", Sorts::Ordered),
+        BinaryOperator::GreaterOrEqual => (">=", Sorts::Ordered),
+        BinaryOperator::Add => ("+", Sorts::WholeOrTime),
+        BinaryOperator::Subtract => ("-", Sorts::WholeOrTime),
+        BinaryOperator::Multiply => ("*", Sorts::Whole),
+        BinaryOperator::Divide => ("/", Sorts::Whole),
+        BinaryOperator::Modulo => ("MOD", Sorts::Whole),
+    };
+    BetweenTwo { sign, sorts }
+}
+
+/// The values that an operator of these sorts takes.
+fn words_of(sorts: Sorts) -> &'static str {
+    match sorts {
+        Sorts::TruthOrBits => "BOOLs or bit strings",
+        Sorts::Ordered => "numbers, bit strings or TIMEs",
+        Sorts::WholeOrTime => "integers or TIMEs",
+        Sorts::Whole => "integers",
+        _ => "single values",
+    }
+}
+
+/// Whether an operator of these sorts takes an operand. A number without a type may take one.
+fn is_taken(sorts: Sorts, operand: Typing) -> bool {
+    let Typing::Elementary(kind) = operand else {
+        return operand != Typing::Composite;
+    };
+    let sort = kind.row().sort;
+    match sorts {
+        Sorts::TruthOrBits => matches!(sort, Sort::Truth | Sort::Bits),
+        Sorts::Ordered => !matches!(sort, Sort::Truth | Sort::Place),
+        Sorts::WholeOrTime => matches!(sort, Sort::Signed | Sort::Unsigned | Sort::Duration),
+        Sorts::Whole => matches!(sort, Sort::Signed | Sort::Unsigned),
+        _ => true,
     }
 }
 
 fn operands_sentence(
     site: &Site,
-    operator: BinaryOperator,
+    operator: BetweenTwo,
     left: Typing,
     right: Typing,
 ) -> Result<String, AllocError> {
-    let (alloc, (name, taken)) = (site.text.alloc, operator_of(operator));
+    let (alloc, sign, sorts) = (site.text.alloc, operator.sign, operator.sorts);
     let (first, second) = (typing_name(site, left), typing_name(site, right));
+    let taken = words_of(sorts);
     match (left, right) {
         (Typing::Untyped, Typing::Untyped) => {
-            format!(in alloc; "`{name}` takes {taken}; the operands are numbers of another type")
+            format!(in alloc; "`{sign}` takes {taken}; the operands are numbers of another type")
         }
-        (Typing::Composite, _) => {
-            format!(in alloc; "`{name}` takes {taken}; an operand is {first}")
+        _ if left == right && left != Typing::Composite => {
+            format!(in alloc; "`{sign}` takes {taken}; the operands are {first}")
         }
-        (_, Typing::Composite) => {
-            format!(in alloc; "`{name}` takes {taken}; an operand is {second}")
+        _ if !is_taken(sorts, left) => {
+            format!(in alloc; "`{sign}` takes {taken}; an operand is {first}")
         }
-        _ if left == right => format!(in alloc; "`{name}` takes {taken}; the operands are {first}"),
+        _ if !is_taken(sorts, right) => {
+            format!(in alloc; "`{sign}` takes {taken}; an operand is {second}")
+        }
         _ => format!(in alloc;
-            "the operands of `{name}` are {first} and {second}: they must have the same type"
+            "the operands of `{sign}` are {first} and {second}: they must have the same type"
         ),
+    }
+}
+
+/// What to write for an operation on a TIME and another operand.
+fn help_of_time(operator: BinaryOperator, other: Typing) -> Option<&'static str> {
+    match (operator, other) {
+        (BinaryOperator::Multiply, _) => {
+            Some("a TIME can't be multiplied: add it up, as in `t + t`, or write a TIME literal")
+        }
+        (BinaryOperator::Divide | BinaryOperator::Modulo, _) => {
+            Some("a TIME can't be divided: write a TIME literal, as in `T#500ms`")
+        }
+        (BinaryOperator::And | BinaryOperator::Or | BinaryOperator::Xor, _) => None,
+        (_, Typing::Untyped) => Some(WRITE_TIME),
+        (_, Typing::Elementary(kind)) if is_number(kind) => Some(TIME_STAYS),
+        _ => None,
+    }
+}
+
+/// What to write for an operation on operands of these types, if one is a TIME.
+fn help_of_operands(operator: BinaryOperator, left: Typing, right: Typing) -> Option<&'static str> {
+    let time = Typing::Elementary(Kind::Time);
+    if left == time {
+        help_of_time(operator, right)
+    } else if right == time {
+        help_of_time(operator, left)
+    } else {
+        None
     }
 }
 
@@ -77,9 +141,27 @@ pub fn wrong_operands(
     left: Typing,
     right: Typing,
 ) -> Result<Finding, AllocError> {
+    let row = row_of(operator);
     let first = beside(kind_of(right), left);
     let second = beside(kind_of(left), right);
-    Ok(Finding::new(operands_sentence(site, operator, first, second)?))
+    let finding = Finding::new(operands_sentence(site, row, first, second)?);
+    match help_of_operands(operator, left, right) {
+        Some(help) => finding.with_help(site.text.alloc, help),
+        None => {
+            let sign = row.sign;
+            with_operand(site, finding, Operation { sign, left, right })
+        }
+    }
+}
+
+/// What to write for an operator before an operand that it doesn't take.
+fn help_of_operand(operator: UnaryOperator, operand: Typing) -> Option<&'static str> {
+    match (operator, operand) {
+        (UnaryOperator::Negate, Typing::Elementary(Kind::Time)) => {
+            Some("subtract it, as in `T#0s - t`")
+        }
+        _ => None,
+    }
 }
 
 /// The finding on an operator before an operand of this type, before it takes one.
@@ -96,5 +178,10 @@ pub fn wrong_operand(
         Typing::Untyped => "a number of another type",
         _ => typing_name(site, operand),
     };
-    Ok(Finding::new(format!(in site.text.alloc; "{taking}; the operand is {given}")?))
+    let alloc = site.text.alloc;
+    let finding = Finding::new(format!(in alloc; "{taking}; the operand is {given}")?);
+    match help_of_operand(operator, operand) {
+        Some(help) => finding.with_help(alloc, help),
+        None => Ok(finding),
+    }
 }

@@ -36,6 +36,11 @@ fn printable(byte: u8) -> u8
     }
 }
 
+/// Whether it is a byte of a character after its first one.
+fn is_continuation(byte: u8) -> bool {
+    128 <= byte && byte <= 191
+}
+
 impl Page {
     /// An empty page.
     pub fn new(alloc: Global) -> Page {
@@ -64,10 +69,12 @@ impl Page {
         self.push(b'\n')
     }
 
-    /// Appends a text. A byte that is not printable shows as `?`.
+    /// Appends a text. A character that is not printable shows as `?`, also one of several bytes.
     pub fn put(&mut self, text: &[u8]) -> Result<(), AllocError> {
         for byte in text {
-            self.push(printable(*byte))?;
+            if !is_continuation(*byte) {
+                self.push(printable(*byte))?;
+            }
         }
         Ok(())
     }

@@ -12,15 +12,19 @@ use crate::operators::{wrong_operand, wrong_operands};
 use crate::site::Site;
 use crate::taken::{declared_before, name_of_unit, standard_name};
 use crate::unknown::undeclared;
+use st_lex::{Keyword, TokenKind};
 use st_rules::{BlockSide, Reason};
 use std::alloc::AllocError;
 
 fn no_instance_allowed(site: &Site) -> Result<Finding, AllocError> {
+    let help = match site.spot.last() {
+        Some(TokenKind::Keyword(Keyword::Of)) => {
+            "an array has no instances: declare each one with a name of its own"
+        }
+        _ => "declare instances in VAR of a program or function block",
+    };
     site.says("is a function block: an instance isn't allowed here")?
-        .with_help(
-            site.text.alloc,
-            "declare instances in VAR of a program or function block",
-        )
+        .with_help(site.text.alloc, help)
 }
 
 fn external_constant_assigned(site: &Site) -> Result<Finding, AllocError> {

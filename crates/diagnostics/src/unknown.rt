@@ -1,8 +1,11 @@
 //! Findings on names that aren't declared, or not as what their places take (C1).
 
+use crate::conversions::no_conversion;
 use crate::finding::Finding;
+use crate::foreign_words::{foreign_function, foreign_type};
 use crate::known::{Known, meaning_of};
 use crate::near::Nearest;
+use crate::operator_calls::operator_call;
 use crate::site::Site;
 use crate::sought::{Sought, sought_at};
 use crate::spot::is_mark;
@@ -80,13 +83,36 @@ fn meet_names<'a>(nearest: &mut Nearest<'a>, site: &Site<'a>, sought: Sought) {
     }
 }
 
+/// What to write for a type or function that the profile doesn't have.
+fn foreign(site: &Site, word: &Name, sought: Sought) -> Result<Option<String>, AllocError> {
+    let name = word.as_slice();
+    let help = match sought {
+        Sought::Type => foreign_type(name),
+        Sought::Function => match no_conversion(name) {
+            None => foreign_function(name),
+            found => found,
+        },
+        _ => None,
+    };
+    match (help, sought) {
+        (Some(help), _) => Ok(Some(String::from_str(site.text.alloc, help)?)),
+        (None, Sought::Function) => operator_call(site.text.alloc, &site.spot),
+        (None, _) => Ok(None),
+    }
+}
+
 /// The finding on a name that stands for nothing at the place.
 fn unknown<'a>(site: &Site<'a>, word: &'a Name, sought: Sought) -> Result<Finding, AllocError> {
+    let finding = site.says(UNDECLARED)?;
+    if let Some(help) = foreign(site, word, sought)? {
+        return Ok(finding.helped(help));
+    }
     let mut nearest = Nearest::new(site.text.bytes, word);
     meet_names(&mut nearest, site, sought);
-    let mut finding = site.says(UNDECLARED)?;
-    finding.help = nearest.help(site.text.alloc)?;
-    Ok(finding)
+    match nearest.help(site.text.alloc)? {
+        Some(help) => Ok(finding.helped(help)),
+        None => Ok(finding),
+    }
 }
 
 /// The finding on a global that its unit doesn't declare.
