@@ -1,5 +1,6 @@
 -- Code of statements one after another, and of the arms of an IF.
 use Rattle.std.proofs.Common.{◌≡◌, ◌∙◌, ℕ, zero, suc, List, [], ◌∷◌, length, get_or, drop, map, true, false, refl, ap, subst, arith, ◌<◌, ◌≤◌, ◌+◌}
+use Rattle.std.proofs.Common.{Result, Ok, Err, OnOk}
 use Rattle.slot_trees.specs.declared.statement.SlotStmt as code_stmt
 use Rattle.slot_trees.specs.declared.statement.SlotArm as code_arm
 use Rattle.slot_trees.specs.Chains.{arms_of, stmts_of}
@@ -142,6 +143,11 @@ module _ (f : Frame) (s : UnitValues) (units : QuickUnits) where
   arms_over [] (suc k) otherwise d e p q le h = h
   arms_over (y ∷ ys) zero otherwise d e p q le h = absurd (omega arith)
   arms_over (y ∷ ys) (suc k) otherwise d e p q le h = arms_over ys k otherwise d e p q (omega arith) h
+
+-- a fact holds if a call went well, if it follows from that
+pub on_ok_by : {T E Q : Type 0} (r : Result T E) → ((x : T) → r ≡ Ok x → Q) → OnOk r Q
+on_ok_by (Ok x) h = h x refl
+on_ok_by (Err e) h = tt
 
 pub ticked : (Rest : CodeRelation) (p m q : Point) → p.ahead ≡ suc m.ahead → m ≡ record p { ahead = m.ahead } → Rest m q
     → IsTicked Rest p q

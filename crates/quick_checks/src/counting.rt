@@ -18,8 +18,8 @@ ghost use Rattle.quick_checks.specs.Checking.{Always, exits_of, frame_of, point_
 
 use crate::constants::{Reading, literal_number};
 use crate::cursor::{
-    Cursor, Leg, assign, exits_in_loop, expect, expect_for, find, go, instr_at, is_assigned,
-    landing, leads, leg_at, loops_back, mark, pass, passes_back, read_notes,
+    Cursor, Leg, assign, expect, expect_for, find, go, instr_at, is_assigned, landing, leads,
+    leg_at, loops_back, mark, pass, passes_back, read_notes,
 };
 use crate::draft::{Exits, QuickDraft};
 use crate::expressions::{deeper, temporary};
@@ -28,7 +28,7 @@ use crate::ranges::expect_within;
 use crate::reading::check_read;
 use crate::refusal::Refusal;
 use crate::scope::{FunctionWord, Scope, Values, function_word_at, is_kind, target_of};
-use crate::statements::check_stmts;
+use crate::statements::check_loop_body;
 use quick_code::{QuickInstr, is_same};
 use quick_trees::Pace;
 use slot_trees::{Anchor, SlotExpr, SlotLibrary, SlotStmt};
@@ -586,7 +586,6 @@ pub fn check_for(
         (slot_expr_view limit.now) (option_map slot_expr_view step.now) depth (point_of at.old) (point_of at.new))) }
 {
     let behind = landing(at)?;
-    let inner = exits_in_loop(exits, &behind)?;
     let target = target_of(draft, &scope.values, control)?;
     let from = check_read(draft, library, scope, start, depth, at)?;
     let below = deeper(depth)?;
@@ -613,7 +612,7 @@ pub fn check_for(
     pass(at, first.past)?;
     read_notes(draft, at)?;
     let head = mark(at)?;
-    check_stmts(draft, library, scope, body, within, &inner, at)?;
+    check_loop_body(draft, library, scope, body, within, exits, &behind, at)?;
     if !is_assigned(&scope.values, target.word, at) {
         return Err(Refusal::Other);
     }

@@ -280,6 +280,19 @@ pub fn landing(at: &mut Cursor) -> Result<Landing, Refusal>
     }
 }
 
+/// Finds that a run which is here comes to a landing, and goes on at the next one that is to come.
+pub fn leave(draft: &QuickDraft, at: &mut Cursor, to: &Landing) -> Result<(), Refusal>
+    ensures { OnOk result
+        ((now : ℕ) → Joins (frame_of draft.now now) (point_of at.old) (landing_of to.now)) }
+{
+    if !joins(draft, at, to) {
+        return Err(Refusal::Other);
+    }
+    let behind = landing(at)?;
+    go(at, behind);
+    Ok(())
+}
+
 /// The value of a word is looked up here.
 pub fn look(values: &Values, at: &mut Cursor, word: u16) -> Result<(), Refusal>
     ensures same { OnOk result (point_of at.new ≡ record (point_of at.old) { noted = at.new.noted.items }) }

@@ -7,7 +7,7 @@ ghost use Rattle.slot_trees.specs.ExpressionViews.{anchor_view, slot_expr_view};
 ghost use Rattle.slot_trees.specs.StatementViews.{slot_arm_view, slot_stmt_view, slot_stmts_view};
 ghost use Rattle.quick_trees.specs.Pieces.{IsLoop, IsUntil};
 ghost use Rattle.quick_trees.specs.TreeCode.{AreArmsCode, IsAssignment, IsStored, IsTestedFor, IsStmtCode, AreStmtsCode};
-ghost use Rattle.quick_checks.specs.Checking.{Always, exits_of, frame_of, point_of};
+ghost use Rattle.quick_checks.specs.Checking.{Always, exits_of, frame_of, landing_of, point_of};
 ghost use Rattle.quick_trees.specs.Points.{AreNoted};
 
 use crate::blocks::check_invoked;
@@ -16,10 +16,10 @@ use crate::choosing::{check_choice, choice_of, is_choice_next};
 use crate::conditions::check_test;
 use crate::counting::check_for;
 use crate::cursor::{
-    Cursor, assign, exits_in_loop, go, is_at, joins, landing, leads, loops_back, mark, mark_along,
-    pass, passes, read_notes, tick,
+    Cursor, assign, exits_in_loop, go, is_at, joins, landing, leads, leave, loops_back, mark,
+    mark_along, pass, passes, read_notes, tick,
 };
-use crate::draft::{Exits, QuickDraft};
+use crate::draft::{Exits, Landing, QuickDraft};
 use crate::expressions::{deeper, element_of, expect_store, read_elements, variable_of};
 use crate::reading::{check_made, check_read};
 use crate::refusal::Refusal;
@@ -85,26 +85,23 @@ fn check_stmt(
 {
     tick(at)?;
     match statement {
-        SlotStmt::Empty => {}
+        SlotStmt::Empty => Ok(()),
         SlotStmt::Assign(place, value) => {
             if let Some(anchor) = variable_of(place) {
-                check_assigned(draft, library, scope, anchor, value, depth, at)?;
-                return Ok(());
+                return check_assigned(draft, library, scope, anchor, value, depth, at);
             }
             let Some((anchor, subscript)) = element_of(place) else {
-                check_stored_within(draft, library, scope, place, value, depth, at)?;
-                return Ok(());
+                return check_stored_within(draft, library, scope, place, value, depth, at);
             };
-            check_stored(draft, library, scope, anchor, subscript, value, depth, at)?;
+            check_stored(draft, library, scope, anchor, subscript, value, depth, at)
         }
         SlotStmt::If(arms, otherwise) => {
             if let Some(choice) = choice_of(arms, otherwise) {
                 if is_choice_next(draft, at) {
-                    check_choice(draft, library, scope, &choice, depth, at)?;
-                    return Ok(());
+                    return check_choice(draft, library, scope, &choice, depth, at);
                 }
             }
-            check_if(draft, library, scope, arms, otherwise, depth, exits, at)?;
+            check_if(draft, library, scope, arms, otherwise, depth, exits, at)
         }
         SlotStmt::For {
             control,
@@ -112,43 +109,24 @@ fn check_stmt(
             limit,
             step,
             body,
-        } => {
-            check_for(
-                draft, library, scope, *control, start, limit, step, body, depth, exits, at,
-            )?;
-        }
+        } => check_for(
+            draft, library, scope, *control, start, limit, step, body, depth, exits, at,
+        ),
         SlotStmt::While(condition, body) => {
-            check_while(draft, library, scope, condition, body, depth, exits, at)?;
+            check_while(draft, library, scope, condition, body, depth, exits, at)
         }
         SlotStmt::Repeat(body, condition) => {
-            check_repeat(draft, library, scope, body, condition, depth, exits, at)?;
+            check_repeat(draft, library, scope, body, condition, depth, exits, at)
         }
-        SlotStmt::Exit => {
-            if !joins(draft, at, &exits.out) {
-                return Err(Refusal::Other);
-            }
-            let behind = landing(at)?;
-            go(at, behind);
-        }
-        SlotStmt::Return => {
-            if !joins(draft, at, &exits.back) {
-                return Err(Refusal::Other);
-            }
-            let behind = landing(at)?;
-            go(at, behind);
-        }
-        SlotStmt::Case(selector, arms, otherwise) => {
-            check_case(
-                draft, library, scope, selector, arms, otherwise, depth, exits, at,
-            )?;
-        }
-        SlotStmt::Invoke(instance, block, arguments) => {
-            check_invoked(
-                draft, library, scope, *instance, *block, arguments, depth, at,
-            )?;
-        }
+        SlotStmt::Exit => leave(draft, at, &exits.out),
+        SlotStmt::Return => leave(draft, at, &exits.back),
+        SlotStmt::Case(selector, arms, otherwise) => check_case(
+            draft, library, scope, selector, arms, otherwise, depth, exits, at,
+        ),
+        SlotStmt::Invoke(instance, block, arguments) => check_invoked(
+            draft, library, scope, *instance, *block, arguments, depth, at,
+        ),
     }
-    Ok(())
 }
 
 /// The same for an assignment to a variable without subscripts, but for its tick.
@@ -241,6 +219,26 @@ fn check_if(
     Ok(())
 }
 
+/// The same for the body of a loop that is followed by a landing.
+#[cycle(check)]
+pub fn check_loop_body(
+    draft: &QuickDraft,
+    library: &SlotLibrary,
+    scope: &Scope,
+    body: &[SlotStmt],
+    depth: u16,
+    exits: &Exits,
+    behind: &Landing,
+    at: &mut Cursor,
+) -> Result<(), Refusal>
+    ensures { OnOk result (Always draft.now library.now scope.now (λ f s units. AreStmtsCode f s units
+        (slot_stmts_view body.now) depth (record (exits_of exits.now) { out = landing_of behind.now })
+        (point_of at.old) (point_of at.new))) }
+{
+    let inner = exits_in_loop(exits, behind)?;
+    check_stmts(draft, library, scope, body, depth, &inner, at)
+}
+
 /// The same for a WHILE.
 #[cycle(check)]
 fn check_while(
@@ -259,7 +257,6 @@ fn check_while(
         (record (exits_of exits.now) { out = point_of at.new }) p q) (point_of at.old) (point_of at.new))) }
 {
     let behind = landing(at)?;
-    let inner = exits_in_loop(exits, &behind)?;
     let first = check_test(draft, library, scope, condition, false, depth, at)?;
     if !leads(at, first.way, &behind) {
         return Err(Refusal::Other);
@@ -267,7 +264,7 @@ fn check_while(
     pass(at, first.past)?;
     read_notes(draft, at)?;
     let head = mark(at)?;
-    check_stmts(draft, library, scope, body, depth, &inner, at)?;
+    check_loop_body(draft, library, scope, body, depth, exits, &behind, at)?;
     tick(at)?;
     let again = check_test(draft, library, scope, condition, true, depth, at)?;
     if !leads(at, again.way, &head) || !passes(at, again.past, &behind) {
@@ -295,10 +292,9 @@ fn check_repeat(
         (record (exits_of exits.now) { out = point_of at.new }) p q) (point_of at.old) (point_of at.new))) }
 {
     let behind = landing(at)?;
-    let inner = exits_in_loop(exits, &behind)?;
     read_notes(draft, at)?;
     let head = mark(at)?;
-    check_stmts(draft, library, scope, body, depth, &inner, at)?;
+    check_loop_body(draft, library, scope, body, depth, exits, &behind, at)?;
     let again = check_test(draft, library, scope, condition, false, depth, at)?;
     if !loops_back(at, again.way, &head) || !passes(at, again.past, &behind) {
         return Err(Refusal::Other);

@@ -22,7 +22,7 @@ use Rattle.slot_trees.specs.ExpressionViews.{anchor_view}
 use Rattle.slot_trees.specs.declared.statement.SlotStmt as code_stmt
 use Rattle.slot_trees.specs.declared.statement.SlotArm as code_arm
 use Rattle.slot_trees.proofs.Bridge.{choose_view}
-use Rattle.slot_trees.specs.SlotTrees.{call, constant, empty, FOR, IF, REPEAT, WHILE}
+use Rattle.slot_trees.specs.SlotTrees.{call, constant, empty, EXIT, FOR, IF, REPEAT, RETURN, WHILE}
 use Rattle.st_compile.proofs.Elements.{body_smaller, condition_smaller, expr_smaller, stmt_smaller}
 use Rattle.st_compile.proofs.Sizes.{stmt_size, stmts_size}
 use Rattle.quick_trees.specs.Points.{Refines, Point, next}
@@ -33,7 +33,7 @@ use Rattle.slot_trees.specs.LibraryViews.{slot_function_view, slot_library_view}
 use Rattle.st_compile.specs.Emitting.{filled}
 use Rattle.st_compile.proofs.Depths.{function_lighter}
 use Rattle.st_compile.proofs.Filled.{filled_function}
-use Rattle.quick_checks.proofs.TreeCodeLemmas.{passes_same}
+use Rattle.quick_checks.proofs.TreeCodeLemmas.{on_ok_by, passes_same}
 use Rattle.quick_checks.proofs.TreeCodeLemmas.{arms_next, arms_over, meets_same, stmts_next, stmts_on, stmts_over, ticked}
 use Rattle.std.specs.Prelude.{Some, slice_get}
 use Rattle.std.proofs.Common.{ℕ}
@@ -358,17 +358,16 @@ statements::check_stmt-check_stored_within-requires t c =
     let e = ap stmt_size (seen ∙ ap (λ x. assign x (slot_expr_view c.in-Assign.value))
     (place_seen c.in-Assign.place)) in (omega (arith, e), tt)
 
-pub statements::check_stmt-returns-in_default-element_of :
-    goal.statements::check_stmt-returns-in_default-element_of
+pub statements::check_stmt-returns-in_default-element_of : goal.statements::check_stmt-returns-in_default-element_of
 statements::check_stmt-returns-in_default-element_of t c =
     let seen : slot_stmt_view c.args.statement.now
     ≡ assign (place_view c.in-Assign.place) (slot_expr_view c.in-Assign.value) =
     rw c.in-Assign.is (search (rules, code_stmt.the_lemmas)) in
-    λ now whole kept. rw seen (within_stands (frame_of c.args.draft.now now) (site_of c.args.scope.now.values)
+    on_ok_by c.check_stored_within.result (λ _ e now whole kept. rw seen (within_stands (frame_of c.args.draft.now now) (site_of c.args.scope.now.values)
     (quick_units (frame_of c.args.draft.now now) whole c.args.scope.now.calls)
     (place_view c.in-Assign.place) (slot_expr_view c.in-Assign.value) c.args.depth (exits_of c.args.exits.now)
     (point_of c.args.at.now) (point_of c.tick.new.at) (point_of c.check_stored_within.new.at)
-    c.in_ok-tick.ensures.ticks c.in_ok-tick.ensures.rest (c.in_ok-check_stored_within-in-Assign.ensures now whole kept))
+    c.in_ok-tick.ensures.ticks c.in_ok-tick.ensures.rest ((rw e at c.check_stored_within.ensures) now whole kept)))
 
 pub reading::check_converted-returns : goal.reading::check_converted-returns
 reading::check_converted-returns t c =
@@ -633,6 +632,9 @@ statements::check_if-returns t c =
     (slot_stmts_view c.args.otherwise.now) c.args.depth (exits_of c.args.exits.now) _ _ _
     (c.in_ok-check_stmts-2.ensures now whole kept) (c.if-not-is_at.ensures (search rules)))))
 
+pub statements::check_loop_body-returns : goal.statements::check_loop_body-returns
+statements::check_loop_body-returns t c = rw c.in_ok-inner.ensures at c.check_stmts.ensures
+
 pub statements::check_while-returns : goal.statements::check_while-returns
 statements::check_while-returns t c =
     let q = c.go.ensures in
@@ -646,8 +648,8 @@ statements::check_while-returns t c =
       notes = rw c.in_ok-pass.ensures at (c.in_ok-read_notes.ensures now);
       head = point_of c.read_notes.new.at;
       begins = meets_same _;
-      end = point_of c.check_stmts.new.at;
-      body = rw q (rw c.in_ok-inner.ensures at (c.in_ok-check_stmts.ensures now whole kept));
+      end = point_of c.check_loop_body.new.at;
+      body = rw q (c.in_ok-check_loop_body.ensures now whole kept);
       turn = _;
       tick = c.in_ok-tick.ensures.ticks;
       foot = point_of c.check_test-2.new.at;
@@ -666,8 +668,8 @@ statements::check_repeat-returns t c =
       notes = rw c.landing.ensures at (c.in_ok-read_notes.ensures now);
       head = point_of c.read_notes.new.at;
       begins = meets_same _;
-      end = point_of c.check_stmts.new.at;
-      body = rw q (rw c.in_ok-inner.ensures at (c.in_ok-check_stmts.ensures now whole kept));
+      end = point_of c.check_loop_body.new.at;
+      body = rw q (c.in_ok-check_loop_body.ensures now whole kept);
       foot = point_of c.check_test.new.at;
       back = c.in_ok-again.again.way;
       after = c.in_ok-again.again.past;
@@ -714,9 +716,8 @@ counting::check_for-returns t c =
           (rw c.in_ok-pass.ensures at (c.in_ok-read_notes.ensures now));
       head = point_of c.read_notes.new.at;
       begins = meets_same _;
-      end = point_of c.check_stmts.new.at;
-      body = rw (q, ← c.in_ok-within.ensures)
-          (rw c.in_ok-inner.ensures at (c.in_ok-check_stmts.ensures now whole is));
+      end = point_of c.check_loop_body.new.at;
+      body = rw (q, ← c.in_ok-within.ensures) (c.in_ok-check_loop_body.ensures now whole is);
       known = c.if-not-is_assigned.ensures (search rules);
       back = c.in_ok-again.again.way;
       after = c.in_ok-again.again.past;
@@ -766,8 +767,8 @@ statements::check_stmt-returns-in-Empty t c =
     λ now whole kept. rw seen (ticked Refines (point_of c.args.at.now) (point_of c.tick.new.at) (point_of c.tick.new.at)
     c.in_ok-tick.ensures.ticks c.in_ok-tick.ensures.rest (meets_same _))
 
-pub statements::check_stmt-returns-in_ok-check_if-in-If : goal.statements::check_stmt-returns-in_ok-check_if-in-If
-statements::check_stmt-returns-in_ok-check_if-in-If t c =
+pub statements::check_stmt-returns-after-choice_of : goal.statements::check_stmt-returns-after-choice_of
+statements::check_stmt-returns-after-choice_of t c =
     let seen : slot_stmt_view c.args.statement.now
     ≡ IF (arms_of (map slot_arm_view c.in-If.arms.items)) (slot_stmts_view c.in-If.otherwise.items) =
     rw c.in-If.is (choose_view c.in-If.arms c.in-If.otherwise) in
@@ -775,10 +776,10 @@ statements::check_stmt-returns-in_ok-check_if-in-If t c =
     (sym c.deref-in-If-2.ensures.value)
     ∙ ap (λ xs. IF (arms_of (map slot_arm_view c.deref-in-If-2.result.now)) (slot_stmts_view xs))
     (sym c.deref-in-If-3.ensures.value) in
-    λ now whole kept. rw is (if_stands (frame_of c.args.draft.now now) (site_of c.args.scope.now.values)
+    on_ok_by c.check_if.result (λ _ e now whole kept. rw is (if_stands (frame_of c.args.draft.now now) (site_of c.args.scope.now.values)
     (quick_units (frame_of c.args.draft.now now) whole c.args.scope.now.calls) _ _ c.args.depth
     (exits_of c.args.exits.now) (point_of c.args.at.now) (point_of c.tick.new.at) (point_of c.check_if.new.at)
-    c.in_ok-tick.ensures.ticks c.in_ok-tick.ensures.rest (c.in_ok-check_if-in-If.ensures now whole kept))
+    c.in_ok-tick.ensures.ticks c.in_ok-tick.ensures.rest ((rw e at c.check_if.ensures) now whole kept)))
 
 pub statements::check_stmt-check_choice-requires : goal.statements::check_stmt-check_choice-requires
 statements::check_stmt-check_choice-requires t c =
@@ -803,14 +804,14 @@ statements::check_stmt-returns-then-is_choice_next t c =
     (sym c.deref.ensures.value)
     ∙ ap (λ xs. IF (arms_of (map slot_arm_view c.deref.result.now)) (slot_stmts_view xs))
     (sym c.deref-in-If.ensures.value) in
-    λ now whole kept. rw is (if_chosen (frame_of c.args.draft.now now) (site_of c.args.scope.now.values)
+    on_ok_by c.check_choice.result (λ _ e now whole kept. rw is (if_chosen (frame_of c.args.draft.now now) (site_of c.args.scope.now.values)
     (quick_units (frame_of c.args.draft.now now) whole c.args.scope.now.calls) _ _ c.args.depth
     (exits_of c.args.exits.now) (point_of c.args.at.now) (point_of c.tick.new.at) (point_of c.check_choice.new.at)
     c.in_ok-tick.ensures.ticks c.in_ok-tick.ensures.rest _ _ c.in-Some-choice_of.ensures.if_it_holds
-    c.in-Some-choice_of.ensures.otherwise_so (c.in_ok-check_choice-in-If.ensures now whole kept))
+    c.in-Some-choice_of.ensures.otherwise_so ((rw e at c.check_choice.ensures) now whole kept)))
 
-pub statements::check_stmt-returns-in_ok-check_for-in-For : goal.statements::check_stmt-returns-in_ok-check_for-in-For
-statements::check_stmt-returns-in_ok-check_for-in-For t c =
+pub statements::check_stmt-returns-in-For : goal.statements::check_stmt-returns-in-For
+statements::check_stmt-returns-in-For t c =
     let seen : slot_stmt_view c.args.statement.now
     ≡ FOR (anchor_view c.in-For.control) (slot_expr_view c.in-For.start) (slot_expr_view c.in-For.limit)
     (option_map slot_expr_view c.in-For.step) (slot_stmts_view c.in-For.body.items) =
@@ -818,30 +819,61 @@ statements::check_stmt-returns-in_ok-check_for-in-For t c =
     let is = seen ∙ ap (λ xs. FOR (anchor_view c.in-For.control) (slot_expr_view c.in-For.start)
     (slot_expr_view c.in-For.limit) (option_map slot_expr_view c.in-For.step) (slot_stmts_view xs))
     (sym c.deref-in-For.ensures.value) in
-    λ now whole kept. rw is (ticked _ (point_of c.args.at.now) (point_of c.tick.new.at) (point_of c.check_for.new.at)
-    c.in_ok-tick.ensures.ticks c.in_ok-tick.ensures.rest (c.in_ok-check_for-in-For.ensures now whole kept))
+    on_ok_by c.check_for.result (λ _ e now whole kept. rw is (ticked _ (point_of c.args.at.now) (point_of c.tick.new.at) (point_of c.check_for.new.at)
+    c.in_ok-tick.ensures.ticks c.in_ok-tick.ensures.rest ((rw e at c.check_for.ensures) now whole kept)))
 
-pub statements::check_stmt-returns-in_ok-check_while-in-While :
-    goal.statements::check_stmt-returns-in_ok-check_while-in-While
-statements::check_stmt-returns-in_ok-check_while-in-While t c =
+pub statements::check_stmt-returns-in-Exit : goal.statements::check_stmt-returns-in-Exit
+statements::check_stmt-returns-in-Exit t c =
+    let seen : slot_stmt_view c.args.statement.now ≡ EXIT = rw c.in-Exit.is (search (rules, code_stmt.the_lemmas)) in
+    on_ok_by c.leave.result (λ _ e now whole kept. rw seen (ticked _ (point_of c.args.at.now) (point_of c.tick.new.at)
+    (point_of c.leave.new.at) c.in_ok-tick.ensures.ticks c.in_ok-tick.ensures.rest ((rw e at c.leave.ensures) now)))
+
+pub statements::check_stmt-returns-in-Return : goal.statements::check_stmt-returns-in-Return
+statements::check_stmt-returns-in-Return t c =
+    let seen : slot_stmt_view c.args.statement.now ≡ RETURN = rw c.in-Return.is (search (rules, code_stmt.the_lemmas)) in
+    on_ok_by c.leave-in-Return.result (λ _ e now whole kept. rw seen (ticked _ (point_of c.args.at.now)
+    (point_of c.tick.new.at) (point_of c.leave-in-Return.new.at) c.in_ok-tick.ensures.ticks c.in_ok-tick.ensures.rest
+    ((rw e at c.leave-in-Return.ensures) now)))
+
+pub statements::check_stmt-returns-in-Some : goal.statements::check_stmt-returns-in-Some
+statements::check_stmt-returns-in-Some t c =
+    let seen : slot_stmt_view c.args.statement.now
+    ≡ assign (place_view c.in-Assign.place) (slot_expr_view c.in-Assign.value) =
+    rw c.in-Assign.is (search (rules, code_stmt.the_lemmas)) in
+    let is = seen ∙ ap (λ x. assign x (slot_expr_view c.in-Assign.value)) c.in-Some.ensures in
+    on_ok_by c.check_assigned.result (λ _ e now whole kept. rw is (ticked _ (point_of c.args.at.now)
+    (point_of c.tick.new.at) (point_of c.check_assigned.new.at) c.in_ok-tick.ensures.ticks c.in_ok-tick.ensures.rest
+    ((rw e at c.check_assigned.ensures) now whole kept)))
+
+pub statements::check_stmt-returns-in-Some-element_of : goal.statements::check_stmt-returns-in-Some-element_of
+statements::check_stmt-returns-in-Some-element_of t c =
+    let seen : slot_stmt_view c.args.statement.now
+    ≡ assign (place_view c.in-Assign.place) (slot_expr_view c.in-Assign.value) =
+    rw c.in-Assign.is (search (rules, code_stmt.the_lemmas)) in
+    let is = seen ∙ ap (λ x. assign x (slot_expr_view c.in-Assign.value)) c.in-Some-element_of.ensures in
+    on_ok_by c.check_stored.result (λ _ e now whole kept. rw is (ticked _ (point_of c.args.at.now)
+    (point_of c.tick.new.at) (point_of c.check_stored.new.at) c.in_ok-tick.ensures.ticks c.in_ok-tick.ensures.rest
+    ((rw e at c.check_stored.ensures) now whole kept)))
+
+pub statements::check_stmt-returns-in-While : goal.statements::check_stmt-returns-in-While
+statements::check_stmt-returns-in-While t c =
     let seen : slot_stmt_view c.args.statement.now
     ≡ WHILE (slot_expr_view c.in-While.condition) (slot_stmts_view c.in-While.body.items) =
     rw c.in-While.is (search (rules, code_stmt.the_lemmas)) in
     let is = seen ∙ ap (λ xs. WHILE (slot_expr_view c.in-While.condition) (slot_stmts_view xs))
     (sym c.deref-in-While.ensures.value) in
-    λ now whole kept. rw is (ticked _ (point_of c.args.at.now) (point_of c.tick.new.at) (point_of c.check_while.new.at)
-    c.in_ok-tick.ensures.ticks c.in_ok-tick.ensures.rest (c.in_ok-check_while-in-While.ensures now whole kept))
+    on_ok_by c.check_while.result (λ _ e now whole kept. rw is (ticked _ (point_of c.args.at.now) (point_of c.tick.new.at) (point_of c.check_while.new.at)
+    c.in_ok-tick.ensures.ticks c.in_ok-tick.ensures.rest ((rw e at c.check_while.ensures) now whole kept)))
 
-pub statements::check_stmt-returns-in_ok-check_repeat-in-Repeat :
-    goal.statements::check_stmt-returns-in_ok-check_repeat-in-Repeat
-statements::check_stmt-returns-in_ok-check_repeat-in-Repeat t c =
+pub statements::check_stmt-returns-in-Repeat : goal.statements::check_stmt-returns-in-Repeat
+statements::check_stmt-returns-in-Repeat t c =
     let seen : slot_stmt_view c.args.statement.now
     ≡ REPEAT (slot_stmts_view c.in-Repeat.body.items) (slot_expr_view c.in-Repeat.condition) =
     rw c.in-Repeat.is (search (rules, code_stmt.the_lemmas)) in
     let is = seen ∙ ap (λ xs. REPEAT (slot_stmts_view xs) (slot_expr_view c.in-Repeat.condition))
     (sym c.deref-in-Repeat.ensures.value) in
-    λ now whole kept. rw is (ticked _ (point_of c.args.at.now) (point_of c.tick.new.at) (point_of c.check_repeat.new.at)
-    c.in_ok-tick.ensures.ticks c.in_ok-tick.ensures.rest (c.in_ok-check_repeat-in-Repeat.ensures now whole kept))
+    on_ok_by c.check_repeat.result (λ _ e now whole kept. rw is (ticked _ (point_of c.args.at.now) (point_of c.tick.new.at) (point_of c.check_repeat.new.at)
+    c.in_ok-tick.ensures.ticks c.in_ok-tick.ensures.rest ((rw e at c.check_repeat.ensures) now whole kept)))
 
 pub calls::check_arguments-check_read-requires : goal.calls::check_arguments-check_read-requires
 calls::check_arguments-check_read-requires t c = (
@@ -1081,17 +1113,16 @@ statements::check_stmt-check_invoked-requires t c =
     let d = ap (λ xs. arguments_size (map slot_argument_view xs)) c.deref-in-Invoke.ensures.value in
     (omega (arith, e, d), tt)
 
-pub statements::check_stmt-returns-in_ok-check_invoked-in-Invoke :
-    goal.statements::check_stmt-returns-in_ok-check_invoked-in-Invoke
-statements::check_stmt-returns-in_ok-check_invoked-in-Invoke t c =
+pub statements::check_stmt-returns-in-Invoke : goal.statements::check_stmt-returns-in-Invoke
+statements::check_stmt-returns-in-Invoke t c =
     let seen : slot_stmt_view c.args.statement.now
     ≡ invoke (anchor_view c.in-Invoke.instance) (block_code_view c.in-Invoke.block)
     (map slot_argument_view c.in-Invoke.arguments.items) =
     rw c.in-Invoke.is (search (rules, code_stmt.the_lemmas)) in
     let is = seen ∙ ap (λ xs. invoke (anchor_view c.in-Invoke.instance) (block_code_view c.in-Invoke.block)
     (map slot_argument_view xs)) (sym c.deref-in-Invoke.ensures.value) in
-    λ now whole kept. rw is (ticked _ (point_of c.args.at.now) (point_of c.tick.new.at)
-    (point_of c.check_invoked.new.at) c.in_ok-tick.ensures.ticks c.in_ok-tick.ensures.rest (c.in_ok-check_invoked-in-Invoke.ensures now whole kept))
+    on_ok_by c.check_invoked.result (λ _ e now whole kept. rw is (ticked _ (point_of c.args.at.now) (point_of c.tick.new.at)
+    (point_of c.check_invoked.new.at) c.in_ok-tick.ensures.ticks c.in_ok-tick.ensures.rest ((rw e at c.check_invoked.ensures) now whole kept)))
 
 pub conditions::check_test-returns-in_ok-leg-in-Constant : goal.conditions::check_test-returns-in_ok-leg-in-Constant
 conditions::check_test-returns-in_ok-leg-in-Constant t c =
@@ -1169,9 +1200,8 @@ cases::check_case-returns t c =
           }) w look);
     }
 
-pub statements::check_stmt-returns-in_ok-check_case-in-Case :
-    goal.statements::check_stmt-returns-in_ok-check_case-in-Case
-statements::check_stmt-returns-in_ok-check_case-in-Case t c =
+pub statements::check_stmt-returns-in-Case : goal.statements::check_stmt-returns-in-Case
+statements::check_stmt-returns-in-Case t c =
     let seen : slot_stmt_view c.args.statement.now
     ≡ CASE (slot_expr_view c.in-Case.selector) (case_arms_of (map slot_case_arm_view c.in-Case.arms.items))
     (slot_stmts_view c.in-Case.otherwise.items) =
@@ -1181,8 +1211,8 @@ statements::check_stmt-returns-in_ok-check_case-in-Case t c =
     ∙ ap (λ xs. CASE (slot_expr_view c.in-Case.selector)
     (case_arms_of (map slot_case_arm_view c.deref-in-Case.result.now)) (slot_stmts_view xs))
     (sym c.deref-in-Case-2.ensures.value) in
-    λ now whole kept. rw is (ticked _ (point_of c.args.at.now) (point_of c.tick.new.at) (point_of c.check_case.new.at)
-    c.in_ok-tick.ensures.ticks c.in_ok-tick.ensures.rest (c.in_ok-check_case-in-Case.ensures now whole kept))
+    on_ok_by c.check_case.result (λ _ e now whole kept. rw is (ticked _ (point_of c.args.at.now) (point_of c.tick.new.at) (point_of c.check_case.new.at)
+    c.in_ok-tick.ensures.ticks c.in_ok-tick.ensures.rest ((rw e at c.check_case.ensures) now whole kept)))
 
 pub choosing::check_asked-returns-in-Some : goal.choosing::check_asked-returns-in-Some
 choosing::check_asked-returns-in-Some t c =

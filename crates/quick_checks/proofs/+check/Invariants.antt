@@ -127,6 +127,10 @@ abbrev pub decreases-statements::check_if : goal.decreases-statements::check_if
 decreases-statements::check_if l = 4 * (weight (filled (slot_library_view l.library.now)) l.scope.now.calls
     + (arms_size (arms_of (map slot_arm_view l.arms.now)) + stmts_size (slot_stmts_view l.otherwise.now))) + 1
 
+abbrev pub decreases-statements::check_loop_body : goal.decreases-statements::check_loop_body
+decreases-statements::check_loop_body l = 4 * (weight (filled (slot_library_view l.library.now)) l.scope.now.calls
+    + stmts_size (slot_stmts_view l.body.now)) + 1
+
 abbrev pub decreases-statements::check_while : goal.decreases-statements::check_while
 decreases-statements::check_while l = 4 * (weight (filled (slot_library_view l.library.now)) l.scope.now.calls
     + (expr_size (slot_expr_view l.condition.now) + stmts_size (slot_stmts_view l.body.now))) + 3
