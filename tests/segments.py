@@ -377,18 +377,23 @@ def stamped(folder):
     same(report, life)
     # each tick is a row with the inputs of the newest line
     running = folder.begun("cold", "ticks", "--every", "2ms", first=lines[0].partition(",")[2])
+    answered = 0
     for line in lines[1:3]:
         answers(running, [line.partition(",")[2]])
-        for _ in range(9):
+        answered, until = answered + 1, time.monotonic() + 0.5
+        while time.monotonic() < until:
             running.stdout.readline()
+            answered += 1
     out, life = running.communicate()
     check(running.returncode == 0, life)
     status, report = folder.replay("ticks")
     check(status == 0, report)
     same(report, life)
     rows = re.findall(r"^row \d+,(.*)$", next(folder.path("ticks").iterdir()).read_text(), re.M)
-    check(len(rows) == number(life, "rows") == out.count("\n") + 20, f"{len(rows)} rows: {life}")
-    check([f"{line}\n" for line in dict.fromkeys(rows)] == [line.partition(",")[2] for line in lines[1:3]], "rows with other inputs")
+    check(len(rows) == number(life, "rows") == out.count("\n") + answered, f"{len(rows)} rows: {life}")
+    # on a busy machine the input may end before a tick comes after the second line
+    seen, wanted = [f"{line}\n" for line in dict.fromkeys(rows)], [line.partition(",")[2] for line in lines[1:3]]
+    check(seen in (wanted, wanted[:1]), "rows with other inputs")
 
 
 def typed(folder):
